@@ -1,0 +1,61 @@
+-- docs/AREA.md: the bytes of a sound queue. Numbers are big-endian.
+use mathlib.Core.Option.{Option, none, some}
+use mathlib.Core.List.{List, [], _∷_, _++_}
+use Prim.Native.Nat.{ℕ, zero, suc, _-_, _/_, _%_, _^_}
+use lib.ListN.{length, drop, replicate}
+use Rattle.queue.specs.paper.Records.{Bytes, Id, Limits, Terms, Held, Rec, Queue}
+use Rattle.queue.specs.paper.Lists.{map, concat}
+use Rattle.queue.specs.paper.Sound.{need}
+use Rattle.queue.specs.Codec.{be}
+
+-- "A flag is 0 or 1; an absent value has no bytes."
+abbrev pub flagged : {A : Type 0} → (A → Bytes) → Option A → Bytes
+flagged f none = 0 ∷ []
+flagged f (some a) = 1 ∷ f a
+
+-- "created 8; time flag, 8; height flag, 4; priority 4, two's complement; label flag, length 1, bytes; fee 8; size 4; cost 8"
+unfoldable pub termsBytes : Terms → Bytes
+termsBytes t =
+    be 8 (t .created)
+    ++ (flagged (be 8) (t .due)
+    ++ (flagged (be 4) (t .dueHeight)
+    ++ (be 4 (t .priority)
+    ++ (flagged (λ l. be 1 (length l) ++ l) (t .label) ++ (be 8 (t .fee) ++ (be 4 (t .size) ++ be 8 (t .cost)))))))
+
+-- "mined flag, height 4, block 32"
+unfoldable pub placeBytes : Option (ℕ × Id) → Bytes
+placeBytes o = flagged (λ p. be 4 (p .0) ++ p .1) o
+
+-- "for a holder input count 2, ids, output count 2, ids, byte count 4, bytes"
+unfoldable pub heldBytes : Held → Bytes
+heldBytes h =
+    be 2 (length (h .ins)) ++ (concat (h .ins) ++ (be 2 (length (h .outs)) ++ (concat (h .outs) ++ (be 4 (length (h .bytes)) ++ h .bytes))))
+
+-- "kind 02; id 32; state; reason; .. ; mined ..; withdrawn mark; finish number 8; holder flag; .."
+unfoldable pub recBytes : Rec → Bytes
+recBytes r =
+    2 ∷ (r .id
+    ++ (be 1 (r .state)
+    ++ (be 1 (r .reason)
+    ++ (termsBytes (r .terms) ++ (placeBytes (r .place) ++ (be 1 (r .mark) ++ (be 8 (r .finish) ++ flagged heldBytes (r .body))))))))
+
+-- "Header: kind 01; P, B, T, K 4 each; revision 8; cursor height 4; tip flag, tip 32; counter 8; record count 4."
+unfoldable pub headBytes : Queue → Bytes
+headBytes q =
+    1 ∷ (be 4 (q .limits .P)
+    ++ (be 4 (q .limits .B)
+    ++ (be 4 (q .limits .T)
+    ++ (be 4 (q .limits .K)
+    ++ (be 8 (q .revision) ++ (be 4 (q .cursor) ++ (flagged (λ i. i) (q .tip) ++ (be 8 (q .counter) ++ be 4 (length (q .recs))))))))))
+
+-- The persisted height, the header and the records.
+unfoldable pub queueBytes : Queue → Bytes
+queueBytes q = be 4 (q .persisted) ++ (headBytes q ++ concat (map recBytes (q .recs)))
+
+-- "one encoding for each sound queue, unused bytes zero"
+unfoldable pub areaBytes : Queue → Bytes
+areaBytes q = queueBytes q ++ replicate (need (q .limits) - length (queueBytes q)) 0
+
+-- what a write of bs leaves of lent bytes d: "later bytes of the area are untouched"
+unfoldable pub over : Bytes → Bytes → Bytes
+over bs d = bs ++ drop (length bs) d
