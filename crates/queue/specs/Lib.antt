@@ -6,3 +6,4 @@ pub mod Ids
 pub mod Frames
 pub mod Reads
 pub mod ReadLaws
+pub mod View
