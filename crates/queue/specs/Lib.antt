@@ -7,3 +7,5 @@ pub mod Frames
 pub mod Reads
 pub mod ReadLaws
 pub mod View
+pub mod Hex
+pub mod Forms
