@@ -9,7 +9,7 @@ use native.Mathlib.Numerals.{add-one}
 use lib.Dec.{ltb, eqb}
 use lib.ListN.{length, take, drop, getD, length-append, length-drop, take-append-drop}
 use lib.Seq.{drop-cons, drop-drop, getD-drop, getD-at, drop-at, take-at}
-use borrow.Author.Tests.{lt-ltb, ltb-true, eqb-true}
+use borrow.Author.Tests.{lt-ltb, le-ltb, ltb-true, ltb-false, eqb-true, eq-eqb}
 use Rattle.queue.specs.Codec.{Got, fail, got, _>>=_, bind-got, if-got, cases, All, all-append, Codec, beC, pairC, mapC, encs, decs, vec-fwd, vec-bwd, vec-small, vecMost, vec-fits}
 use Rattle.queue.specs.Lists.{and-true, and-both}
 use Rattle.queue.specs.Frames.{Head, headC, recC}
@@ -42,6 +42,134 @@ ends-line s base n e =
     let b = and-true (eqb (getD s (base + 2 * n) 0) 10) _ (a .1) in
     record { room = ltb-true _ _ (a .0); stop = eqb-true _ _ (b .0); digits = sym (digits-is (2 * n) s base) ∙ b .1 }
 
+line-ends : (s : Bytes) (base n : ℕ) → Line s base n → endsLine true s base n ≡ true
+unfolding endsLine
+line-ends s base n x = rw (lt-ltb _ _ (x .room), eq-eqb _ _ (x .stop), digits-is (2 * n) s base, x .digits)
+
 ends-shift : (s : Bytes) (base n : ℕ) → endsLine true (drop base s) 0 n ≡ endsLine true s base n
 unfolding endsLine
-ends-shift s base n = ?
+ends-shift s base n =
+    let l = length-drop base s in
+    let p : ltb (0 + 2 * n) (length (drop base s)) ≡ ltb (base + 2 * n) (length s) = cases (ltb (base + 2 * n) (length s))
+        (λ t. let k = ltb-true (base + 2 * n) (length s) t in lt-ltb (0 + 2 * n) (length (drop base s)) (omega arith) ∙ sym t)
+        (λ t. let k = ltb-false (base + 2 * n) (length s) t in le-ltb (0 + 2 * n) (length (drop base s)) (omega arith) ∙ sym t) in
+    let z : 0 + 2 * n ≡ 2 * n = omega arith in
+    let q : getD (drop base s) (0 + 2 * n) 0 ≡ getD s (base + 2 * n) 0 = rw z (getD-drop base s (2 * n) 0) in
+    rw (p, q, digits-is (2 * n) (drop base s) 0, digits-is (2 * n) s base)
+
+-- the line of some bytes is one, and it reads back
+line-here : (b r : Bytes) → All (λ x. x < 256) b → Line (textOf b ++ (10 ∷ r)) 0 (length b)
+line-here b r h =
+    let e = text-length b in
+    record {
+      room = rw length-append (omega arith);
+      stop = getD-at (textOf b) 10 r 0 (0 + 2 * length b) (omega arith);
+      digits = text-digits b (10 ∷ r) h;
+    }
+
+line-rest : (b r : Bytes) → drop (2 * length b + 1) (textOf b ++ (10 ∷ r)) ≡ r
+line-rest b r =
+    let e = text-length b in
+    let l : length (textOf b ++ (10 ∷ [])) ≡ 2 * length b + 1 = rw length-append (omega arith) in
+    rw (append-assoc (textOf b) (10 ∷ []) r) at (drop-at (textOf b ++ (10 ∷ [])) r (2 * length b + 1) l)
+
+line-split : (t : Bytes) (n : ℕ) → Line t 0 n → t ≡ textOf (take n (pairs t)) ++ (10 ∷ drop (2 * n + 1) t)
+line-split t n x =
+    let z : 0 + 2 * n ≡ 2 * n = omega arith in
+    let o = x .room in
+    let c : drop (2 * n) t ≡ 10 ∷ drop (2 * n + 1) t = drop-cons t (2 * n) 0 (omega arith) ∙ rw (← (x .stop), z, add-one) in
+    sym (take-append-drop (2 * n) t) ∙ rw (digits-text n t (x .digits), c)
+
+-- ---- a value alone in a line of text
+module _ {A : Type 0} (𝓐 : Codec A) where
+  unfoldable pub lineEnc : A → Bytes
+  lineEnc a = textOf (𝓐 .enc a) ++ (10 ∷ [])
+
+  unfoldable pub lineDec : Bytes → Got A
+  lineDec t = 𝓐 .dec (pairs t) >>= λ a r. cond (endsLine true t 0 (length (𝓐 .enc a))) (got a (drop (2 * length (𝓐 .enc a) + 1) t)) fail
+
+  pub line-fwd : (a : A) (r : Bytes) → 𝓐 .ok a → lineDec (lineEnc a ++ r) ≡ got a r
+  unfolding lineDec lineEnc
+  line-fwd a r h = rw (append-assoc (textOf (𝓐 .enc a)) (10 ∷ []) r, text-pairs (𝓐 .enc a) (10 ∷ r) (𝓐 .small a h), 𝓐 .fwd a (pairs (10 ∷ r)) h,
+      line-ends (textOf (𝓐 .enc a) ++ (10 ∷ r)) 0 (length (𝓐 .enc a)) (line-here (𝓐 .enc a) r (𝓐 .small a h)), line-rest (𝓐 .enc a) r)
+
+  pub line-bwd : (t : Bytes) (a : A) (r : Bytes) → lineDec t ≡ got a r → (t ≡ lineEnc a ++ r) × 𝓐 .ok a
+  unfolding lineDec lineEnc
+  line-bwd t a r e =
+      bind-got (𝓐 .dec (pairs t)) _ a r e λ a₁ q p f.
+      let g = if-got (endsLine true t 0 (length (𝓐 .enc a₁))) _ a r f in
+      let g1 = g .1 in
+      let e1 : a₁ ≡ a = cc in
+      let e2 : drop (2 * length (𝓐 .enc a₁) + 1) t ≡ r = cc in
+      let u = 𝓐 .bwd (pairs t) a₁ q p in
+      let k : take (length (𝓐 .enc a₁)) (pairs t) ≡ 𝓐 .enc a₁ = rw (u .0) (take-at (𝓐 .enc a₁) q (length (𝓐 .enc a₁)) refl) in
+      let w = line-split t (length (𝓐 .enc a₁)) (ends-line t 0 (length (𝓐 .enc a₁)) (g .0)) in
+      let v : t ≡ textOf (𝓐 .enc a₁) ++ (10 ∷ drop (2 * length (𝓐 .enc a₁) + 1) t) = cc in
+      rw (← e1, ← e2) (v ∙ sym (append-assoc (textOf (𝓐 .enc a₁)) (10 ∷ []) (drop (2 * length (𝓐 .enc a₁) + 1) t)), u .1)
+
+  unfoldable pub lineC : Codec A
+  unfolding lineEnc
+  lineC = record {
+    ok = 𝓐 .ok;
+    enc = lineEnc;
+    dec = lineDec;
+    fwd = line-fwd;
+    bwd = line-bwd;
+    small = λ a h. all-append _ (textOf (𝓐 .enc a)) (10 ∷ []) (text-small (𝓐 .enc a) (𝓐 .small a h)) (omega arith, tt);
+    most = λ a. 2 * 𝓐 .most a + 1;
+    fits = λ a h. let f = 𝓐 .fits a h in let e = text-length (𝓐 .enc a) in rw length-append (omega arith);
+  }
+
+  -- ---- a frame in the form that a flag says: a line of text, or its bytes
+  abbrev pub formEnc : Bool → A → Bytes
+  formEnc true = lineEnc
+  formEnc false = 𝓐 .enc
+
+  abbrev pub formDec : Bool → Bytes → Got A
+  formDec true = lineDec
+  formDec false = 𝓐 .dec
+
+  abbrev pub formMost : Bool → A → ℕ
+  formMost true a = 2 * 𝓐 .most a + 1
+  formMost false a = 𝓐 .most a
+
+  pub form-fwd : (hex : Bool) (a : A) (r : Bytes) → 𝓐 .ok a → formDec hex (formEnc hex a ++ r) ≡ got a r
+  form-fwd true = line-fwd
+  form-fwd false = 𝓐 .fwd
+
+  pub form-bwd : (hex : Bool) (s : Bytes) (a : A) (r : Bytes) → formDec hex s ≡ got a r → (s ≡ formEnc hex a ++ r) × 𝓐 .ok a
+  form-bwd true = line-bwd
+  form-bwd false = 𝓐 .bwd
+
+  pub form-small : (hex : Bool) (a : A) → 𝓐 .ok a → All (λ b. b < 256) (formEnc hex a)
+  unfolding lineC
+  form-small true = lineC .small
+  form-small false = 𝓐 .small
+
+  pub form-fits : (hex : Bool) (a : A) → 𝓐 .ok a → length (formEnc hex a) ≤ formMost hex a
+  unfolding lineC
+  form-fits true = lineC .fits
+  form-fits false = 𝓐 .fits
+
+-- its ok is that of the codec, in both forms
+unfoldable pub formC : {A : Type 0} → Bool → Codec A → Codec A
+formC hex 𝓐 = record {
+  ok = 𝓐 .ok;
+  enc = formEnc 𝓐 hex;
+  dec = formDec 𝓐 hex;
+  fwd = form-fwd 𝓐 hex;
+  bwd = form-bwd 𝓐 hex;
+  small = form-small 𝓐 hex;
+  most = formMost 𝓐 hex;
+  fits = form-fits 𝓐 hex;
+}
+
+-- ---- what a reader finds in a view
+pub record Framed {A : Type 0} (𝓐 : Codec A) (hex : Bool) (s : Bytes) (base : ℕ) (ok : Bool) (n : ℕ) (a : A) : Type 0 where
+  pub good : ok ≡ true
+  pub fine : 𝓐 .ok a
+  pub within : n ≤ length (view hex s base)
+  pub here : 𝓐 .dec (view hex s base) ≡ got a (drop n (view hex s base))
+  pub bytes : take n (view hex s base) ≡ 𝓐 .enc a
+  pub size : length (𝓐 .enc a) ≡ n
+  pub after : afterIn hex s base n ≤ length s
