@@ -14,8 +14,8 @@ use Rattle.queue.specs.Codec.{Got, fail, got, _>>=_, bind-got, if-got, c
 use Rattle.queue.specs.Lists.{and-true, and-both}
 use Rattle.queue.specs.Frames.{Head, headC, recC}
 use Rattle.queue.specs.Reads.{Reads, whole}
-use Rattle.queue.specs.ReadLaws.{false-true, Turn, turn}
-use Rattle.queue.specs.View.{pairs, view, pairs-size}
+use Rattle.queue.specs.ReadLaws.{false-true, weaken, Turn, turn}
+use Rattle.queue.specs.View.{pairs, view, view-raw}
 use Rattle.queue.specs.Hex.{textOf, digits?, allDigits, text-length, text-pairs, text-small, text-digits, digits-is, digits-text}
 use Rattle.queue.specs.paper.Records.{Bytes, Id, Limits, Rec, Queue}
 
@@ -173,3 +173,74 @@ pub record Framed {A : Type 0} (𝓐 : Codec A) (hex : Bool) (s : Bytes) (base :
   pub bytes : take n (view hex s base) ≡ 𝓐 .enc a
   pub size : length (𝓐 .enc a) ≡ n
   pub after : afterIn hex s base n ≤ length s
+
+module _ {A : Type 0} (𝓐 : Codec A) where
+  -- what is read from the front of v
+  pub taken : (v : Bytes) (n : ℕ) (a : A) → 𝓐 .dec v ≡ got a (drop n v) → n ≤ length v → (length (𝓐 .enc a) ≡ n) × (take n v ≡ 𝓐 .enc a) × 𝓐 .ok a
+  taken v n a e h =
+      let u = 𝓐 .bwd v a (drop n v) e in
+      let l : length v ≡ length (𝓐 .enc a) + length (drop n v) = ap length (u .0) ∙ length-append (𝓐 .enc a) (drop n v) in
+      let z : length (𝓐 .enc a) ≡ n = omega (arith, length-drop n v) in
+      (z, ap (take n) (u .0) ∙ take-at (𝓐 .enc a) (drop n v) n z, u .1)
+
+  line-frame : (s : Bytes) (base n : ℕ) (a : A) → 𝓐 .dec (view true s base) ≡ got a (drop n (view true s base)) → n ≤ length (view true s base)
+      → lineDec 𝓐 (drop base s) ≡ cond (endsLine true s base n) (got a (drop (base + 2 * n + 1) s)) fail
+  unfolding lineDec view
+  line-frame s base n a e h =
+      let z = taken (pairs (drop base s)) n a e h in
+      let d : drop (2 * n + 1) (drop base s) ≡ drop (base + 2 * n + 1) s = drop-drop (2 * n + 1) base s ∙ ap (λ (k : ℕ). drop k s) (let y : base + (2 * n + 1) ≡ base + 2 * n + 1 = omega arith in y) in
+      rw (e, z .0, ends-shift s base n, d)
+
+  line-good : (s : Bytes) (base n : ℕ) (a : A) → 𝓐 .dec (view true s base) ≡ got a (drop n (view true s base)) → n ≤ length (view true s base)
+      → endsLine true s base n ≡ true → lineDec 𝓐 (drop base s) ≡ got a (drop (base + 2 * n + 1) s)
+  line-good s base n a e h t = line-frame s base n a e h ∙ rw t
+
+  line-bad : (s : Bytes) (base : ℕ) → 𝓐 .dec (view true s base) ≡ fail → lineDec 𝓐 (drop base s) ≡ fail
+  unfolding lineDec view
+  line-bad s base e = rw e
+
+  raw-frame : (s : Bytes) (base n : ℕ) (a : A) → 𝓐 .dec (view false s base) ≡ got a (drop n (view false s base)) → 𝓐 .dec (drop base s) ≡ got a (drop (base + n) s)
+  unfolding view
+  raw-frame s base n a e = rw drop-drop at e
+
+  raw-bad : (s : Bytes) (base : ℕ) → 𝓐 .dec (view false s base) ≡ fail → 𝓐 .dec (drop base s) ≡ fail
+  unfolding view
+  raw-bad s base e = e
+
+  -- a reader of the view that also tests the end of the line is a reader of the frame
+  pub framed : (hex : Bool) {s : Bytes} {base n : ℕ} {ok : Bool} {W : A → Type 0} → base ≤ length s → Reads 𝓐 (view hex s base) 0 ok n W
+      → Reads (formC hex 𝓐) s base (ok && endsLine hex s base n) (afterIn hex s base n) (λ a. W a × Framed 𝓐 hex s base ok n a)
+  unfolding formC afterIn endsLine
+  framed true {s} {base} {n} {ok} b x = record {
+    good = λ h t.
+        let k = and-true ok (endsLine true s base n) t in
+        let u = x .good (omega arith) (k .0) in
+        let z = taken (view true s base) n (u .0) (u .1) (u .3) in
+        let l = ends-line s base n (k .1) .room in
+        let f = line-good s base n (u .0) (u .1) (u .3) (k .1) in
+        let g : afterIn true s base n ≡ base + 2 * n + 1 = rw (lt-ltb (base + 2 * n) (length s) l) in
+        (u .0, rw g f, rw g (omega arith), rw g (omega arith), (u .4, record { good = k .0; fine = z .2; within = u .3; here = u .1; bytes = z .1; size = z .0; after = rw g (omega arith) }));
+    bad = λ h t. cases ok
+        (λ o. let g : endsLine true s base n ≡ false = rw o at t in let u = x .good (omega arith) o in line-frame s base n (u .0) (u .1) (u .3) ∙ rw g)
+        (λ o. line-bad s base (x .bad (omega arith) o));
+  }
+  framed false {s} {base} {n} {ok} b x = record {
+    good = λ h t.
+        let k = and-true ok (endsLine false s base n) t in
+        let u = x .good (omega arith) (k .0) in
+        let z = taken (view false s base) n (u .0) (u .1) (u .3) in
+        let l : length (view false s base) ≡ length s - base = view-raw false s base refl in
+        let o = u .3 in
+        let w : base + n ≤ length s = omega arith in
+        (u .0, raw-frame s base n (u .0) (u .1), omega arith, w, (u .4, record { good = k .0; fine = z .2; within = u .3; here = u .1; bytes = z .1; size = z .0; after = w }));
+    bad = λ h t. cases ok (λ o. let g : endsLine false s base n ≡ false = rw o at t in false-true (sym g)) (λ o. raw-bad s base (x .bad (omega arith) o));
+  }
+
+  pub frame : (hex : Bool) {s : Bytes} {base n : ℕ} {ok : Bool} {W : A → Type 0} → base ≤ length s → Reads 𝓐 (view hex s base) 0 ok n W
+      → Reads (formC hex 𝓐) s base (ok && endsLine hex s base n) (afterIn hex s base n) W
+  frame hex {W = W} b x = weaken W (framed hex b x) (λ a _ _ _ h. h .0)
+
+  -- in a list of frames that is known to be whole the end of the line needs no test
+  pub turn-in : (hex : Bool) {s : Bytes} (k : ℕ) {base n : ℕ} {ok : Bool} {W : A → Type 0} → base ≤ length s → whole (formC hex 𝓐) k s base ≡ true → 0 < k → Reads 𝓐 (view hex s base) 0 ok n W
+      → Turn (formC hex 𝓐) s k base (afterIn hex s base n) (λ a. W a × Framed 𝓐 hex s base ok n a)
+  turn-in hex k b w p x = turn k b w p (framed hex b x)
