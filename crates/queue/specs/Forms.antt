@@ -10,7 +10,7 @@ use lib.Dec.{ltb, eqb}
 use lib.ListN.{length, take, drop, getD, length-append, length-drop, take-append-drop}
 use lib.Seq.{drop-cons, drop-drop, getD-drop, getD-at, drop-at, take-at}
 use borrow.Author.Tests.{lt-ltb, le-ltb, ltb-true, ltb-false, eqb-true, eq-eqb}
-use Rattle.queue.specs.Codec.{Got, fail, got, _>>=_, bind-got, if-got, cases, All, all-append, Codec, beC, pairC, mapC, encs, decs, vec-fwd, vec-bwd, vec-small, vecMost, vec-fits}
+use Rattle.queue.specs.Codec.{Got, fail, got, _>>=_, bind-got, if-got, cases, All, all-append, Codec, be, beC, pairC, mapC, encs, decs, vec-fwd, vec-bwd, vec-small, vecMost, vec-fits}
 use Rattle.queue.specs.Lists.{and-true, and-both}
 use Rattle.queue.specs.Frames.{Head, headC, recC}
 use Rattle.queue.specs.Reads.{Reads, whole}
@@ -164,6 +164,10 @@ formC hex 𝓐 = record {
   fits = form-fits 𝓐 hex;
 }
 
+pub form-raw : {A : Type 0} (𝓐 : Codec A) → formC false 𝓐 ≡ 𝓐
+unfolding formC form-fwd form-bwd form-small form-fits
+form-raw 𝓐 = refl
+
 -- ---- what a reader finds in a view
 pub record Framed {A : Type 0} (𝓐 : Codec A) (hex : Bool) (s : Bytes) (base : ℕ) (ok : Bool) (n : ℕ) (a : A) : Type 0 where
   pub good : ok ≡ true
@@ -207,6 +211,7 @@ module _ {A : Type 0} (𝓐 : Codec A) where
   unfolding view
   raw-bad s base e = e
 
+module _ {A : Type 0} {𝓐 : Codec A} where
   -- a reader of the view that also tests the end of the line is a reader of the frame
   pub framed : (hex : Bool) {s : Bytes} {base n : ℕ} {ok : Bool} {W : A → Type 0} → base ≤ length s → Reads 𝓐 (view hex s base) 0 ok n W
       → Reads (formC hex 𝓐) s base (ok && endsLine hex s base n) (afterIn hex s base n) (λ a. W a × Framed 𝓐 hex s base ok n a)
@@ -215,25 +220,25 @@ module _ {A : Type 0} (𝓐 : Codec A) where
     good = λ h t.
         let k = and-true ok (endsLine true s base n) t in
         let u = x .good (omega arith) (k .0) in
-        let z = taken (view true s base) n (u .0) (u .1) (u .3) in
+        let z = taken 𝓐 (view true s base) n (u .0) (u .1) (u .3) in
         let l = ends-line s base n (k .1) .room in
-        let f = line-good s base n (u .0) (u .1) (u .3) (k .1) in
+        let f = line-good 𝓐 s base n (u .0) (u .1) (u .3) (k .1) in
         let g : afterIn true s base n ≡ base + 2 * n + 1 = rw (lt-ltb (base + 2 * n) (length s) l) in
         (u .0, rw g f, rw g (omega arith), rw g (omega arith), (u .4, record { good = k .0; fine = z .2; within = u .3; here = u .1; bytes = z .1; size = z .0; after = rw g (omega arith) }));
     bad = λ h t. cases ok
-        (λ o. let g : endsLine true s base n ≡ false = rw o at t in let u = x .good (omega arith) o in line-frame s base n (u .0) (u .1) (u .3) ∙ rw g)
-        (λ o. line-bad s base (x .bad (omega arith) o));
+        (λ o. let g : endsLine true s base n ≡ false = rw o at t in let u = x .good (omega arith) o in line-frame 𝓐 s base n (u .0) (u .1) (u .3) ∙ rw g)
+        (λ o. line-bad 𝓐 s base (x .bad (omega arith) o));
   }
   framed false {s} {base} {n} {ok} b x = record {
     good = λ h t.
         let k = and-true ok (endsLine false s base n) t in
         let u = x .good (omega arith) (k .0) in
-        let z = taken (view false s base) n (u .0) (u .1) (u .3) in
+        let z = taken 𝓐 (view false s base) n (u .0) (u .1) (u .3) in
         let l : length (view false s base) ≡ length s - base = view-raw false s base refl in
         let o = u .3 in
         let w : base + n ≤ length s = omega arith in
-        (u .0, raw-frame s base n (u .0) (u .1), omega arith, w, (u .4, record { good = k .0; fine = z .2; within = u .3; here = u .1; bytes = z .1; size = z .0; after = w }));
-    bad = λ h t. cases ok (λ o. let g : endsLine false s base n ≡ false = rw o at t in false-true (sym g)) (λ o. raw-bad s base (x .bad (omega arith) o));
+        (u .0, raw-frame 𝓐 s base n (u .0) (u .1), omega arith, w, (u .4, record { good = k .0; fine = z .2; within = u .3; here = u .1; bytes = z .1; size = z .0; after = w }));
+    bad = λ h t. cases ok (λ o. let g : endsLine false s base n ≡ false = rw o at t in false-true (sym g)) (λ o. raw-bad 𝓐 s base (x .bad (omega arith) o));
   }
 
   pub frame : (hex : Bool) {s : Bytes} {base n : ℕ} {ok : Bool} {W : A → Type 0} → base ≤ length s → Reads 𝓐 (view hex s base) 0 ok n W
@@ -244,3 +249,104 @@ module _ {A : Type 0} (𝓐 : Codec A) where
   pub turn-in : (hex : Bool) {s : Bytes} (k : ℕ) {base n : ℕ} {ok : Bool} {W : A → Type 0} → base ≤ length s → whole (formC hex 𝓐) k s base ≡ true → 0 < k → Reads 𝓐 (view hex s base) 0 ok n W
       → Turn (formC hex 𝓐) s k base (afterIn hex s base n) (λ a. W a × Framed 𝓐 hex s base ok n a)
   turn-in hex k b w p x = turn k b w p (framed hex b x)
+
+-- ---- a queue without its persisted height
+pub record Store : Type 0 where
+  pub limits : Limits
+  pub revision : ℕ
+  pub cursor : ℕ
+  pub tip : Option Id
+  pub counter : ℕ
+  pub recs : List Rec
+
+abbrev pub headFor : Store → Head
+headFor st = record { limits = st .limits; revision = st .revision; cursor = st .cursor; tip = st .tip; counter = st .counter; count = length (st .recs) }
+
+abbrev pub storeFor : Head → List Rec → Store
+storeFor h l = record { limits = h .limits; revision = h .revision; cursor = h .cursor; tip = h .tip; counter = h .counter; recs = l }
+
+-- a header with its count is that of its store
+pub head-for : (h : Head) (l : List Rec) → length l ≡ h .count → headFor (storeFor h l) ≡ h
+head-for h l e = ap (λ (n : ℕ). record { limits = h .limits; revision = h .revision; cursor = h .cursor; tip = h .tip; counter = h .counter; count = n }) e
+
+-- a header frame, and as many record frames as it says
+module _ (𝓗 : Codec Head) (𝓡 : Codec Rec) where
+  abbrev pub framesOk : Store → Type 0
+  framesOk st = 𝓗 .ok (headFor st) × All (𝓡 .ok) (st .recs)
+
+  unfoldable pub framesEnc : Store → Bytes
+  framesEnc st = 𝓗 .enc (headFor st) ++ encs 𝓡 (st .recs)
+
+  unfoldable pub framesDec : Bytes → Got Store
+  framesDec s = 𝓗 .dec s >>= λ h t. decs 𝓡 (h .count) t >>= λ l r. got (storeFor h l) r
+
+  pub frames-fwd : (st : Store) (r : Bytes) → framesOk st → framesDec (framesEnc st ++ r) ≡ got st r
+  unfolding framesEnc framesDec
+  frames-fwd st r h = rw (append-assoc (𝓗 .enc (headFor st)) (encs 𝓡 (st .recs)) r, 𝓗 .fwd (headFor st) (encs 𝓡 (st .recs) ++ r) (h .0), vec-fwd 𝓡 (st .recs) r (h .1))
+
+  pub frames-bwd : (s : Bytes) (st : Store) (r : Bytes) → framesDec s ≡ got st r → (s ≡ framesEnc st ++ r) × framesOk st
+  unfolding framesEnc framesDec
+  frames-bwd s st r e =
+      bind-got (𝓗 .dec s) _ st r e λ h t p f.
+      bind-got (decs 𝓡 (h .count) t) _ st r f λ l q p′ f′.
+      let e1 : storeFor h l ≡ st = cc in
+      let e2 : q ≡ r = cc in
+      let u = 𝓗 .bwd s h t p in
+      let v = vec-bwd 𝓡 (h .count) t l q p′ in
+      let n = head-for h l (v .1 .1) in
+      rw (← e1, ← e2, n) (cc (append-assoc (𝓗 .enc h) (encs 𝓡 l) q, u .0, v .0), (u .1, v .1 .0))
+
+  unfoldable pub framesC : Codec Store
+  unfolding framesEnc
+  framesC = record {
+    ok = framesOk;
+    enc = framesEnc;
+    dec = framesDec;
+    fwd = frames-fwd;
+    bwd = frames-bwd;
+    small = λ st h. all-append _ (𝓗 .enc (headFor st)) (encs 𝓡 (st .recs)) (𝓗 .small (headFor st) (h .0)) (vec-small 𝓡 (st .recs) (h .1));
+    most = λ st. 𝓗 .most (headFor st) + vecMost 𝓡 (st .recs);
+    fits = λ st h. let a = 𝓗 .fits (headFor st) (h .0) in let b = vec-fits 𝓡 (st .recs) (h .1) in rw length-append (omega arith);
+  }
+
+unfoldable pub storeC : Bool → Codec Store
+storeC hex = framesC (formC hex headC) (formC hex recC)
+
+abbrev pub storeOf : Queue → Store
+storeOf q = record { limits = q .limits; revision = q .revision; cursor = q .cursor; tip = q .tip; counter = q .counter; recs = q .recs }
+
+abbrev pub queueWith : ℕ → Store → Queue
+queueWith n st = record { persisted = n; limits = st .limits; revision = st .revision; cursor = st .cursor; tip = st .tip; counter = st .counter; recs = st .recs }
+
+-- the persisted height, and the frames as bytes
+unfoldable pub queueC : Codec Queue
+queueC = mapC (λ x. queueWith (x .0) (x .1)) (λ q. (q .persisted, storeOf q)) (λ x. refl) (λ q. refl) (pairC (beC 4) (storeC false))
+
+-- the bytes of a queue, its ok in parts
+pub queue-enc : (q : Queue) → queueC .enc q ≡ be 4 (q .persisted) ++ (headC .enc (headFor (storeOf q)) ++ encs recC (q .recs))
+unfolding queueC mapC pairC beC storeC framesC framesEnc
+queue-enc q = rw (form-raw headC, form-raw recC)
+
+pub image-enc : (st : Store) → storeC true .enc st ≡ lineEnc headC (headFor st) ++ encs (formC true recC) (st .recs)
+unfolding storeC framesC framesEnc formC
+image-enc st = refl
+
+pub store-ok : (hex : Bool) (st : Store) → headC .ok (headFor st) × All (recC .ok) (st .recs) → storeC hex .ok st
+unfolding storeC framesC formC
+store-ok hex st h = h
+
+pub ok-store : (hex : Bool) (st : Store) → storeC hex .ok st → headC .ok (headFor st) × All (recC .ok) (st .recs)
+unfolding storeC framesC formC
+ok-store hex st h = h
+
+pub queue-ok : (q : Queue) → q .persisted < 256 ^ 4 → storeC false .ok (storeOf q) → queueC .ok q
+unfolding queueC mapC pairC beC
+queue-ok q h k = (h, k)
+
+pub ok-queue : (q : Queue) → queueC .ok q → (q .persisted < 256 ^ 4) × storeC false .ok (storeOf q)
+unfolding queueC mapC pairC beC
+ok-queue q h = h
+
+pub head-cursor : (h : Head) → headC .ok h → h .cursor < 256 ^ 4
+unfolding headC mapC pairC beC
+head-cursor h k = k .1 .1 .1 .0
