@@ -6,3 +6,6 @@ pub mod Ids
 pub mod Frames
 pub mod Reads
 pub mod ReadLaws
+pub mod View
+pub mod Hex
+pub mod Forms
