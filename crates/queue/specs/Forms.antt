@@ -13,7 +13,7 @@ use borrow.Author.Tests.{lt-ltb, le-ltb, ltb-true, ltb-false, eqb-true, eq-eqb}
 use Rattle.queue.specs.Codec.{Got, fail, got, _>>=_, bind-got, if-got, cases, All, all-append, Codec, be, beC, pairC, mapC, encs, decs, vec-fwd, vec-bwd, vec-small, vecMost, vec-fits}
 use Rattle.queue.specs.Lists.{and-true, and-both}
 use Rattle.queue.specs.Frames.{Head, headC, recC}
-use Rattle.queue.specs.Reads.{Reads, whole}
+use Rattle.queue.specs.Reads.{Reads, isGot, restOf, whole, listAt, behind}
 use Rattle.queue.specs.ReadLaws.{false-true, weaken, Turn, turn}
 use Rattle.queue.specs.View.{pairs, view, view-raw}
 use Rattle.queue.specs.Hex.{textOf, digits?, allDigits, text-length, text-pairs, text-small, text-digits, digits-is, digits-text}
@@ -269,6 +269,15 @@ storeFor h l = record { limits = h .limits; revision = h .revision; cursor = h .
 pub head-for : (h : Head) (l : List Rec) → length l ≡ h .count → headFor (storeFor h l) ≡ h
 head-for h l e = ap (λ (n : ℕ). record { limits = h .limits; revision = h .revision; cursor = h .cursor; tip = h .tip; counter = h .counter; count = n }) e
 
+-- n values stand at `at` and end at `next`; or they do not
+pub record Many {A : Type 0} (𝓐 : Codec A) (s : Bytes) (at n : ℕ) (ok : Bool) (next : ℕ) : Type 0 where
+  pub is : ok ≡ whole 𝓐 n s at
+  pub end : ok ≡ true → (drop next s ≡ behind 𝓐 n s at) × (at ≤ next) × (next ≤ length s)
+
+got-cases : {A X : Type 0} (o : Got A) → (isGot o ≡ true → (a : A) → o ≡ got a (restOf o) → X) → (isGot o ≡ false → o ≡ fail → X) → X
+got-cases fail f g = g refl refl
+got-cases (got a r) f g = f refl a refl
+
 -- a header frame, and as many record frames as it says
 module _ (𝓗 : Codec Head) (𝓡 : Codec Rec) where
   abbrev pub framesOk : Store → Type 0
@@ -308,6 +317,22 @@ module _ (𝓗 : Codec Head) (𝓡 : Codec Rec) where
     most = λ st. 𝓗 .most (headFor st) + vecMost 𝓡 (st .recs);
     fits = λ st h. let a = 𝓗 .fits (headFor st) (h .0) in let b = vec-fits 𝓡 (st .recs) (h .1) in rw length-append (omega arith);
   }
+
+  -- read: a header, and behind it a list that a scan found whole
+  pub frames-read : {s : Bytes} {at n₁ n₂ count : ℕ} {ok₁ ok₂ : Bool} {W : Head → Type 0} → Reads 𝓗 s at ok₁ n₁ (λ h. (h .count ≡ count) × W h) → (ok₁ ≡ true → Many 𝓡 s n₁ count ok₂ n₂)
+      → Reads framesC s at (ok₁ && ok₂) n₂ (λ st. W (headFor st) × ((st .recs ≡ listAt 𝓡 count s n₁) × ((whole 𝓡 count s n₁ ≡ true) × (length (st .recs) ≡ count))))
+  unfolding framesC framesDec whole listAt behind
+  frames-read {s} {at} {n₁} {n₂} {count} {ok₁} {ok₂} {W} x y = cases ok₁
+      (λ t. rw t (got-cases (decs 𝓡 count (drop n₁ s))
+      (λ g l e. let m = y t in let yt : ok₂ ≡ true = m .is ∙ g in let k = m .end yt in let v = vec-bwd 𝓡 count (drop n₁ s) l _ e in
+      record {
+        good = λ p z. let u = x .good p t in let c = u .4 .0 in let n = head-for (u .0) l (v .1 .1 ∙ sym c) in
+            (storeFor (u .0) l, rw (u .1, c, e, ← (k .0)), omega arith, k .2, (rw n (u .4 .1), (rw e, (rw e, v .1 .1))));
+        bad = λ p z. false-true (sym z ∙ yt);
+      })
+      (λ g e. let m = y t in let yf : ok₂ ≡ false = m .is ∙ g in
+      record { good = λ p z. false-true (sym yf ∙ z); bad = λ p z. let u = x .good p t in let c = u .4 .0 in rw (u .1, c, e) })))
+      (λ t. rw t (record { good = λ p z. false-true z; bad = λ p z. rw (x .bad p t) }))
 
 unfoldable pub storeC : Bool → Codec Store
 storeC hex = framesC (formC hex headC) (formC hex recC)

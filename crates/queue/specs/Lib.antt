@@ -9,3 +9,4 @@ pub mod ReadLaws
 pub mod View
 pub mod Hex
 pub mod Forms
+pub mod Areas
