@@ -1,4 +1,4 @@
--- What an area and an image hold, with the rules of a sound queue left open: reading finds a queue exactly where its bytes stand
+-- What an area and an image hold: reading finds a queue exactly where its bytes stand.
 use mathlib.Core.Path.{_≡_, refl, ap, sym, _∙_}
 use mathlib.Core.Bool.{Bool, true, false, cond, _&&_}
 use mathlib.Core.Option.{Option, none, some}
@@ -14,12 +14,7 @@ use Rattle.queue.specs.Lists.{and-true}
 use Rattle.queue.specs.ReadLaws.{false-true}
 use Rattle.queue.specs.Forms.{Store, headFor, storeC, queueC, storeOf, queueWith, store-ok, ok-store, queue-ok, ok-queue, head-cursor}
 use Rattle.queue.specs.paper.Records.{Bytes, Limits, Queue}
-
-unfoldable pub need : ℕ → ℕ → ℕ → ℕ → ℕ
-need p b t k = 2 * b + 2 * p * (512 + 64 * k) + 512 * t + 512
-
-abbrev pub needOf : Limits → ℕ
-needOf m = need (m .P) (m .B) (m .T) (m .K)
+use Rattle.queue.specs.paper.Sound.{sound?, need}
 
 unfoldable pub zero? : Bytes → Bool
 zero? [] = true
@@ -27,7 +22,7 @@ zero? (b ∷ s) = cond (eqb b 0) (zero? s) false
 
 -- the area: the queue's bytes, and zeros up to what its limits need
 unfoldable pub layout : Queue → Bytes
-layout q = queueC .enc q ++ replicate (needOf (q .limits) - length (queueC .enc q)) 0
+layout q = queueC .enc q ++ replicate (need (q .limits) - length (queueC .enc q)) 0
 
 -- the image: a line of text for each frame
 unfoldable pub image : Queue → Bytes
@@ -45,113 +40,112 @@ unfolding zero?
 zero-replicate zero = refl
 zero-replicate (suc n) = zero-replicate n
 
-module _ (sound? : Queue → Bool) where
-  abbrev pub readGot : ℕ → Got Queue → Option Queue
-  readGot n fail = none
-  readGot n (got q r) =
-      cond (sound? q && (leb (needOf (q .limits)) n && (leb (n - length r) (needOf (q .limits)) && zero? (take (needOf (q .limits) - (n - length r)) r)))) (some q) none
+abbrev pub readGot : ℕ → Got Queue → Option Queue
+readGot n fail = none
+readGot n (got q r) =
+    cond (sound? q && (leb (need (q .limits)) n && (leb (n - length r) (need (q .limits)) && zero? (take (need (q .limits) - (n - length r)) r)))) (some q) none
 
-  unfoldable pub readArea : Bytes → Option Queue
-  readArea s = readGot (length s) (queueC .dec s)
+unfoldable pub readArea : Bytes → Option Queue
+readArea s = readGot (length s) (queueC .dec s)
 
-  -- the queue stands in the area
-  pub record Stands (s : Bytes) (q : Queue) : Type 0 where
-    pub sound : sound? q ≡ true
-    pub range : queueC .ok q
-    pub fits : length (queueC .enc q) ≤ needOf (q .limits)
-    pub later : Bytes
-    pub is : s ≡ layout q ++ later
+-- the queue stands in the area
+pub record Stands (s : Bytes) (q : Queue) : Type 0 where
+  pub sound : sound? q ≡ true
+  pub range : queueC .ok q
+  pub fits : length (queueC .enc q) ≤ need (q .limits)
+  pub later : Bytes
+  pub is : s ≡ layout q ++ later
 
-  pub stands-reads : (s : Bytes) (q : Queue) → Stands s q → readArea s ≡ some q
-  unfolding readArea layout
-  stands-reads s q w =
-      let r = replicate (needOf (q .limits) - length (queueC .enc q)) 0 ++ w .later in
-      let e : s ≡ queueC .enc q ++ r = w .is ∙ append-assoc (queueC .enc q) (replicate (needOf (q .limits) - length (queueC .enc q)) 0) (w .later) in
-      let d : queueC .dec s ≡ got q r = rw e (queueC .fwd q r (w .range)) in
-      let l1 = length-append (queueC .enc q) r in
-      let l2 = length-append (replicate (needOf (q .limits) - length (queueC .enc q)) 0) (w .later) in
-      let l3 = length-replicate {A = ℕ} (needOf (q .limits) - length (queueC .enc q)) 0 in
-      let l0 = ap length e in
-      let x : length s - length r ≡ length (queueC .enc q) = omega arith in
-      let t = take-at (replicate (needOf (q .limits) - length (queueC .enc q)) 0) (w .later) (needOf (q .limits) - length (queueC .enc q)) l3 in
-      let f = w .fits in
-      rw (d, w .sound, le-leb (needOf (q .limits)) (length s) (omega arith), x, le-leb (length (queueC .enc q)) (needOf (q .limits)) (w .fits), t, zero-replicate (needOf (q .limits) - length (queueC .enc q)))
+pub stands-reads : (s : Bytes) (q : Queue) → Stands s q → readArea s ≡ some q
+unfolding readArea layout
+stands-reads s q w =
+    let r = replicate (need (q .limits) - length (queueC .enc q)) 0 ++ w .later in
+    let e : s ≡ queueC .enc q ++ r = w .is ∙ append-assoc (queueC .enc q) (replicate (need (q .limits) - length (queueC .enc q)) 0) (w .later) in
+    let d : queueC .dec s ≡ got q r = rw e (queueC .fwd q r (w .range)) in
+    let l1 = length-append (queueC .enc q) r in
+    let l2 = length-append (replicate (need (q .limits) - length (queueC .enc q)) 0) (w .later) in
+    let l3 = length-replicate {A = ℕ} (need (q .limits) - length (queueC .enc q)) 0 in
+    let l0 = ap length e in
+    let x : length s - length r ≡ length (queueC .enc q) = omega arith in
+    let t = take-at (replicate (need (q .limits) - length (queueC .enc q)) 0) (w .later) (need (q .limits) - length (queueC .enc q)) l3 in
+    let f = w .fits in
+    rw (d, w .sound, le-leb (need (q .limits)) (length s) (omega arith), x, le-leb (length (queueC .enc q)) (need (q .limits)) (w .fits), t, zero-replicate (need (q .limits) - length (queueC .enc q)))
 
-  pub reads-stands : (s : Bytes) (q : Queue) → readArea s ≡ some q → Stands s q
-  unfolding readArea layout
-  reads-stands s q e = go (queueC .dec s) refl e
-    where
-      go : (o : Got Queue) → queueC .dec s ≡ o → readGot (length s) o ≡ some q → Stands s q
-      go fail p e′ = let z : _≡_ {A = ℕ} 0 1 = cc in absurd (omega arith)
-      go (got q₁ r) p e′ = cond-cases (sound? q₁ && (leb (needOf (q₁ .limits)) (length s) && (leb (length s - length r) (needOf (q₁ .limits)) && zero? (take (needOf (q₁ .limits) - (length s - length r)) r)))) (some q₁) none (some q) e′
-          (λ t e″.
-          let k : q₁ ≡ q = cc in
-          let a = and-true (sound? q₁) _ t in
-          let b = and-true (leb (needOf (q₁ .limits)) (length s)) _ (a .1) in
-          let c = and-true (leb (length s - length r) (needOf (q₁ .limits))) _ (b .1) in
-          let w = queueC .bwd s q₁ r p in
-          let l = ap length (w .0) in
-          let l1 = length-append (queueC .enc q₁) r in
-          let x : length s - length r ≡ length (queueC .enc q₁) = omega arith in
-          let n1 = leb-true (needOf (q₁ .limits)) (length s) (b .0) in
-          let f : length (queueC .enc q₁) ≤ needOf (q₁ .limits) = let y = leb-true (length s - length r) (needOf (q₁ .limits)) (c .0) in omega arith in
-          let z : zero? (take (needOf (q₁ .limits) - length (queueC .enc q₁)) r) ≡ true = rw x at (c .1) in
-          let h = zero-is (take (needOf (q₁ .limits) - length (queueC .enc q₁)) r) z in
-          let g = length-take-le (needOf (q₁ .limits) - length (queueC .enc q₁)) r (omega arith) in
-          let u = take-append-drop (needOf (q₁ .limits) - length (queueC .enc q₁)) r in
-          let v : r ≡ replicate (needOf (q₁ .limits) - length (queueC .enc q₁)) 0 ++ drop (needOf (q₁ .limits) - length (queueC .enc q₁)) r = cc in
-          rw (← k) (record {
-            sound = a .0;
-            range = w .1;
-            fits = f;
-            later = drop (needOf (q₁ .limits) - length (queueC .enc q₁)) r;
-            is = w .0 ∙ ap (λ y. queueC .enc q₁ ++ y) v ∙ sym (append-assoc (queueC .enc q₁) (replicate (needOf (q₁ .limits) - length (queueC .enc q₁)) 0) (drop (needOf (q₁ .limits) - length (queueC .enc q₁)) r));
-          }))
-          (λ t e″. let z : _≡_ {A = ℕ} 0 1 = cc in absurd (omega arith))
+pub reads-stands : (s : Bytes) (q : Queue) → readArea s ≡ some q → Stands s q
+unfolding readArea layout
+reads-stands s q e = go (queueC .dec s) refl e
+  where
+    go : (o : Got Queue) → queueC .dec s ≡ o → readGot (length s) o ≡ some q → Stands s q
+    go fail p e′ = let z : _≡_ {A = ℕ} 0 1 = cc in absurd (omega arith)
+    go (got q₁ r) p e′ = cond-cases (sound? q₁ && (leb (need (q₁ .limits)) (length s) && (leb (length s - length r) (need (q₁ .limits)) && zero? (take (need (q₁ .limits) - (length s - length r)) r)))) (some q₁) none (some q) e′
+        (λ t e″.
+        let k : q₁ ≡ q = cc in
+        let a = and-true (sound? q₁) _ t in
+        let b = and-true (leb (need (q₁ .limits)) (length s)) _ (a .1) in
+        let c = and-true (leb (length s - length r) (need (q₁ .limits))) _ (b .1) in
+        let w = queueC .bwd s q₁ r p in
+        let l = ap length (w .0) in
+        let l1 = length-append (queueC .enc q₁) r in
+        let x : length s - length r ≡ length (queueC .enc q₁) = omega arith in
+        let n1 = leb-true (need (q₁ .limits)) (length s) (b .0) in
+        let f : length (queueC .enc q₁) ≤ need (q₁ .limits) = let y = leb-true (length s - length r) (need (q₁ .limits)) (c .0) in omega arith in
+        let z : zero? (take (need (q₁ .limits) - length (queueC .enc q₁)) r) ≡ true = rw x at (c .1) in
+        let h = zero-is (take (need (q₁ .limits) - length (queueC .enc q₁)) r) z in
+        let g = length-take-le (need (q₁ .limits) - length (queueC .enc q₁)) r (omega arith) in
+        let u = take-append-drop (need (q₁ .limits) - length (queueC .enc q₁)) r in
+        let v : r ≡ replicate (need (q₁ .limits) - length (queueC .enc q₁)) 0 ++ drop (need (q₁ .limits) - length (queueC .enc q₁)) r = cc in
+        rw (← k) (record {
+          sound = a .0;
+          range = w .1;
+          fits = f;
+          later = drop (need (q₁ .limits) - length (queueC .enc q₁)) r;
+          is = w .0 ∙ ap (λ y. queueC .enc q₁ ++ y) v ∙ sym (append-assoc (queueC .enc q₁) (replicate (need (q₁ .limits) - length (queueC .enc q₁)) 0) (drop (need (q₁ .limits) - length (queueC .enc q₁)) r));
+        }))
+        (λ t e″. let z : _≡_ {A = ℕ} 0 1 = cc in absurd (omega arith))
 
-  -- an opened queue has the cursor's height as its persisted height
-  abbrev pub imageGot : Got Store → Option Queue
-  imageGot fail = none
-  imageGot (got st []) = cond (sound? (queueWith (st .cursor) st)) (some (queueWith (st .cursor) st)) none
-  imageGot (got st (b ∷ r)) = none
+-- an opened queue has the cursor's height as its persisted height
+abbrev pub imageGot : Got Store → Option Queue
+imageGot fail = none
+imageGot (got st []) = cond (sound? (queueWith (st .cursor) st)) (some (queueWith (st .cursor) st)) none
+imageGot (got st (b ∷ r)) = none
 
-  unfoldable pub readImage : Bytes → Option Queue
-  readImage t = imageGot (storeC true .dec t)
+unfoldable pub readImage : Bytes → Option Queue
+readImage t = imageGot (storeC true .dec t)
 
-  -- the text is the queue's image
-  pub record Shows (t : Bytes) (q : Queue) : Type 0 where
-    pub sound : sound? q ≡ true
-    pub range : queueC .ok q
-    pub level : q .persisted ≡ q .cursor
-    pub is : t ≡ image q
+-- the text is the queue's image
+pub record Shows (t : Bytes) (q : Queue) : Type 0 where
+  pub sound : sound? q ≡ true
+  pub range : queueC .ok q
+  pub level : q .persisted ≡ q .cursor
+  pub is : t ≡ image q
 
-  chosen : (x q : Queue) → x ≡ q → sound? q ≡ true → cond (sound? x) (some x) none ≡ some q
-  chosen x q e h = rw (e, h)
+chosen : (x q : Queue) → x ≡ q → sound? q ≡ true → cond (sound? x) (some x) none ≡ some q
+chosen x q e h = rw (e, h)
 
-  pub shows-reads : (t : Bytes) (q : Queue) → Shows t q → readImage t ≡ some q
-  unfolding readImage image
-  shows-reads t q w =
-      let e : queueWith (q .cursor) (storeOf q) ≡ q = ap (λ (n : ℕ). queueWith n (storeOf q)) (sym (w .level)) in
-      let k : storeC true .ok (storeOf q) = store-ok true (storeOf q) (ok-store false (storeOf q) (ok-queue q (w .range) .1)) in
-      let d : storeC true .dec t ≡ got (storeOf q) [] = ap (storeC true .dec) (w .is ∙ sym (append-nil (storeC true .enc (storeOf q)))) ∙ storeC true .fwd (storeOf q) [] k in
-      rw d (chosen (queueWith (q .cursor) (storeOf q)) q e (w .sound))
+pub shows-reads : (t : Bytes) (q : Queue) → Shows t q → readImage t ≡ some q
+unfolding readImage image
+shows-reads t q w =
+    let e : queueWith (q .cursor) (storeOf q) ≡ q = ap (λ (n : ℕ). queueWith n (storeOf q)) (sym (w .level)) in
+    let k : storeC true .ok (storeOf q) = store-ok true (storeOf q) (ok-store false (storeOf q) (ok-queue q (w .range) .1)) in
+    let d : storeC true .dec t ≡ got (storeOf q) [] = ap (storeC true .dec) (w .is ∙ sym (append-nil (storeC true .enc (storeOf q)))) ∙ storeC true .fwd (storeOf q) [] k in
+    rw d (chosen (queueWith (q .cursor) (storeOf q)) q e (w .sound))
 
-  pub reads-shows : (t : Bytes) (q : Queue) → readImage t ≡ some q → Shows t q
-  unfolding readImage image
-  reads-shows t q e = go (storeC true .dec t) refl e
-    where
-      go : (o : Got Store) → storeC true .dec t ≡ o → imageGot o ≡ some q → Shows t q
-      go fail p e′ = let z : _≡_ {A = ℕ} 0 1 = cc in absurd (omega arith)
-      go (got st (b ∷ r)) p e′ = let z : _≡_ {A = ℕ} 0 1 = cc in absurd (omega arith)
-      go (got st []) p e′ = cond-cases (sound? (queueWith (st .cursor) st)) (some (queueWith (st .cursor) st)) none (some q) e′
-          (λ h e″.
-          let k : queueWith (st .cursor) st ≡ q = cc in
-          let u = storeC true .bwd t st [] p in
-          let v = ok-store true st (u .1) in
-          rw (← k) (record {
-            sound = h;
-            range = queue-ok (queueWith (st .cursor) st) (head-cursor (headFor st) (v .0)) (store-ok false st v);
-            level = refl;
-            is = u .0 ∙ append-nil (storeC true .enc st);
-          }))
-          (λ h e″. let z : _≡_ {A = ℕ} 0 1 = cc in absurd (omega arith))
+pub reads-shows : (t : Bytes) (q : Queue) → readImage t ≡ some q → Shows t q
+unfolding readImage image
+reads-shows t q e = go (storeC true .dec t) refl e
+  where
+    go : (o : Got Store) → storeC true .dec t ≡ o → imageGot o ≡ some q → Shows t q
+    go fail p e′ = let z : _≡_ {A = ℕ} 0 1 = cc in absurd (omega arith)
+    go (got st (b ∷ r)) p e′ = let z : _≡_ {A = ℕ} 0 1 = cc in absurd (omega arith)
+    go (got st []) p e′ = cond-cases (sound? (queueWith (st .cursor) st)) (some (queueWith (st .cursor) st)) none (some q) e′
+        (λ h e″.
+        let k : queueWith (st .cursor) st ≡ q = cc in
+        let u = storeC true .bwd t st [] p in
+        let v = ok-store true st (u .1) in
+        rw (← k) (record {
+          sound = h;
+          range = queue-ok (queueWith (st .cursor) st) (head-cursor (headFor st) (v .0)) (store-ok false st v);
+          level = refl;
+          is = u .0 ∙ append-nil (storeC true .enc st);
+        }))
+        (λ h e″. let z : _≡_ {A = ℕ} 0 1 = cc in absurd (omega arith))

@@ -5,3 +5,4 @@ pub mod Sound
 pub mod Area
 pub mod Changing
 pub mod Reading
+pub mod Calls

@@ -1,7 +1,7 @@
 -- docs/AREA.md: the bytes of a sound queue. Numbers are big-endian.
 use mathlib.Core.Option.{Option, none, some}
 use mathlib.Core.List.{List, [], _∷_, _++_}
-use Prim.Native.Nat.{ℕ, zero, suc, _-_, _/_, _%_, _^_}
+use Prim.Native.Nat.{ℕ, _+_, _-_, _*_, _^_}
 use lib.ListN.{length, drop, replicate}
 use Rattle.queue.specs.paper.Records.{Bytes, Id, Limits, Terms, Held, Rec, Queue}
 use Rattle.queue.specs.paper.Lists.{map, concat}
@@ -55,6 +55,11 @@ queueBytes q = be 4 (q .persisted) ++ (headBytes q ++ concat (map recBytes (q .r
 -- "one encoding for each sound queue, unused bytes zero"
 unfoldable pub areaBytes : Queue → Bytes
 areaBytes q = queueBytes q ++ replicate (need (q .limits) - length (queueBytes q)) 0
+
+-- the number that some bytes are
+unfoldable pub beVal : Bytes → ℕ
+beVal [] = 0
+beVal (b ∷ s) = b * 256 ^ length s + beVal s
 
 -- what a write of bs leaves of lent bytes d: "later bytes of the area are untouched"
 unfoldable pub over : Bytes → Bytes → Bytes

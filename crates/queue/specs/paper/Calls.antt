@@ -11,13 +11,13 @@ use Rattle.queue.specs.declared.Kind.{Kind}
 use Rattle.queue.specs.declared.Kind.the-variants.{Nothing, Memory, Whole, Cursor}
 use Rattle.queue.specs.declared.Answer.{Answer}
 use Rattle.queue.specs.declared.Answer.the-variants.{Refused, Done}
-use Rattle.queue.specs.Codec.{be, beVal}
+use Rattle.queue.specs.Codec.{be}
 use Rattle.queue.specs.Areas.{readArea}
 use Rattle.queue.specs.paper.Records.{Bytes, Id, Limits, Terms, Held, Rec, Queue}
 use Rattle.queue.specs.paper.Lists.{isSome, one, any?, map, concat}
 use Rattle.queue.specs.paper.Ids.{below?, same?}
 use Rattle.queue.specs.paper.Sound.{inRange, need, holder?, inputs, content}
-use Rattle.queue.specs.paper.Area.{flagged, termsBytes, placeBytes, areaBytes, over}
+use Rattle.queue.specs.paper.Area.{flagged, termsBytes, placeBytes, areaBytes, beVal, over}
 use Rattle.queue.specs.paper.Changing.{Out, refused, done, moved, Admission, admit, cancel, expire, Applied, Reconciling, reconcile, reopen, setCursor}
 use Rattle.queue.specs.paper.Reading as reading
 
@@ -204,9 +204,13 @@ unfoldable pub reconcileOf : Bytes → Bytes → Bytes → ReconcileArgs → Out
 reconcileOf cur next out a =
     changing cur next out λ q. cond (reconcileShape? a) (told releasedBytes next out (reconcile (reconciling a) q)) (refuse 5 next out)
 
+-- reopening and cursor setting have no output: their answer is the kind
+abbrev pub idList? : Bytes → Bool
+idList? ids = whole? 32 ids && rise? (items 32 ids)
+
 unfoldable pub reopenOf : Bytes → Bytes → Bytes → Outcome
 reopenOf cur next ids =
-    changing cur next [] λ q. cond (whole? 32 ids && rise? (items 32 ids)) (told nothingBytes next [] (reopen (items 32 ids) q)) (refuse 5 next [])
+    changing cur next [] λ q. cond (idList? ids) (told nothingBytes next [] (reopen (items 32 ids) q)) (refuse 5 next [])
 
 unfoldable pub setCursorOf : Bytes → Bytes → ℕ → ℕ → Bytes → Outcome
 setCursorOf cur next height flag tip =
