@@ -5,13 +5,14 @@ use mathlib.Core.Option.{Option, none, some}
 use mathlib.Core.List.{List, [], _∷_, _++_, append-assoc, append-nil}
 use Prim.Native.Nat.{ℕ, zero, suc, _+_, _*_, _-_, _≤_, _<_}
 use native.Mathlib.Omega.{arith}
-use lib.Dec.{leb, eqb}
-use lib.ListN.{length, take, drop, replicate, take-append-drop, length-append, length-replicate}
-use lib.Seq.{take-at, length-take-le}
-use borrow.Author.Tests.{leb-true, le-leb, eqb-true}
-use Rattle.queue.specs.Codec.{Got, fail, got, Codec, cond-cases}
+use lib.Dec.{ltb, leb, eqb}
+use lib.ListN.{length, take, drop, replicate, take-append-drop, length-append, length-drop, length-replicate}
+use lib.Seq.{take-at, length-take-le, drop-cons}
+use borrow.Author.Tests.{ltb-true, ltb-false, leb-true, le-leb, eqb-true, eq-eqb, ne-eqb}
+use Rattle.queue.specs.Codec.{Got, fail, got, Codec, cases, cond-cases}
 use Rattle.queue.specs.Lists.{and-true}
-use Rattle.queue.specs.ReadLaws.{false-true}
+use Rattle.queue.specs.Reads.{Reads}
+use Rattle.queue.specs.ReadLaws.{false-true, drop-none}
 use Rattle.queue.specs.Forms.{Store, headFor, storeC, queueC, storeOf, queueWith, store-ok, ok-store, queue-ok, ok-queue, head-cursor}
 use Rattle.queue.specs.paper.Records.{Bytes, Limits, Queue}
 
@@ -118,6 +119,11 @@ module _ (sound? : Queue → Bool) where
   unfoldable pub readImage : Bytes → Option Queue
   readImage t = imageGot (storeC true .dec t)
 
+  at-end : (st : Store) (s : Bytes) (next : ℕ) → next ≤ length s → imageGot (got st (drop next s)) ≡ cond (eqb next (length s) && sound? (queueWith (st .cursor) st)) (some (queueWith (st .cursor) st)) none
+  at-end st s next h = cases (ltb next (length s))
+      (λ t. let k = ltb-true next (length s) t in rw (drop-cons s next 0 k, ne-eqb next (length s) (λ e. omega arith)))
+      (λ t. let k = ltb-false next (length s) t in rw (drop-none s next k, eq-eqb next (length s) (omega arith)))
+
   -- the text is the queue's image
   pub record Shows (t : Bytes) (q : Queue) : Type 0 where
     pub sound : sound? q ≡ true
@@ -155,3 +161,27 @@ module _ (sound? : Queue → Bool) where
             is = u .0 ∙ append-nil (storeC true .enc st);
           }))
           (λ h e″. let z : _≡_ {A = ℕ} 0 1 = cc in absurd (omega arith))
+
+  -- ---- what a reader of the frames finds
+  pub area-found : {s : Bytes} {next : ℕ} {ok : Bool} {W : Queue → Type 0} → Reads queueC s 0 ok next W → ok ≡ true
+      → (q : Queue) × W q × (readArea s ≡ cond (sound? q && (leb (needOf (q .limits)) (length s) && (leb next (needOf (q .limits)) && zero? (take (needOf (q .limits) - next) (drop next s))))) (some q) none)
+  unfolding readArea
+  area-found {s} {next} x t =
+      let u = x .good (omega arith) t in
+      let l = length-drop next s in
+      let o = u .3 in
+      let e : length s - length (drop next s) ≡ next = omega arith in
+      (u .0, u .4, rw (u .1, e))
+
+  pub area-none : {s : Bytes} {next : ℕ} {ok : Bool} {W : Queue → Type 0} → Reads queueC s 0 ok next W → ok ≡ false → readArea s ≡ none
+  unfolding readArea
+  area-none x t = rw (x .bad (omega arith) t)
+
+  pub image-found : {s : Bytes} {next : ℕ} {ok : Bool} {W : Store → Type 0} → Reads (storeC true) s 0 ok next W → ok ≡ true
+      → (st : Store) × W st × (readImage s ≡ cond (eqb next (length s) && sound? (queueWith (st .cursor) st)) (some (queueWith (st .cursor) st)) none)
+  unfolding readImage
+  image-found {s} {next} x t = let u = x .good (omega arith) t in (u .0, u .4, rw (u .1) (at-end (u .0) s next (u .3)))
+
+  pub image-none : {s : Bytes} {next : ℕ} {ok : Bool} {W : Store → Type 0} → Reads (storeC true) s 0 ok next W → ok ≡ false → readImage s ≡ none
+  unfolding readImage
+  image-none x t = rw (x .bad (omega arith) t)
