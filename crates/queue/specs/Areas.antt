@@ -2,14 +2,14 @@
 use mathlib.Core.Path.{_≡_, refl, ap, sym, _∙_}
 use mathlib.Core.Bool.{Bool, true, false, cond, _&&_}
 use mathlib.Core.Option.{Option, none, some}
-use mathlib.Core.List.{List, [], _∷_, _++_, append-assoc, append-nil}
-use Prim.Native.Nat.{ℕ, zero, suc, _+_, _*_, _-_, _≤_, _<_}
+use mathlib.Core.List.{[], _∷_, _++_, append-assoc, append-nil}
+use Prim.Native.Nat.{ℕ, zero, suc, _+_, _*_, _-_, _≤_}
 use native.Mathlib.Omega.{arith}
 use lib.Dec.{ltb, leb, eqb}
 use lib.ListN.{length, take, drop, replicate, take-append-drop, length-append, length-drop, length-replicate}
 use lib.Seq.{take-at, length-take-le, drop-cons}
 use borrow.Author.Tests.{ltb-true, ltb-false, leb-true, le-leb, eqb-true, eq-eqb, ne-eqb}
-use Rattle.queue.specs.Codec.{Got, fail, got, Codec, cases, cond-cases}
+use Rattle.queue.specs.Codec.{Got, fail, got, cases, cond-cases}
 use Rattle.queue.specs.Lists.{and-true}
 use Rattle.queue.specs.Reads.{Reads}
 use Rattle.queue.specs.ReadLaws.{false-true, drop-none}

@@ -3,7 +3,7 @@ use mathlib.Core.Path.{_≡_, refl, sym, ap, _∙_}
 use mathlib.Core.Bool.{Bool, true, false, cond, _&&_}
 use mathlib.Core.Option.{Option}
 use mathlib.Core.List.{List, [], _∷_, _++_, append-assoc}
-use Prim.Native.Nat.{ℕ, zero, suc, _+_, _-_, _*_, _^_, _≤_, _<_}
+use Prim.Native.Nat.{ℕ, _+_, _-_, _*_, _^_, _≤_, _<_}
 use native.Mathlib.Omega.{arith}
 use native.Mathlib.Numerals.{add-one}
 use lib.Dec.{ltb, eqb}
@@ -11,7 +11,7 @@ use lib.ListN.{length, take, drop, getD, length-append, length-drop, take-append
 use lib.Seq.{drop-cons, drop-drop, getD-drop, getD-at, drop-at, take-at}
 use borrow.Author.Tests.{lt-ltb, le-ltb, ltb-true, ltb-false, eqb-true, eq-eqb}
 use Rattle.queue.specs.Codec.{Got, fail, got, _>>=_, bind-got, if-got, cases, All, all-append, Codec, be, beC, pairC, mapC, encs, decs, vec-fwd, vec-bwd, vec-small, vecMost, vec-fits}
-use Rattle.queue.specs.Lists.{and-true, and-both}
+use Rattle.queue.specs.Lists.{and-true}
 use Rattle.queue.specs.Frames.{Head, headC, recC}
 use Rattle.queue.specs.Reads.{Reads, isGot, restOf, whole, listAt, behind}
 use Rattle.queue.specs.ReadLaws.{false-true, pair, mapped, weaken, Turn, turn}
@@ -51,8 +51,8 @@ unfolding endsLine
 ends-shift s base n =
     let l = length-drop base s in
     let p : ltb (0 + 2 * n) (length (drop base s)) ≡ ltb (base + 2 * n) (length s) = cases (ltb (base + 2 * n) (length s))
-        (λ t. let k = ltb-true (base + 2 * n) (length s) t in lt-ltb (0 + 2 * n) (length (drop base s)) (omega arith) ∙ sym t)
-        (λ t. let k = ltb-false (base + 2 * n) (length s) t in le-ltb (0 + 2 * n) (length (drop base s)) (omega arith) ∙ sym t) in
+    (λ t. let k = ltb-true (base + 2 * n) (length s) t in lt-ltb (0 + 2 * n) (length (drop base s)) (omega arith) ∙ sym t)
+    (λ t. let k = ltb-false (base + 2 * n) (length s) t in le-ltb (0 + 2 * n) (length (drop base s)) (omega arith) ∙ sym t) in
     let z : 0 + 2 * n ≡ 2 * n = omega arith in
     let q : getD (drop base s) (0 + 2 * n) 0 ≡ getD s (base + 2 * n) 0 = rw z (getD-drop base s (2 * n) 0) in
     rw (p, q, digits-is (2 * n) (drop base s) 0, digits-is (2 * n) s base)
@@ -90,8 +90,13 @@ module _ {A : Type 0} (𝓐 : Codec A) where
 
   pub line-fwd : (a : A) (r : Bytes) → 𝓐 .ok a → lineDec (lineEnc a ++ r) ≡ got a r
   unfolding lineDec lineEnc
-  line-fwd a r h = rw (append-assoc (textOf (𝓐 .enc a)) (10 ∷ []) r, text-pairs (𝓐 .enc a) (10 ∷ r) (𝓐 .small a h), 𝓐 .fwd a (pairs (10 ∷ r)) h,
-      line-ends (textOf (𝓐 .enc a) ++ (10 ∷ r)) 0 (length (𝓐 .enc a)) (line-here (𝓐 .enc a) r (𝓐 .small a h)), line-rest (𝓐 .enc a) r)
+  line-fwd a r h = rw (
+    append-assoc (textOf (𝓐 .enc a)) (10 ∷ []) r,
+    text-pairs (𝓐 .enc a) (10 ∷ r) (𝓐 .small a h),
+    𝓐 .fwd a (pairs (10 ∷ r)) h,
+    line-ends (textOf (𝓐 .enc a) ++ (10 ∷ r)) 0 (length (𝓐 .enc a)) (line-here (𝓐 .enc a) r (𝓐 .small a h)),
+    line-rest (𝓐 .enc a) r,
+  )
 
   pub line-bwd : (t : Bytes) (a : A) (r : Bytes) → lineDec t ≡ got a r → (t ≡ lineEnc a ++ r) × 𝓐 .ok a
   unfolding lineDec lineEnc
