@@ -3,7 +3,7 @@ use mathlib.Core.Path.{_≡_, refl, sym, ap, _∙_}
 use mathlib.Core.Bool.{Bool, true, false, cond, _&&_}
 use mathlib.Core.Option.{Option}
 use mathlib.Core.List.{List, [], _∷_, _++_, append-assoc}
-use Prim.Native.Nat.{ℕ, zero, suc, _+_, _-_, _*_, _^_, _≤_, _<_}
+use Prim.Native.Nat.{ℕ, _+_, _-_, _*_, _^_, _≤_, _<_}
 use native.Mathlib.Omega.{arith}
 use native.Mathlib.Numerals.{add-one}
 use lib.Dec.{ltb, eqb}
@@ -11,10 +11,10 @@ use lib.ListN.{length, take, drop, getD, length-append, length-drop, take-append
 use lib.Seq.{drop-cons, drop-drop, getD-drop, getD-at, drop-at, take-at}
 use borrow.Author.Tests.{lt-ltb, le-ltb, ltb-true, ltb-false, eqb-true, eq-eqb}
 use Rattle.queue.specs.Codec.{Got, fail, got, _>>=_, bind-got, if-got, cases, All, all-append, Codec, be, beC, pairC, mapC, encs, decs, vec-fwd, vec-bwd, vec-small, vecMost, vec-fits}
-use Rattle.queue.specs.Lists.{and-true, and-both}
+use Rattle.queue.specs.Lists.{and-true}
 use Rattle.queue.specs.Frames.{Head, headC, recC}
 use Rattle.queue.specs.Reads.{Reads, isGot, restOf, whole, listAt, behind}
-use Rattle.queue.specs.ReadLaws.{false-true, weaken, Turn, turn}
+use Rattle.queue.specs.ReadLaws.{false-true, pair, mapped, weaken, Turn, turn}
 use Rattle.queue.specs.View.{pairs, view, view-raw}
 use Rattle.queue.specs.Hex.{textOf, digits?, allDigits, text-length, text-pairs, text-small, text-digits, digits-is, digits-text}
 use Rattle.queue.specs.paper.Records.{Bytes, Id, Limits, Rec, Queue}
@@ -51,8 +51,8 @@ unfolding endsLine
 ends-shift s base n =
     let l = length-drop base s in
     let p : ltb (0 + 2 * n) (length (drop base s)) ≡ ltb (base + 2 * n) (length s) = cases (ltb (base + 2 * n) (length s))
-        (λ t. let k = ltb-true (base + 2 * n) (length s) t in lt-ltb (0 + 2 * n) (length (drop base s)) (omega arith) ∙ sym t)
-        (λ t. let k = ltb-false (base + 2 * n) (length s) t in le-ltb (0 + 2 * n) (length (drop base s)) (omega arith) ∙ sym t) in
+    (λ t. let k = ltb-true (base + 2 * n) (length s) t in lt-ltb (0 + 2 * n) (length (drop base s)) (omega arith) ∙ sym t)
+    (λ t. let k = ltb-false (base + 2 * n) (length s) t in le-ltb (0 + 2 * n) (length (drop base s)) (omega arith) ∙ sym t) in
     let z : 0 + 2 * n ≡ 2 * n = omega arith in
     let q : getD (drop base s) (0 + 2 * n) 0 ≡ getD s (base + 2 * n) 0 = rw z (getD-drop base s (2 * n) 0) in
     rw (p, q, digits-is (2 * n) (drop base s) 0, digits-is (2 * n) s base)
@@ -90,8 +90,13 @@ module _ {A : Type 0} (𝓐 : Codec A) where
 
   pub line-fwd : (a : A) (r : Bytes) → 𝓐 .ok a → lineDec (lineEnc a ++ r) ≡ got a r
   unfolding lineDec lineEnc
-  line-fwd a r h = rw (append-assoc (textOf (𝓐 .enc a)) (10 ∷ []) r, text-pairs (𝓐 .enc a) (10 ∷ r) (𝓐 .small a h), 𝓐 .fwd a (pairs (10 ∷ r)) h,
-      line-ends (textOf (𝓐 .enc a) ++ (10 ∷ r)) 0 (length (𝓐 .enc a)) (line-here (𝓐 .enc a) r (𝓐 .small a h)), line-rest (𝓐 .enc a) r)
+  line-fwd a r h = rw (
+    append-assoc (textOf (𝓐 .enc a)) (10 ∷ []) r,
+    text-pairs (𝓐 .enc a) (10 ∷ r) (𝓐 .small a h),
+    𝓐 .fwd a (pairs (10 ∷ r)) h,
+    line-ends (textOf (𝓐 .enc a) ++ (10 ∷ r)) 0 (length (𝓐 .enc a)) (line-here (𝓐 .enc a) r (𝓐 .small a h)),
+    line-rest (𝓐 .enc a) r,
+  )
 
   pub line-bwd : (t : Bytes) (a : A) (r : Bytes) → lineDec t ≡ got a r → (t ≡ lineEnc a ++ r) × 𝓐 .ok a
   unfolding lineDec lineEnc
@@ -245,6 +250,11 @@ module _ {A : Type 0} {𝓐 : Codec A} where
       → Reads (formC hex 𝓐) s base (ok && endsLine hex s base n) (afterIn hex s base n) W
   frame hex {W = W} b x = weaken W (framed hex b x) (λ a _ _ _ h. h .0)
 
+  -- no frame: then the position says nothing
+  pub frame-bad : (hex : Bool) {s : Bytes} {base n : ℕ} {ok : Bool} {W : A → Type 0} → base ≤ length s → Reads 𝓐 (view hex s base) 0 ok n W
+      → (ok && endsLine hex s base n) ≡ false → (next : ℕ) (W′ : A → Type 0) → Reads (formC hex 𝓐) s base false next W′
+  frame-bad hex b x e next W′ = record { good = λ h t. false-true t; bad = λ h t. framed hex b x .bad h e }
+
   -- in a list of frames that is known to be whole the end of the line needs no test
   pub turn-in : (hex : Bool) {s : Bytes} (k : ℕ) {base n : ℕ} {ok : Bool} {W : A → Type 0} → base ≤ length s → whole (formC hex 𝓐) k s base ≡ true → 0 < k → Reads 𝓐 (view hex s base) 0 ok n W
       → Turn (formC hex 𝓐) s k base (afterIn hex s base n) (λ a. W a × Framed 𝓐 hex s base ok n a)
@@ -337,6 +347,29 @@ module _ (𝓗 : Codec Head) (𝓡 : Codec Rec) where
 unfoldable pub storeC : Bool → Codec Store
 storeC hex = framesC (formC hex headC) (formC hex recC)
 
+pub store-read : (hex : Bool) {s : Bytes} {at n₁ n₂ count : ℕ} {ok₁ ok₂ : Bool} {W : Head → Type 0} → Reads (formC hex headC) s at ok₁ n₁ (λ h. (h .count ≡ count) × W h)
+    → (ok₁ ≡ true → Many (formC hex recC) s n₁ count ok₂ n₂)
+    → Reads (storeC hex) s at (ok₁ && ok₂) n₂ (λ st. W (headFor st) × ((st .recs ≡ listAt (formC hex recC) count s n₁) × ((whole (formC hex recC) count s n₁ ≡ true) × (length (st .recs) ≡ count))))
+unfolding storeC
+store-read hex x y = frames-read (formC hex headC) (formC hex recC) x y
+
+-- how long a text is: two digits a byte, and the lines' ends
+pub line-length : {A : Type 0} (𝓐 : Codec A) (a : A) → length (formC true 𝓐 .enc a) ≡ 2 * length (𝓐 .enc a) + 1
+unfolding formC lineEnc
+line-length 𝓐 a = let e = text-length (𝓐 .enc a) in rw length-append (omega arith)
+
+pub lines-length : {A : Type 0} (𝓐 : Codec A) (l : List A) → length (encs (formC true 𝓐) l) ≡ 2 * length (encs 𝓐 l) + length l
+unfolding encs
+lines-length 𝓐 [] = refl
+lines-length 𝓐 (a ∷ l) = let i = lines-length 𝓐 l in let e = line-length 𝓐 a in simp length-append (omega arith)
+
+pub store-length : (st : Store) → length (storeC true .enc st) ≡ 2 * length (storeC false .enc st) + (1 + length (st .recs))
+unfolding storeC framesC framesEnc
+store-length st =
+    let i = lines-length recC (st .recs) in
+    let h = line-length headC (headFor st) in
+    rw (form-raw headC, form-raw recC) (simp length-append (omega arith))
+
 abbrev pub storeOf : Queue → Store
 storeOf q = record { limits = q .limits; revision = q .revision; cursor = q .cursor; tip = q .tip; counter = q .counter; recs = q .recs }
 
@@ -346,6 +379,11 @@ queueWith n st = record { persisted = n; limits = st .limits; revision = st .rev
 -- the persisted height, and the frames as bytes
 unfoldable pub queueC : Codec Queue
 queueC = mapC (λ x. queueWith (x .0) (x .1)) (λ q. (q .persisted, storeOf q)) (λ x. refl) (λ q. refl) (pairC (beC 4) (storeC false))
+
+pub queue-read : {s : Bytes} {at n₁ n₂ v : ℕ} {ok₁ ok₂ : Bool} {W : Store → Type 0} → Reads (beC 4) s at ok₁ n₁ (λ x. x ≡ v) → Reads (storeC false) s n₁ ok₂ n₂ W
+    → Reads queueC s at (ok₁ && ok₂) n₂ (λ q. (q .persisted ≡ v) × W (storeOf q))
+unfolding queueC
+queue-read {v = v} {W = W} x y = mapped (λ x. queueWith (x .0) (x .1)) (λ q. (q .persisted, storeOf q)) (λ x. refl) (λ q. refl) (λ q. (q .persisted ≡ v) × W (storeOf q)) (pair x y) (λ a _ _ _ w. w)
 
 -- the bytes of a queue, its ok in parts
 pub queue-enc : (q : Queue) → queueC .enc q ≡ be 4 (q .persisted) ++ (headC .enc (headFor (storeOf q)) ++ encs recC (q .recs))
