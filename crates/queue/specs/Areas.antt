@@ -113,17 +113,17 @@ imageGot (got st (b ∷ r)) = none
 unfoldable pub readImage : Bytes → Option Queue
 readImage t = imageGot (storeC true .dec t)
 
-  at-end : (st : Store) (s : Bytes) (next : ℕ) → next ≤ length s → imageGot (got st (drop next s)) ≡ cond (eqb next (length s) && sound? (queueWith (st .cursor) st)) (some (queueWith (st .cursor) st)) none
-  at-end st s next h = cases (ltb next (length s))
-      (λ t. let k = ltb-true next (length s) t in rw (drop-cons s next 0 k, ne-eqb next (length s) (λ e. omega arith)))
-      (λ t. let k = ltb-false next (length s) t in rw (drop-none s next k, eq-eqb next (length s) (omega arith)))
+at-end : (st : Store) (s : Bytes) (next : ℕ) → next ≤ length s → imageGot (got st (drop next s)) ≡ cond (eqb next (length s) && sound? (queueWith (st .cursor) st)) (some (queueWith (st .cursor) st)) none
+at-end st s next h = cases (ltb next (length s))
+    (λ t. let k = ltb-true next (length s) t in rw (drop-cons s next 0 k, ne-eqb next (length s) (λ e. omega arith)))
+    (λ t. let k = ltb-false next (length s) t in rw (drop-none s next k, eq-eqb next (length s) (omega arith)))
 
-  -- the text is the queue's image
-  pub record Shows (t : Bytes) (q : Queue) : Type 0 where
-    pub sound : sound? q ≡ true
-    pub range : queueC .ok q
-    pub level : q .persisted ≡ q .cursor
-    pub is : t ≡ image q
+-- the text is the queue's image
+pub record Shows (t : Bytes) (q : Queue) : Type 0 where
+  pub sound : sound? q ≡ true
+  pub range : queueC .ok q
+  pub level : q .persisted ≡ q .cursor
+  pub is : t ≡ image q
 
 chosen : (x q : Queue) → x ≡ q → sound? q ≡ true → cond (sound? x) (some x) none ≡ some q
 chosen x q e h = rw (e, h)
@@ -136,46 +136,46 @@ shows-reads t q w =
     let d : storeC true .dec t ≡ got (storeOf q) [] = ap (storeC true .dec) (w .is ∙ sym (append-nil (storeC true .enc (storeOf q)))) ∙ storeC true .fwd (storeOf q) [] k in
     rw d (chosen (queueWith (q .cursor) (storeOf q)) q e (w .sound))
 
-  pub reads-shows : (t : Bytes) (q : Queue) → readImage t ≡ some q → Shows t q
-  unfolding readImage image
-  reads-shows t q e = go (storeC true .dec t) refl e
-    where
-      go : (o : Got Store) → storeC true .dec t ≡ o → imageGot o ≡ some q → Shows t q
-      go fail p e′ = let z : _≡_ {A = ℕ} 0 1 = cc in absurd (omega arith)
-      go (got st (b ∷ r)) p e′ = let z : _≡_ {A = ℕ} 0 1 = cc in absurd (omega arith)
-      go (got st []) p e′ = cond-cases (sound? (queueWith (st .cursor) st)) (some (queueWith (st .cursor) st)) none (some q) e′
-          (λ h e″.
-          let k : queueWith (st .cursor) st ≡ q = cc in
-          let u = storeC true .bwd t st [] p in
-          let v = ok-store true st (u .1) in
-          rw (← k) (record {
-            sound = h;
-            range = queue-ok (queueWith (st .cursor) st) (head-cursor (headFor st) (v .0)) (store-ok false st v);
-            level = refl;
-            is = u .0 ∙ append-nil (storeC true .enc st);
-          }))
-          (λ h e″. let z : _≡_ {A = ℕ} 0 1 = cc in absurd (omega arith))
+pub reads-shows : (t : Bytes) (q : Queue) → readImage t ≡ some q → Shows t q
+unfolding readImage image
+reads-shows t q e = go (storeC true .dec t) refl e
+  where
+    go : (o : Got Store) → storeC true .dec t ≡ o → imageGot o ≡ some q → Shows t q
+    go fail p e′ = let z : _≡_ {A = ℕ} 0 1 = cc in absurd (omega arith)
+    go (got st (b ∷ r)) p e′ = let z : _≡_ {A = ℕ} 0 1 = cc in absurd (omega arith)
+    go (got st []) p e′ = cond-cases (sound? (queueWith (st .cursor) st)) (some (queueWith (st .cursor) st)) none (some q) e′
+        (λ h e″.
+        let k : queueWith (st .cursor) st ≡ q = cc in
+        let u = storeC true .bwd t st [] p in
+        let v = ok-store true st (u .1) in
+        rw (← k) (record {
+          sound = h;
+          range = queue-ok (queueWith (st .cursor) st) (head-cursor (headFor st) (v .0)) (store-ok false st v);
+          level = refl;
+          is = u .0 ∙ append-nil (storeC true .enc st);
+        }))
+        (λ h e″. let z : _≡_ {A = ℕ} 0 1 = cc in absurd (omega arith))
 
-  -- ---- what a reader of the frames finds
-  pub area-found : {s : Bytes} {next : ℕ} {ok : Bool} {W : Queue → Type 0} → Reads queueC s 0 ok next W → ok ≡ true
-      → (q : Queue) × W q × (readArea s ≡ cond (sound? q && (leb (needOf (q .limits)) (length s) && (leb next (needOf (q .limits)) && zero? (take (needOf (q .limits) - next) (drop next s))))) (some q) none)
-  unfolding readArea
-  area-found {s} {next} x t =
-      let u = x .good (omega arith) t in
-      let l = length-drop next s in
-      let o = u .3 in
-      let e : length s - length (drop next s) ≡ next = omega arith in
-      (u .0, u .4, rw (u .1, e))
+-- ---- what a reader of the frames finds
+pub area-found : {s : Bytes} {next : ℕ} {ok : Bool} {W : Queue → Type 0} → Reads queueC s 0 ok next W → ok ≡ true
+    → (q : Queue) × W q × (readArea s ≡ cond (sound? q && (leb (need (q .limits)) (length s) && (leb next (need (q .limits)) && zero? (take (need (q .limits) - next) (drop next s))))) (some q) none)
+unfolding readArea
+area-found {s} {next} x t =
+    let u = x .good (omega arith) t in
+    let l = length-drop next s in
+    let o = u .3 in
+    let e : length s - length (drop next s) ≡ next = omega arith in
+    (u .0, u .4, rw (u .1, e))
 
-  pub area-none : {s : Bytes} {next : ℕ} {ok : Bool} {W : Queue → Type 0} → Reads queueC s 0 ok next W → ok ≡ false → readArea s ≡ none
-  unfolding readArea
-  area-none x t = rw (x .bad (omega arith) t)
+pub area-none : {s : Bytes} {next : ℕ} {ok : Bool} {W : Queue → Type 0} → Reads queueC s 0 ok next W → ok ≡ false → readArea s ≡ none
+unfolding readArea
+area-none x t = rw (x .bad (omega arith) t)
 
-  pub image-found : {s : Bytes} {next : ℕ} {ok : Bool} {W : Store → Type 0} → Reads (storeC true) s 0 ok next W → ok ≡ true
-      → (st : Store) × W st × (readImage s ≡ cond (eqb next (length s) && sound? (queueWith (st .cursor) st)) (some (queueWith (st .cursor) st)) none)
-  unfolding readImage
-  image-found {s} {next} x t = let u = x .good (omega arith) t in (u .0, u .4, rw (u .1) (at-end (u .0) s next (u .3)))
+pub image-found : {s : Bytes} {next : ℕ} {ok : Bool} {W : Store → Type 0} → Reads (storeC true) s 0 ok next W → ok ≡ true
+    → (st : Store) × W st × (readImage s ≡ cond (eqb next (length s) && sound? (queueWith (st .cursor) st)) (some (queueWith (st .cursor) st)) none)
+unfolding readImage
+image-found {s} {next} x t = let u = x .good (omega arith) t in (u .0, u .4, rw (u .1) (at-end (u .0) s next (u .3)))
 
-  pub image-none : {s : Bytes} {next : ℕ} {ok : Bool} {W : Store → Type 0} → Reads (storeC true) s 0 ok next W → ok ≡ false → readImage s ≡ none
-  unfolding readImage
-  image-none x t = rw (x .bad (omega arith) t)
+pub image-none : {s : Bytes} {next : ℕ} {ok : Bool} {W : Store → Type 0} → Reads (storeC true) s 0 ok next W → ok ≡ false → readImage s ≡ none
+unfolding readImage
+image-none x t = rw (x .bad (omega arith) t)
