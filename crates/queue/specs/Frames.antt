@@ -37,6 +37,19 @@ module _ (n : ℕ) (h : n < 256) where
     fits = λ a k. omega arith;
   }
 
+pub one-byte : 1 < 256
+one-byte = omega arith
+
+pub two-byte : 2 < 256
+two-byte = omega arith
+
+-- the kinds
+abbrev pub headTag : Codec (Unit {0})
+headTag = tagC 1 one-byte
+
+abbrev pub recTag : Codec (Unit {0})
+recTag = tagC 2 two-byte
+
 unfoldable pub idC : Codec Id
 idC = vecC byteC 32
 
@@ -82,10 +95,14 @@ recOf t = let (u, (a, (b, (c, (d, (e, (f, (g, h)))))))) = t in
 abbrev pub recTuple : Rec → RecT
 recTuple r = (tt, (r .id, (r .state, (r .reason, (r .terms, (r .place, (r .mark, (r .finish, r .body))))))))
 
+-- what stands behind the terms: mined place, withdrawn mark, finish number, holder
+abbrev pub restC : Codec (Option (ℕ × Id) × (ℕ × (ℕ × Option Held)))
+restC = pairC placeC (pairC (beC 1) (pairC (beC 8) bodyC))
+
 -- kind 02, id, state, reason, terms, mined place, withdrawn mark, finish number, holder
 unfoldable pub recC : Codec Rec
 recC = mapC recOf recTuple (λ t. refl) (λ t. refl)
-    (pairC (tagC 2 (omega arith)) (pairC idC (pairC (beC 1) (pairC (beC 1) (pairC termsC (pairC placeC (pairC (beC 1) (pairC (beC 8) bodyC))))))))
+    (pairC recTag (pairC idC (pairC (beC 1) (pairC (beC 1) (pairC termsC restC)))))
 
 unfoldable pub limitsC : Codec Limits
 limitsC = mapC (λ t. record { P = t .0; B = t .1 .0; T = t .1 .1 .0; K = t .1 .1 .1 }) (λ m. (m .P, (m .B, (m .T, m .K)))) (λ t. refl) (λ t. refl)
@@ -113,4 +130,4 @@ headTuple h = (tt, (h .limits, (h .revision, (h .cursor, (h .tip, (h .counter, h
 -- kind 01, limits, revision, cursor height, tip, counter, record count
 unfoldable pub headC : Codec Head
 headC = mapC headOf headTuple (λ t. refl) (λ t. refl)
-    (pairC (tagC 1 (omega arith)) (pairC limitsC (pairC (beC 8) (pairC (beC 4) (pairC (optC idC) (pairC (beC 8) (beC 4)))))))
+    (pairC headTag (pairC limitsC (pairC (beC 8) (pairC (beC 4) (pairC (optC idC) (pairC (beC 8) (beC 4)))))))

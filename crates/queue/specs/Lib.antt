@@ -10,3 +10,5 @@ pub mod View
 pub mod Hex
 pub mod Forms
 pub mod Areas
+pub mod Facts
+pub mod Rules

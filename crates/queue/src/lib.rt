@@ -1,4 +1,11 @@
 // The private transaction queue in a lent area.
+pub mod forms;
+pub mod frame;
+pub mod logic;
+pub mod put;
+pub mod rules;
+pub mod scan;
+pub mod view;
 
 // What a changing call leaves to do: nothing, a queue in memory only, a whole write, a write of the cursor.
 pub enum Kind {
@@ -12,8 +19,4 @@ pub enum Kind {
 pub enum Answer {
     Refused(u64),
     Done(Kind),
-}
-
-pub fn both(a: bool, b: bool) -> bool {
-    if a { b } else { false }
 }

@@ -1,0 +1,5 @@
+pub mod LoopLaws
+pub mod FrameLaws
+pub mod PutLaws
+pub mod Turns
+pub mod ScanLaws

@@ -1,0 +1,223 @@
+-- Each loop's turn and end, over plain values. Assumes nothing.
+use mathlib.Core.Path.{_≡_, refl, ap, sym, _∙_}
+use mathlib.Core.Bool.{Bool, true, false, cond, not, _&&_, _||_}
+use mathlib.Core.List.{List, [], _∷_, _++_}
+use Prim.Native.Nat.{ℕ, zero, suc, _+_, _-_, _*_, _≤_, _<_}
+use native.Mathlib.Omega.{arith}
+use native.Mathlib.Numerals.{add-one}
+use lib.Dec.{eqb}
+use lib.ListN.{length, drop, take, getD}
+use lib.Seq.{drop-cons}
+use borrow.Author.Tests.{eq-eqb, ne-eqb}
+use Rattle.queue.specs.Codec.{Codec, cases}
+use Rattle.queue.specs.Frames.{recC, idC}
+use Rattle.queue.specs.Forms.{formC, afterIn, endsLine, Framed, framed}
+use Rattle.queue.specs.View.{view}
+use Rattle.queue.specs.Reads.{Reads, whole, listAt, behind}
+use Rattle.queue.specs.ReadLaws.{Turn, turn, none-left, whole-step, whole-bad, false-true}
+use Rattle.queue.specs.Facts.{factsOf, SeenAs}
+use Rattle.queue.specs.Rules.{weight, sum, stampedF}
+use Rattle.queue.specs.Areas.{zero?}
+use Rattle.queue.specs.paper.Records.{Bytes, Id, Rec}
+use Rattle.queue.specs.paper.Lists.{any?, total, count}
+use Rattle.queue.specs.paper.Ids.{cmpL}
+use Rattle.queue.specs.paper.Sound.{holder?, inputs, rising?, stamped?, distinct?, among?, used?, clash?, apart?}
+use Rattle.queue.specs.declared.frame.Seen.{Seen}
+use Rattle.queue.specs.declared.rules.Query.{Query}
+use Rattle.queue.specs.declared.rules.Query.the-variants.{Stamped}
+use Rattle.queue.proofs.Turns.{Scan, start, here, on, stop, end, SeenIn, ReadsRec, seen, see}
+
+-- ---- counts
+unfoldable pub sumFrom : Query → ℕ → List Rec → ℕ
+sumFrom q acc l = acc + sum q l
+
+module _ (hex : Bool) (q : Query) {s : Bytes} {n at i left acc : ℕ} (x : Scan (formC hex recC) (sumFrom q) s n at 0 i left acc) where
+  pub tally-go : {m w j : ℕ} {ok : Bool} {y : Seen} → 0 < left → ReadsRec hex s i ok m y → j ≡ afterIn hex s i m → w ≡ weight q (y .facts)
+      → Scan (formC hex recC) (sumFrom q) s n at 0 j (left - 1) (acc + w)
+  unfolding sumFrom sum
+  tally-go {m} {w} p r g e = let t = see hex x p r g in let f = e ∙ ap (weight q) (t .is .0 .facts) in on x (acc + w) p t (omega arith)
+
+  pub tally-end : left ≡ 0 → acc ≡ sum q (listAt (formC hex recC) n s at)
+  unfolding sumFrom sum
+  tally-end z = let e = end x z in omega arith
+
+-- ---- frames
+pub record Framing (hex : Bool) (s : Bytes) (n at i left : ℕ) : Type 0 where
+  pub up : at ≤ i
+  pub within : i ≤ length s
+  pub all : whole (formC hex recC) left s i ≡ whole (formC hex recC) n s at
+  pub rest : behind (formC hex recC) left s i ≡ behind (formC hex recC) n s at
+
+module _ {hex : Bool} {s : Bytes} {n at i left m : ℕ} {ok : Bool} {y : Seen} (x : Framing hex s n at i left) (p : 0 < left) (r : ReadsRec hex s i ok m y) where
+  pub frames-in : ok ≡ true → m ≤ length (view hex s i)
+  frames-in t = r .good (omega arith) t .3
+
+  frames-ok : {b : Bool} → ok ≡ true → b ≡ endsLine hex s i m → (ok && endsLine hex s i m) ≡ b
+  frames-ok t e = rw t (sym e)
+
+  pub frames-go : {j : ℕ} {b : Bool} → ok ≡ true → b ≡ endsLine hex s i m → b ≡ true → j ≡ afterIn hex s i m → Framing hex s n at j (left - 1)
+  frames-go {j} t e f g =
+      let u = whole-step left (x .within) p (framed hex (x .within) r) (frames-ok t e ∙ f) in
+      rw g (record { up = omega (arith, x .up, u .2); within = u .3; all = sym (u .0) ∙ x .all; rest = sym (u .1) ∙ x .rest })
+
+  pub frames-short : ok ≡ false → false ≡ whole (formC hex recC) n s at
+  frames-short t = sym (whole-bad left (x .within) p (framed hex (x .within) r) (rw t)) ∙ x .all
+
+  pub frames-line : {b : Bool} → ok ≡ true → b ≡ endsLine hex s i m → b ≡ false → false ≡ whole (formC hex recC) n s at
+  frames-line t e f = sym (whole-bad left (x .within) p (framed hex (x .within) r) (frames-ok t e ∙ f)) ∙ x .all
+
+pub frames-end : {hex : Bool} {s : Bytes} {n at i left : ℕ} → Framing hex s n at i left → left ≡ 0 → (true ≡ whole (formC hex recC) n s at) × (drop i s ≡ behind (formC hex recC) n s at)
+frames-end {hex} {s} {n} {at} {i} {left} x z = let u = none-left (formC hex recC) s left i z in (sym (u .1) ∙ x .all, sym (u .2) ∙ x .rest)
+
+-- ---- rising ids
+unfoldable pub chain? : Id → List Rec → Bool
+chain? p [] = true
+chain? p (r ∷ l) = eqb (cmpL p (r .id)) 0 && chain? (r .id) l
+
+rising-chain : (r : Rec) (l : List Rec) → rising? (r ∷ l) ≡ chain? (r .id) l
+unfolding rising? chain?
+rising-chain r [] = refl
+rising-chain r (x ∷ l) = rw (rising-chain x l)
+
+pub rise-none : (hex : Bool) (s : Bytes) (n at : ℕ) → n ≡ 0 → true ≡ rising? (listAt (formC hex recC) n s at)
+unfolding rising?
+rise-none hex s n at z = rw (none-left (formC hex recC) s n at z .0)
+
+pub rise-first : (hex : Bool) {s : Bytes} (n : ℕ) {at m j : ℕ} {ok : Bool} {y : Seen} → at ≤ length s → whole (formC hex recC) n s at ≡ true → 0 < n → ReadsRec hex s at ok m y → j ≡ afterIn hex s at m
+    → Scan (formC hex recC) chain? s (n - 1) j (y .id) j (n - 1) (y .id) × (chain? (y .id) (listAt (formC hex recC) (n - 1) s j) ≡ rising? (listAt (formC hex recC) n s at)) × (m ≤ length (view hex s at))
+rise-first hex {s} n {at} {m} {j} {ok} {y} h w p r g =
+    let x = start (formC hex recC) (λ (u : Unit {0}) (l : List Rec). u) s n at tt h w in
+    let t = see hex x p r g in
+    (start (formC hex recC) chain? s (n - 1) j (y .id) (t .within) (t .rest),
+    ap (λ i. chain? i (listAt (formC hex recC) (n - 1) s j)) (t .is .0 .id) ∙ sym (rising-chain (t .item) (listAt (formC hex recC) (n - 1) s j)) ∙ ap rising? (sym (t .list)),
+    t .is .1 .within)
+
+module _ (hex : Bool) {s : Bytes} {n at i left : ℕ} {p₀ p : Id} (x : Scan (formC hex recC) chain? s n at p₀ i left p) where
+  pub rise-go : {m j : ℕ} {ok : Bool} {y : Seen} → 0 < left → ReadsRec hex s i ok m y → j ≡ afterIn hex s i m → cmpL p (y .id) ≡ 0 → Scan (formC hex recC) chain? s n at p₀ j (left - 1) (y .id)
+  unfolding chain?
+  rise-go {y = y} h r g e = let t = see hex x h r g in on x (y .id) h t (rw (← (t .is .0 .id), eq-eqb _ _ e))
+
+  pub rise-stop : {m : ℕ} {ok : Bool} {y : Seen} → 0 < left → ReadsRec hex s i ok m y → (cmpL p (y .id) ≡ 0 → ⊥) → false ≡ chain? p₀ (listAt (formC hex recC) n s at)
+  unfolding chain?
+  rise-stop h r e = let t = seen hex x h r in stop x t (rw (← (t .is .0 .id), ne-eqb _ _ e))
+
+  pub rise-end : left ≡ 0 → true ≡ chain? p₀ (listAt (formC hex recC) n s at)
+  unfolding chain?
+  rise-end z = end x z
+
+-- ---- searches: no state
+unfoldable pub amongF : Id → Unit {0} → List Id → Bool
+amongF x u l = among? x l
+
+module _ (z : Id) {v : Bytes} {n at i left : ℕ} (x : Scan idC (amongF z) v n at tt i left tt) where
+  pub among-go : {next : ℕ} {ok : Bool} {y : Id} → 0 < left → Reads idC v i ok next (λ w. w ≡ y) → (cmpL z y ≡ 1 → ⊥) → Scan idC (amongF z) v n at tt next (left - 1) tt
+  unfolding amongF
+  among-go h r e = let t = here x h r in on x tt h t (rw (t .is, ne-eqb _ _ e))
+
+  pub among-stop : {next : ℕ} {ok : Bool} {y : Id} → 0 < left → Reads idC v i ok next (λ w. w ≡ y) → cmpL z y ≡ 1 → true ≡ among? z (listAt idC n v at)
+  unfolding amongF
+  among-stop h r e = let t = here x h r in stop x t (rw (t .is, eq-eqb _ _ e))
+
+  pub among-end : left ≡ 0 → false ≡ among? z (listAt idC n v at)
+  unfolding amongF
+  among-end e = end x e
+
+unfoldable pub usedF : Id → Unit {0} → List Rec → Bool
+usedF x u l = used? x l
+
+module _ (hex : Bool) (z : Id) {s : Bytes} {n at i left : ℕ} (x : Scan (formC hex recC) (usedF z) s n at tt i left tt) where
+  pub used-go : {m j : ℕ} {ok b : Bool} {y : Seen} → 0 < left → ReadsRec hex s i ok m y → j ≡ afterIn hex s i m → b ≡ among? z (listAt idC (y .facts .ins) (view hex s i) (y .at)) → b ≡ false → Scan (formC hex recC) (usedF z) s n at tt j (left - 1) tt
+  unfolding used? usedF
+  used-go h r g e f = let t = see hex x h r g in on x tt h t (rw (← (t .is .0 .insList), ← e, f))
+
+  pub used-stop : {m : ℕ} {ok b : Bool} {y : Seen} → 0 < left → ReadsRec hex s i ok m y → b ≡ among? z (listAt idC (y .facts .ins) (view hex s i) (y .at)) → b ≡ true → true ≡ used? z (listAt (formC hex recC) n s at)
+  unfolding used? usedF
+  used-stop h r e f = let t = seen hex x h r in stop x t (rw (← (t .is .0 .insList), ← e, f))
+
+  pub used-end : left ≡ 0 → false ≡ used? z (listAt (formC hex recC) n s at)
+  unfolding used? usedF
+  used-end e = end x e
+
+unfoldable pub clashF : List Rec → Unit {0} → List Id → Bool
+clashF l u i = clash? i l
+
+module _ (l : List Rec) {v : Bytes} {n at i left : ℕ} (x : Scan idC (clashF l) v n at tt i left tt) where
+  pub clash-go : {next : ℕ} {ok b : Bool} {y : Id} → 0 < left → Reads idC v i ok next (λ w. w ≡ y) → b ≡ used? y l → b ≡ false → Scan idC (clashF l) v n at tt next (left - 1) tt
+  unfolding clash? clashF
+  clash-go h r e f = let t = here x h r in on x tt h t (rw (t .is, ← e, f))
+
+  pub clash-stop : {next : ℕ} {ok b : Bool} {y : Id} → 0 < left → Reads idC v i ok next (λ w. w ≡ y) → b ≡ used? y l → b ≡ true → true ≡ clash? (listAt idC n v at) l
+  unfolding clash? clashF
+  clash-stop h r e f = let t = here x h r in stop x t (rw (t .is, ← e, f))
+
+  pub clash-end : left ≡ 0 → false ≡ clash? (listAt idC n v at) l
+  unfolding clash? clashF
+  clash-end e = end x e
+
+unfoldable pub apartF : Unit {0} → List Rec → Bool
+apartF u l = apart? l
+
+module _ (hex : Bool) {s : Bytes} {n at i left : ℕ} (x : Scan (formC hex recC) apartF s n at tt i left tt) where
+  pub apart-go : {m j : ℕ} {ok b : Bool} {y : Seen} → 0 < left → ReadsRec hex s i ok m y → j ≡ afterIn hex s i m → b ≡ clash? (listAt idC (y .facts .ins) (view hex s i) (y .at)) (listAt (formC hex recC) (left - 1) s j) → b ≡ false → Scan (formC hex recC) apartF s n at tt j (left - 1) tt
+  unfolding apart? apartF
+  apart-go h r g e f = let t = see hex x h r g in on x tt h t (rw (← (t .is .0 .insList), ← e, f))
+
+  pub apart-stop : {m j : ℕ} {ok b : Bool} {y : Seen} → 0 < left → ReadsRec hex s i ok m y → j ≡ afterIn hex s i m → b ≡ clash? (listAt idC (y .facts .ins) (view hex s i) (y .at)) (listAt (formC hex recC) (left - 1) s j) → b ≡ true → false ≡ apart? (listAt (formC hex recC) n s at)
+  unfolding apart? apartF
+  apart-stop h r g e f = let t = see hex x h r g in stop x t (rw (← (t .is .0 .insList), ← e, f))
+
+  pub apart-end : left ≡ 0 → true ≡ apart? (listAt (formC hex recC) n s at)
+  unfolding apart? apartF
+  apart-end e = end x e
+
+-- ---- distinct finish numbers
+unfoldable pub distinctF : Unit {0} → List Rec → Bool
+distinctF u l = distinct? l
+
+pub stamped-sum : (n : ℕ) (l : List Rec) → sum (Stamped (record { 0 = n })) l ≡ count (stamped? n) l
+unfolding sum weight factsOf stampedF
+stamped-sum n l = refl
+
+module _ (hex : Bool) {s : Bytes} {n at i left : ℕ} (x : Scan (formC hex recC) distinctF s n at tt i left tt) where
+  holds : {m : ℕ} {ok : Bool} {y : Seen} (h : 0 < left) (r : ReadsRec hex s i ok m y) → holder? (seen hex x h r .item) ≡ y .facts .holder
+  unfolding factsOf
+  holds h r = sym (ap (λ v. v .holder) (seen hex x h r .is .0 .facts))
+
+  stamp : {m : ℕ} {ok : Bool} {y : Seen} (h : 0 < left) (r : ReadsRec hex s i ok m y) → seen hex x h r .item .finish ≡ y .facts .finish .0
+  unfolding factsOf
+  stamp h r = sym (ap (λ v. v .finish .0) (seen hex x h r .is .0 .facts))
+
+  step : {m : ℕ} {ok : Bool} {y : Seen} (h : 0 < left) (r : ReadsRec hex s i ok m y) (j : ℕ) → distinct? (seen hex x h r .item ∷ listAt (formC hex recC) (left - 1) s j) ≡ ((y .facts .holder || eqb (sum (Stamped (y .facts .finish)) (listAt (formC hex recC) (left - 1) s j)) 0) && distinct? (listAt (formC hex recC) (left - 1) s j))
+  unfolding distinct?
+  step {y = y} h r j = rw (holds h r, stamp h r, stamped-sum (y .facts .finish .0) (listAt (formC hex recC) (left - 1) s j))
+
+  pub distinct-held : {m j : ℕ} {ok : Bool} {y : Seen} → 0 < left → ReadsRec hex s i ok m y → j ≡ afterIn hex s i m → y .facts .holder ≡ true → Scan (formC hex recC) distinctF s n at tt j (left - 1) tt
+  unfolding distinctF
+  distinct-held {j = j} h r g e = rw g (on x tt h (seen hex x h r) (step h r (afterIn hex s i _) ∙ rw e))
+
+  pub distinct-go : {m j k : ℕ} {ok : Bool} {y : Seen} → 0 < left → ReadsRec hex s i ok m y → j ≡ afterIn hex s i m → y .facts .holder ≡ false → k ≡ sum (Stamped (y .facts .finish)) (listAt (formC hex recC) (left - 1) s j) → k ≡ 0 → Scan (formC hex recC) distinctF s n at tt j (left - 1) tt
+  unfolding distinctF
+  distinct-go {m} {j} {k} {ok} {y} h r g e f z = rw g (on x tt h (seen hex x h r) (step h r (afterIn hex s i _) ∙ rw (e, eq-eqb (sum (Stamped (y .facts .finish)) (listAt (formC hex recC) (left - 1) s (afterIn hex s i m))) 0 (ap (λ w. sum (Stamped (y .facts .finish)) (listAt (formC hex recC) (left - 1) s w)) (sym g) ∙ sym f ∙ z))))
+
+  pub distinct-stop : {m j k : ℕ} {ok : Bool} {y : Seen} → 0 < left → ReadsRec hex s i ok m y → j ≡ afterIn hex s i m → y .facts .holder ≡ false → k ≡ sum (Stamped (y .facts .finish)) (listAt (formC hex recC) (left - 1) s j) → (k ≡ 0 → ⊥) → false ≡ distinct? (listAt (formC hex recC) n s at)
+  unfolding distinctF
+  distinct-stop {m} {j} {k} {ok} {y} h r g e f z = stop x (seen hex x h r) (step h r (afterIn hex s i _) ∙ rw (e, ne-eqb (sum (Stamped (y .facts .finish)) (listAt (formC hex recC) (left - 1) s (afterIn hex s i m))) 0 (λ w. z (f ∙ ap (λ w. sum (Stamped (y .facts .finish)) (listAt (formC hex recC) (left - 1) s w)) g ∙ w))))
+
+  pub distinct-end : left ≡ 0 → true ≡ distinct? (listAt (formC hex recC) n s at)
+  unfolding distinct? distinctF
+  distinct-end e = end x e
+
+-- ---- zeros
+zero-cut : (s : Bytes) (i to : ℕ) → i < to → to ≤ length s → zero? (take (to - i) (drop i s)) ≡ cond (eqb (getD s i 0) 0) (zero? (take (to - (i + 1)) (drop (i + 1) s))) false
+unfolding zero?
+zero-cut s i to h k = let e : to - i ≡ suc (to - (i + 1)) = omega arith in rw (drop-cons s i 0 (omega arith), e, add-one)
+
+pub zero-go : (s : Bytes) (i to : ℕ) {b : Bool} → i < to → to ≤ length s → getD s i 0 ≡ 0 → zero? (take (to - i) (drop i s)) ≡ b → zero? (take (to - (i + 1)) (drop (i + 1) s)) ≡ b
+zero-go s i to h k z e = sym (zero-cut s i to h k ∙ rw (eq-eqb _ _ z)) ∙ e
+
+pub zero-stop : (s : Bytes) (i to : ℕ) {b : Bool} → i < to → to ≤ length s → (getD s i 0 ≡ 0 → ⊥) → zero? (take (to - i) (drop i s)) ≡ b → false ≡ b
+zero-stop s i to h k z e = sym (zero-cut s i to h k ∙ rw (ne-eqb _ _ z)) ∙ e
+
+pub zero-end : (s : Bytes) (i to : ℕ) {b : Bool} → to ≤ i → zero? (take (to - i) (drop i s)) ≡ b → true ≡ b
+unfolding zero?
+zero-end s i to h e = let z : to - i ≡ 0 = omega arith in rw z at e

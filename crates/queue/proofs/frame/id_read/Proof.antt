@@ -1,0 +1,26 @@
+use mathlib.Core.Path.{_≡_, refl, sym, ap, _∙_}
+use native.Mathlib.Omega.{arith}
+use Rattle.queue.specs.ReadLaws.{spans-id}
+use Rattle.queue.proofs.FrameLaws.{id-good, span-bad}
+use borrow.Author.Needs.{needs}
+use Rattle.queue.proofs.frame.id_read.Statement.{statement}
+use Rattle.queue.proofs.frame.id_read.Tie as tie
+use Rattle.queue.proofs.frame.id_read.Reads as reads
+use Rattle.queue.proofs.frame.id_read.Lts as lts
+use Rattle.queue.proofs.frame.span.Reads as span-reads
+use Rattle.queue.proofs.view.id_at.Reads as id-at-reads
+
+span-requires : tie.Need-span-requires
+span-requires c κs = search needs
+
+id-at-requires : tie.Need-id-at-requires
+id-at-requires c κs = c .before .span .ensures .good (c .if1 .taken) .1
+
+returns : tie.Need-returns
+returns c = id-good (c .before .before .span .ensures) (c .before .if1 .taken) (c .id-at .ensures)
+
+returns-2 : tie.Need-returns-2
+returns-2 c = span-bad spans-id (c .before .span .ensures) (c .if1 .left)
+
+pub id-read-spec : {M : Type 1} → statement M
+id-read-spec = tie.close (tie.spec span-requires id-at-requires returns returns-2)

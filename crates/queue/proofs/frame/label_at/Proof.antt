@@ -1,0 +1,30 @@
+use mathlib.Core.Path.{_≡_, refl, sym, ap, _∙_}
+use native.Mathlib.Omega.{arith}
+use Rattle.queue.proofs.FrameLaws.{label-some, label-none}
+use borrow.Author.Needs.{needs}
+use Rattle.queue.proofs.frame.label_at.Statement.{statement}
+use Rattle.queue.proofs.frame.label_at.Tie as tie
+use Rattle.queue.proofs.frame.label_at.Reads as reads
+use Rattle.queue.proofs.frame.label_at.Lts as lts
+use Rattle.queue.proofs.frame.counted.Reads as counted-reads
+use Rattle.queue.proofs.frame.flag_at.Reads as flag-at-reads
+use Rattle.queue.proofs.logic.both.Reads as both-reads
+
+flag-at-requires : tie.Need-flag-at-requires
+flag-at-requires c κs = search needs
+
+counted-requires : tie.Need-counted-requires
+counted-requires c κs = search needs
+
+both-requires : tie.Need-both-requires
+both-requires c κs = search needs
+
+returns : tie.Need-returns
+returns c = label-some (c .before .before .before .flag-at .ensures) (c .before .before .if1 .taken) (c .before .counted .ensures) (c .both .ensures)
+
+returns-2 : tie.Need-returns-2
+returns-2 c = label-none (c .before .flag-at .ensures) (c .if1 .left)
+
+pub label-at-spec : {M : Type 1} → statement M
+label-at-spec =
+    tie.close (tie.spec flag-at-requires counted-requires both-requires returns returns-2)

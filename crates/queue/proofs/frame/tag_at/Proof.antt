@@ -1,0 +1,31 @@
+use mathlib.Core.Path.{_≡_, refl, sym, ap, _∙_}
+use native.Mathlib.Omega.{arith}
+use Rattle.queue.proofs.FrameLaws.{tag-none, tag-good, tag-other}
+use borrow.Author.Needs.{needs}
+use Rattle.queue.proofs.frame.tag_at.Statement.{statement}
+use Rattle.queue.proofs.frame.tag_at.Tie as tie
+use Rattle.queue.proofs.frame.tag_at.Reads as reads
+use Rattle.queue.proofs.frame.tag_at.Lts as lts
+use Rattle.queue.proofs.view.fetch.Reads as fetch-reads
+use Rattle.queue.proofs.view.size.Reads as size-reads
+
+size-requires : tie.Need-size-requires
+size-requires c κs = search needs
+
+returns : tie.Need-returns
+returns c = tag-none (omega arith)
+
+fetch-requires : tie.Need-fetch-requires
+fetch-requires c κs = search needs
+
+add-t9 : tie.Need-add-t9
+add-t9 c = search needs
+
+returns-2 : tie.Need-returns-2
+returns-2 c = tag-good (omega arith) (c .before .fetch .ensures) (c .if2 .taken)
+
+returns-3 : tie.Need-returns-3
+returns-3 c = tag-other (omega arith) (c .before .fetch .ensures) (c .if2 .left)
+
+pub tag-at-spec : {M : Type 1} → statement M
+tag-at-spec = tie.close (tie.spec size-requires returns fetch-requires add-t9 returns-2 returns-3)

@@ -1,0 +1,21 @@
+use mathlib.Core.Path.{_≡_, refl, sym, ap, _∙_}
+use native.Mathlib.Omega.{arith}
+use mathlib.Core.Bool.{Bool, true, false, _&&_}
+use borrow.Author.Needs.{needs}
+use Rattle.queue.proofs.rules.finish_right.Statement.{statement}
+use Rattle.queue.proofs.rules.finish_right.Tie as tie
+use Rattle.queue.proofs.rules.finish_right.Reads as reads
+use Rattle.queue.proofs.rules.finish_right.Lts as lts
+use Rattle.queue.proofs.logic.both.Reads as both-reads
+
+both-requires : tie.Need-both-requires
+both-requires c κs = search needs
+
+returns : tie.Need-returns
+returns c = rw (c .before .if1 .taken)
+
+returns-2 : tie.Need-returns-2
+returns-2 c = rw (c .before .before .before .before .if1 .left) (c .both .ensures)
+
+pub finish-right-spec : {M : Type 1} → statement M
+finish-right-spec = tie.close (tie.spec both-requires returns returns-2)

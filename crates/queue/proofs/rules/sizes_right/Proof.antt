@@ -1,0 +1,29 @@
+use mathlib.Core.Path.{_≡_, refl, sym, ap, _∙_}
+use native.Mathlib.Omega.{arith}
+use mathlib.Core.Bool.{Bool, true, false, _&&_}
+use borrow.Author.Needs.{needs}
+use Rattle.queue.proofs.rules.sizes_right.Statement.{statement}
+use Rattle.queue.proofs.rules.sizes_right.Tie as tie
+use Rattle.queue.proofs.rules.sizes_right.Reads as reads
+use Rattle.queue.proofs.rules.sizes_right.Lts as lts
+use Rattle.queue.proofs.logic.both.Reads as both-reads
+use Rattle.queue.proofs.logic.either.Reads as either-reads
+
+both-requires : tie.Need-both-requires
+both-requires c κs = search needs
+
+both-requires-2 : tie.Need-both-requires-2
+both-requires-2 c κs = search needs
+
+either-requires : tie.Need-either-requires
+either-requires c κs = search needs
+
+both-requires-3 : tie.Need-both-requires-3
+both-requires-3 c κs = search needs
+
+returns : tie.Need-returns
+returns c = c .both3 .ensures ∙ simp (c .before .either .ensures, c .before .before .before .before .both2 .ensures, c .before .before .before .before .before .both .ensures)
+
+pub sizes-right-spec : {M : Type 1} → statement M
+sizes-right-spec =
+    tie.close (tie.spec both-requires both-requires-2 either-requires both-requires-3 returns)

@@ -1,0 +1,207 @@
+-- What the rules look at in a record, and how what was read stands to the record or the header.
+use mathlib.Core.Path.{_≡_, refl}
+use mathlib.Core.Bool.{Bool, true, false, cond, not, _&&_}
+use mathlib.Core.Option.{Option, none, some}
+use mathlib.Core.List.{List, [], _∷_, _++_}
+use Prim.Native.Nat.{ℕ, zero, suc, _+_, _*_, _^_, _≤_, _<_}
+use lib.ListN.{length, take, drop}
+use Rattle.queue.specs.Codec.{Codec, beC, optC}
+use Rattle.queue.specs.paper.Records.{Bytes, Id, Limits, Terms, Held, Rec}
+use Rattle.queue.specs.paper.Lists.{isSome}
+use Rattle.queue.specs.paper.Sound.{labelLen, inputs, outputs, content}
+use Rattle.queue.specs.Frames.{Head, tagC, idC, termsC, placeC, bodyC, limitsC}
+use Rattle.queue.specs.Reads.{Reads, whole, listAt}
+use Rattle.queue.specs.declared.frame.Time.{Time}
+use Rattle.queue.specs.declared.frame.Height.{Height}
+use Rattle.queue.specs.declared.frame.Finish.{Finish}
+use Rattle.queue.specs.declared.frame.TermsR.{TermsR}
+use Rattle.queue.specs.declared.frame.PlaceR.{PlaceR}
+use Rattle.queue.specs.declared.frame.BodyR.{BodyR}
+use Rattle.queue.specs.declared.frame.RestR.{RestR}
+use Rattle.queue.specs.declared.frame.Facts.{Facts}
+use Rattle.queue.specs.declared.frame.Seen.{Seen}
+use Rattle.queue.specs.declared.frame.Lim.{Lim}
+use Rattle.queue.specs.declared.frame.HeadR.{HeadR}
+
+-- a number, 0 where there is none
+abbrev pub optNum : Option ℕ → ℕ
+optNum none = 0
+optNum (some n) = n
+
+abbrev pub placeHeight : Option (ℕ × Id) → ℕ
+placeHeight none = 0
+placeHeight (some p) = p .0
+
+unfoldable pub factsOf : Rec → Facts
+factsOf r = record {
+  state = r .state;
+  reason = r .reason;
+  created = record { 0 = r .terms .created };
+  timed = isSome (r .terms .due);
+  due = record { 0 = optNum (r .terms .due) };
+  heighted = isSome (r .terms .dueHeight);
+  dueheight = record { 0 = optNum (r .terms .dueHeight) };
+  priority = r .terms .priority;
+  label = labelLen (r .terms .label);
+  size = r .terms .size;
+  placed = isSome (r .place);
+  mined = record { 0 = placeHeight (r .place) };
+  mark = r .mark;
+  finish = record { 0 = r .finish };
+  holder = isSome (r .body);
+  ins = length (inputs (r .body));
+  outs = length (outputs (r .body));
+  bytes = length (content (r .body));
+}
+
+-- ---- what the parts' readers ensure
+
+-- the byte n
+abbrev pub TagAt : ℕ → Bytes → ℕ → Bool → ℕ → Type 0
+TagAt n s at ok next = (h : n < 256) → Reads (tagC n h) s at ok next (λ u. Unit {0})
+
+-- a number of n bytes
+abbrev pub NumAt : ℕ → Bytes → ℕ → Bool → ℕ → ℕ → Type 0
+NumAt n s at ok next v = Reads (beC n) s at ok next (λ x. x ≡ v) × (v < 256 ^ n)
+
+-- a flag and such a number
+abbrev pub OptAt : ℕ → Bytes → ℕ → Bool → ℕ → Bool → ℕ → Type 0
+OptAt n s at ok next has v = Reads (optC (beC n)) s at ok next (λ o. (isSome o ≡ has) × (optNum o ≡ v)) × (v < 256 ^ n)
+
+pub record PlaceAs (x : PlaceR) (o : Option (ℕ × Id)) : Type 0 where
+  pub has : isSome o ≡ x .has
+  pub height : placeHeight o ≡ x .height .0
+  pub small : x .height .0 < 4294967296
+
+pub record TermsAs (x : TermsR) (t : Terms) : Type 0 where
+  pub created : t .created ≡ x .created .0
+  pub timed : isSome (t .due) ≡ x .timed
+  pub due : optNum (t .due) ≡ x .due .0
+  pub heighted : isSome (t .dueHeight) ≡ x .heighted
+  pub dueheight : optNum (t .dueHeight) ≡ x .dueheight .0
+  pub priority : t .priority ≡ x .priority
+  pub label : labelLen (t .label) ≡ x .label
+  pub size : t .size ≡ x .size
+  pub createdSmall : x .created .0 < 18446744073709551616
+  pub dueSmall : x .due .0 < 18446744073709551616
+  pub dueheightSmall : x .dueheight .0 < 4294967296
+  pub prioritySmall : x .priority < 4294967296
+  pub labelSmall : x .label < 256
+  pub sizeSmall : x .size < 4294967296
+
+pub record BodyAs (v : Bytes) (x : BodyR) (o : Option Held) : Type 0 where
+  pub holder : isSome o ≡ x .holder
+  pub ins : length (inputs o) ≡ x .ins
+  pub outs : length (outputs o) ≡ x .outs
+  pub bytes : length (content o) ≡ x .bytes
+  pub insAll : whole idC (x .ins) v (x .at) ≡ true
+  pub insList : listAt idC (x .ins) v (x .at) ≡ inputs o
+  pub insIn : x .at ≤ length v
+  pub outsAll : whole idC (x .outs) v (x .to) ≡ true
+  pub outsList : listAt idC (x .outs) v (x .to) ≡ outputs o
+  pub outsIn : x .to ≤ length v
+  pub signed : take (x .bytes) (drop (x .content) v) ≡ content o
+  pub signedIn : x .content + x .bytes ≤ length v
+  pub insSmall : x .ins < 65536
+  pub outsSmall : x .outs < 65536
+  pub bytesSmall : x .bytes < 4294967296
+
+-- x was read from v at `at`, and says of what stands behind the terms
+pub record RestAs (v : Bytes) (at : ℕ) (x : RestR) (t : Option (ℕ × Id) × (ℕ × (ℕ × Option Held))) : Type 0 where
+  pub placed : isSome (t .0) ≡ x .placed
+  pub mined : placeHeight (t .0) ≡ x .mined .0
+  pub mark : t .1 .0 ≡ x .mark
+  pub finish : t .1 .1 .0 ≡ x .finish .0
+  pub held : BodyAs v (x .held) (t .1 .1 .1)
+  pub place : drop at v ≡ placeC .enc (t .0) ++ drop (x .marks) v
+  pub marks : drop (x .marks) v ≡ beC 1 .enc (t .1 .0) ++ (beC 8 .enc (t .1 .1 .0) ++ drop (x .body) v)
+  pub body : drop (x .body) v ≡ bodyC .enc (t .1 .1 .1) ++ drop (x .next) v
+  pub up : at ≤ x .marks
+  pub bodyAt : x .body ≡ x .marks + 9
+  pub upBody : x .marks + 10 ≤ x .next
+  pub end : x .next ≤ length v
+  pub minedSmall : x .mined .0 < 4294967296
+  pub markSmall : x .mark < 256
+  pub finishSmall : x .finish .0 < 18446744073709551616
+
+-- ---- a record
+
+pub record Bounded (f : Facts) : Type 0 where
+  pub state : f .state < 256
+  pub reason : f .reason < 256
+  pub created : f .created .0 < 18446744073709551616
+  pub due : f .due .0 < 18446744073709551616
+  pub dueheight : f .dueheight .0 < 4294967296
+  pub priority : f .priority < 4294967296
+  pub label : f .label < 256
+  pub size : f .size < 4294967296
+  pub mined : f .mined .0 < 4294967296
+  pub mark : f .mark < 256
+  pub finish : f .finish .0 < 18446744073709551616
+  pub ins : f .ins < 65536
+  pub outs : f .outs < 65536
+  pub bytes : f .bytes < 4294967296
+
+-- x was read from v, and says of r: its id, its facts, and where its parts stand
+pub record SeenAs (v : Bytes) (x : Seen) (r : Rec) : Type 0 where
+  pub id : x .id ≡ r .id
+  pub facts : x .facts ≡ factsOf r
+  pub small : Bounded (x .facts)
+  pub terms : drop 35 v ≡ termsC .enc (r .terms) ++ drop (x .after) v
+  pub place : drop (x .after) v ≡ placeC .enc (r .place) ++ drop (x .mark) v
+  pub marks : drop (x .mark) v ≡ beC 1 .enc (r .mark) ++ (beC 8 .enc (r .finish) ++ drop (x .body) v)
+  pub body : drop (x .body) v ≡ bodyC .enc (r .body) ++ drop (x .size) v
+  pub up : 35 ≤ x .after
+  pub upPlace : x .after ≤ x .mark
+  pub bodyAt : x .body ≡ x .mark + 9
+  pub upBody : x .mark + 10 ≤ x .size
+  pub end : x .size ≤ length v
+  pub insAll : whole idC (x .facts .ins) v (x .at) ≡ true
+  pub insList : listAt idC (x .facts .ins) v (x .at) ≡ inputs (r .body)
+  pub insIn : x .at ≤ length v
+  pub outsAll : whole idC (x .facts .outs) v (x .outs) ≡ true
+  pub outsList : listAt idC (x .facts .outs) v (x .outs) ≡ outputs (r .body)
+  pub outsIn : x .outs ≤ length v
+  pub signed : take (x .facts .bytes) (drop (x .content) v) ≡ content (r .body)
+  pub signedIn : x .content + x .facts .bytes ≤ length v
+
+-- ---- a header
+
+pub record LimAs (x : Lim) (m : Limits) : Type 0 where
+  pub P : m .P ≡ x .p
+  pub B : m .B ≡ x .b
+  pub T : m .T ≡ x .t
+  pub K : m .K ≡ x .k
+  pub pSmall : x .p < 4294967296
+  pub bSmall : x .b < 4294967296
+  pub tSmall : x .t < 4294967296
+  pub kSmall : x .k < 4294967296
+
+-- x was read from v, and says of h: its numbers, and where its parts stand
+pub record HeadAs (v : Bytes) (x : HeadR) (h : Head) : Type 0 where
+  pub P : h .limits .P ≡ x .p
+  pub B : h .limits .B ≡ x .b
+  pub T : h .limits .T ≡ x .t
+  pub K : h .limits .K ≡ x .k
+  pub revision : h .revision ≡ x .revision
+  pub cursor : h .cursor ≡ x .cursor .0
+  pub tip : isSome (h .tip) ≡ x .tip
+  pub counter : h .counter ≡ x .counter .0
+  pub count : h .count ≡ x .count
+  pub limits : drop 1 v ≡ limitsC .enc (h .limits) ++ drop 17 v
+  pub revisionAt : drop 17 v ≡ beC 8 .enc (h .revision) ++ drop 25 v
+  pub marks : drop (x .marks) v ≡ (beC 4 .enc (h .cursor) ++ optC idC .enc (h .tip)) ++ drop (x .after) v
+  pub counterAt : drop (x .after) v ≡ beC 8 .enc (h .counter) ++ (beC 4 .enc (h .count) ++ drop (x .size) v)
+  pub marksAt : x .marks ≡ 25
+  pub up : 30 ≤ x .after
+  pub most : x .after ≤ 62
+  pub sizeAt : x .size ≡ x .after + 12
+  pub end : x .size ≤ length v
+  pub pSmall : x .p < 4294967296
+  pub bSmall : x .b < 4294967296
+  pub tSmall : x .t < 4294967296
+  pub kSmall : x .k < 4294967296
+  pub revisionSmall : x .revision < 18446744073709551616
+  pub cursorSmall : x .cursor .0 < 4294967296
+  pub counterSmall : x .counter .0 < 18446744073709551616
+  pub countSmall : x .count < 4294967296

@@ -1,0 +1,46 @@
+-- The rules of document 01 on what was read of a record.
+use mathlib.Core.Path.{_≡_, refl}
+use mathlib.Core.Bool.{Bool, true, false, cond, not, _&&_, _||_}
+use mathlib.Core.Option.{Option, none, some}
+use mathlib.Core.List.{List, [], _∷_}
+use Prim.Native.Nat.{ℕ, _+_}
+use lib.Dec.{ltb, leb, eqb}
+use lib.ListN.{length}
+use Rattle.queue.specs.paper.Records.{Rec}
+use Rattle.queue.specs.paper.Lists.{one, total}
+use Rattle.queue.specs.paper.Sound.{pending?, heldRight?, reasonRight?, placeRight?, markRight?, finishRight?, sizesRight?, right?, holders, heldBytes, minedHolders, minedBytes, tombstones, stamped?}
+use Rattle.queue.specs.paper.Changing.{reached?, due?, higher}
+use Rattle.queue.specs.Facts.{factsOf}
+use Rattle.queue.specs.declared.frame.Facts.{Facts}
+use Rattle.queue.specs.declared.rules.Query.{Query}
+use Rattle.queue.specs.declared.rules.Query.the-variants.{Holders, HeldBytes, MinedHolders, MinedBytes, Tombstones, Wrong, Stamped, Above, Due}
+
+unfoldable pub rightF : ℕ → ℕ → Facts → Bool
+rightF k c f =
+    ((heldRight? (f .state) (f .holder) && reasonRight? (f .state) (f .reason))
+    && (placeRight? (f .state) (f .placed) && markRight? (f .state) (f .holder) (f .mark)))
+    && (finishRight? c (f .holder) (f .finish .0) && sizesRight? k (f .label) (f .ins) (f .outs) (f .holder) (f .size) (f .bytes))
+
+unfoldable pub dueF : ℕ → ℕ → Facts → Bool
+dueF now height f = pending? (f .state) && ((f .timed && leb (f .due .0) now) || (f .heighted && leb (f .dueheight .0) height))
+
+unfoldable pub stampedF : ℕ → Facts → Bool
+stampedF n f = not (f .holder) && eqb (f .finish .0) n
+
+unfoldable pub aboveF : ℕ → Facts → Bool
+aboveF n f = not (f .holder) && ltb n (f .finish .0)
+
+-- what a record counts for
+unfoldable pub weight : Query → Facts → ℕ
+weight Holders f = one (f .holder)
+weight HeldBytes f = f .bytes
+weight MinedHolders f = one (eqb (f .state) 2 && f .holder)
+weight MinedBytes f = cond (eqb (f .state) 2) (f .bytes) 0
+weight Tombstones f = one (not (f .holder))
+weight (Wrong k c) f = one (not (rightF k (c .0) f))
+weight (Stamped n) f = one (stampedF (n .0) f)
+weight (Above n) f = one (aboveF (n .0) f)
+weight (Due t h) f = one (dueF (t .0) (h .0) f)
+
+unfoldable pub sum : Query → List Rec → ℕ
+sum q l = total (λ r. weight q (factsOf r)) l

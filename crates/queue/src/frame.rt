@@ -1,0 +1,564 @@
+// The frames of a header and of a record, read from a view. Every reader is total: what is short or bad has `ok` false.
+use super::logic::all4;
+use super::logic::all8;
+use super::logic::both;
+use super::view::be;
+use super::view::fetch;
+use super::view::id_at;
+use super::view::size;
+ghost use mathlib.Core.Path.{_≡_};
+ghost use Prim.Native.Nat.{_+_, _≤_, _<_, _^_};
+ghost use lib.ListN.{length};
+ghost use Rattle.queue.specs.Codec.{beC, optC};
+ghost use Rattle.queue.specs.Frames.{idC, labelC, termsC, placeC, bodyC, restC, recC, limitsC, headC};
+ghost use Rattle.queue.specs.Reads.{Reads, Span, OptSpan, Counted, flagC};
+ghost use Rattle.queue.specs.Facts.{TagAt, NumAt, OptAt, PlaceAs, TermsAs, BodyAs, RestAs, SeenAs, LimAs, HeadAs};
+ghost use Rattle.queue.specs.paper.Sound.{labelLen};
+ghost use Rattle.queue.specs.View.{view};
+
+// Milliseconds.
+pub struct Time(pub u64);
+
+// A block's height.
+pub struct Height(pub u64);
+
+// A finish number.
+pub struct Finish(pub u64);
+
+pub struct Part {
+    pub ok: bool,
+    pub next: usize,
+}
+
+pub struct NumR {
+    pub ok: bool,
+    pub value: u64,
+    pub next: usize,
+}
+
+pub struct IdR {
+    pub ok: bool,
+    pub id: [u8; 32],
+    pub next: usize,
+}
+
+pub struct Opt {
+    pub ok: bool,
+    pub has: bool,
+    pub next: usize,
+}
+
+pub struct OptN {
+    pub ok: bool,
+    pub has: bool,
+    pub value: u64,
+    pub next: usize,
+}
+
+pub struct Items {
+    pub ok: bool,
+    pub len: u64,
+    pub start: usize,
+    pub next: usize,
+}
+
+pub struct TermsR {
+    pub ok: bool,
+    pub created: Time,
+    pub timed: bool,
+    pub due: Time,
+    pub heighted: bool,
+    pub dueheight: Height,
+    pub priority: u64,
+    pub label: u64,
+    pub size: u64,
+    pub next: usize,
+}
+
+pub struct PlaceR {
+    pub ok: bool,
+    pub has: bool,
+    pub height: Height,
+    pub next: usize,
+}
+
+// What a holder has: how many inputs, outputs and signed bytes, and where they start.
+pub struct BodyR {
+    pub ok: bool,
+    pub holder: bool,
+    pub ins: u64,
+    pub outs: u64,
+    pub bytes: u64,
+    pub at: usize,
+    pub to: usize,
+    pub content: usize,
+    pub next: usize,
+}
+
+// What stands behind the terms, with where the mark and the holder flag stand.
+pub struct RestR {
+    pub ok: bool,
+    pub placed: bool,
+    pub mined: Height,
+    pub mark: u64,
+    pub finish: Finish,
+    pub held: BodyR,
+    pub marks: usize,
+    pub body: usize,
+    pub next: usize,
+}
+
+// What the rules look at in a record; what is absent is 0.
+pub struct Facts {
+    pub state: u64,
+    pub reason: u64,
+    pub created: Time,
+    pub timed: bool,
+    pub due: Time,
+    pub heighted: bool,
+    pub dueheight: Height,
+    pub priority: u64,
+    pub label: u64,
+    pub size: u64,
+    pub placed: bool,
+    pub mined: Height,
+    pub mark: u64,
+    pub finish: Finish,
+    pub holder: bool,
+    pub ins: u64,
+    pub outs: u64,
+    pub bytes: u64,
+}
+
+// A record read. Its terms stand at 35..after, its place at after..mark, its withdrawn mark at mark, its holder flag at
+// body, its inputs at at, its outputs at outs, its signed bytes at content; the frame ends at size.
+pub struct Seen {
+    pub ok: bool,
+    pub id: [u8; 32],
+    pub facts: Facts,
+    pub after: usize,
+    pub mark: usize,
+    pub body: usize,
+    pub at: usize,
+    pub outs: usize,
+    pub content: usize,
+    pub size: usize,
+}
+
+pub struct Lim {
+    pub ok: bool,
+    pub p: u64,
+    pub b: u64,
+    pub t: u64,
+    pub k: u64,
+    pub next: usize,
+}
+
+// A header read. Its cursor height and tip stand at marks..after, its counter at after; the frame ends at size.
+pub struct HeadR {
+    pub ok: bool,
+    pub p: u64,
+    pub b: u64,
+    pub t: u64,
+    pub k: u64,
+    pub revision: u64,
+    pub cursor: Height,
+    pub tip: bool,
+    pub counter: Finish,
+    pub count: u64,
+    pub marks: usize,
+    pub after: usize,
+    pub size: usize,
+}
+
+// Do n bytes stand at `at`?
+pub fn span(s: &[u8], hex: bool, base: usize, at: usize, n: usize) -> Part
+    ensures { λ r. ⌜ Span (view hex (now (s .entry)) base) at n (r .ok) (r .next) ⌝ }
+{
+    let m = size(s, hex, base);
+    if m < at {
+        return Part { ok: false, next: 0 };
+    }
+    if m - at < n {
+        return Part { ok: false, next: 0 };
+    }
+    Part {
+        ok: true,
+        next: at + n,
+    }
+}
+
+// A number of n bytes.
+pub fn num(s: &[u8], hex: bool, base: usize, at: usize, n: usize) -> NumR
+    requires { ⌜ n ≤ 8 ⌝ }
+    ensures { λ r. ⌜ NumAt n (view hex (now (s .entry)) base) at (r .ok) (r .next) (r .value) ⌝ }
+{
+    let p = span(s, hex, base, at, n);
+    if p.ok {
+        let v = be(s, hex, base, at, n);
+        return NumR {
+            ok: true,
+            value: v,
+            next: p.next,
+        };
+    }
+    NumR {
+        ok: false,
+        value: 0,
+        next: 0,
+    }
+}
+
+pub fn id_read(s: &[u8], hex: bool, base: usize, at: usize) -> IdR
+    ensures { λ r. ⌜ Reads idC (view hex (now (s .entry)) base) at (r .ok) (r .next) (λ v. v ≡ r .id) ⌝ }
+{
+    let p = span(s, hex, base, at, 32);
+    if p.ok {
+        let v = id_at(s, hex, base, at);
+        return IdR {
+            ok: true,
+            id: v,
+            next: p.next,
+        };
+    }
+    IdR {
+        ok: false,
+        id: [0u8; 32],
+        next: 0,
+    }
+}
+
+// The byte n, which says what stands behind it.
+pub fn tag_at(s: &[u8], hex: bool, base: usize, at: usize, n: u8) -> Part
+    ensures { λ r. ⌜ TagAt n (view hex (now (s .entry)) base) at (r .ok) (r .next) ⌝ }
+{
+    if size(s, hex, base) <= at {
+        return Part { ok: false, next: 0 };
+    }
+    let b = fetch(s, hex, base, at);
+    if b == n {
+        return Part {
+            ok: true,
+            next: at + 1,
+        };
+    }
+    Part { ok: false, next: 0 }
+}
+
+pub fn flag_at(s: &[u8], hex: bool, base: usize, at: usize) -> Opt
+    ensures { λ r. ⌜ Reads flagC (view hex (now (s .entry)) base) at (r .ok) (r .next) (λ b. r .has ≡ b) ⌝ }
+{
+    if size(s, hex, base) <= at {
+        return Opt {
+            ok: false,
+            has: false,
+            next: 0,
+        };
+    }
+    let b = fetch(s, hex, base, at);
+    if b == 0 {
+        return Opt {
+            ok: true,
+            has: false,
+            next: at + 1,
+        };
+    }
+    if b == 1 {
+        return Opt {
+            ok: true,
+            has: true,
+            next: at + 1,
+        };
+    }
+    Opt {
+        ok: false,
+        has: false,
+        next: 0,
+    }
+}
+
+// A flag, and n bytes if it is 1.
+pub fn opt_span(s: &[u8], hex: bool, base: usize, at: usize, n: usize) -> Opt
+    ensures { λ r. ⌜ OptSpan (view hex (now (s .entry)) base) at n (r .ok) (r .has) (r .next) ⌝ }
+{
+    let f = flag_at(s, hex, base, at);
+    if f.has {
+        let p = span(s, hex, base, f.next, n);
+        let ok = both(f.ok, p.ok);
+        return Opt {
+            ok: ok,
+            has: true,
+            next: p.next,
+        };
+    }
+    Opt {
+        ok: f.ok,
+        has: false,
+        next: f.next,
+    }
+}
+
+// A flag, and a number of n bytes if it is 1.
+pub fn opt_num(s: &[u8], hex: bool, base: usize, at: usize, n: usize) -> OptN
+    requires { ⌜ n ≤ 8 ⌝ }
+    ensures { λ r. ⌜ OptAt n (view hex (now (s .entry)) base) at (r .ok) (r .next) (r .has) (r .value) ⌝ }
+{
+    let f = flag_at(s, hex, base, at);
+    if f.has {
+        let p = num(s, hex, base, f.next, n);
+        let ok = both(f.ok, p.ok);
+        return OptN {
+            ok: ok,
+            has: true,
+            value: p.value,
+            next: p.next,
+        };
+    }
+    OptN {
+        ok: f.ok,
+        has: false,
+        value: 0,
+        next: f.next,
+    }
+}
+
+// A count of w bytes, and as many items of `each` bytes.
+pub fn counted(s: &[u8], hex: bool, base: usize, at: usize, w: usize, each: u64) -> Items
+    requires { ⌜ (w ≤ 4) × (each ≤ 32) ⌝ }
+    ensures { λ r. ⌜ Counted (view hex (now (s .entry)) base) at w each (r .ok) (r .len) (r .start) (r .next) ⌝ }
+{
+    let c = num(s, hex, base, at, w);
+    let n = c.value * each;
+    let p = span(s, hex, base, c.next, n as usize);
+    let ok = both(c.ok, p.ok);
+    Items {
+        ok: ok,
+        len: c.value,
+        start: c.next,
+        next: p.next,
+    }
+}
+
+// The label's length, 0 if there is none.
+pub fn label_at(s: &[u8], hex: bool, base: usize, at: usize) -> NumR
+    ensures { λ r. ⌜ Reads labelC (view hex (now (s .entry)) base) at (r .ok) (r .next) (λ o. (labelLen o ≡ r .value) × (r .value < 256)) ⌝ }
+{
+    let f = flag_at(s, hex, base, at);
+    if f.has {
+        let p = counted(s, hex, base, f.next, 1, 1);
+        let ok = both(f.ok, p.ok);
+        return NumR {
+            ok: ok,
+            value: p.len,
+            next: p.next,
+        };
+    }
+    NumR {
+        ok: f.ok,
+        value: 0,
+        next: f.next,
+    }
+}
+
+pub fn terms_at(s: &[u8], hex: bool, base: usize, at: usize) -> TermsR
+    ensures { λ r. ⌜ Reads termsC (view hex (now (s .entry)) base) at (r .ok) (r .next) (TermsAs r) ⌝ }
+{
+    let a = num(s, hex, base, at, 8);
+    let b = opt_num(s, hex, base, a.next, 8);
+    let c = opt_num(s, hex, base, b.next, 4);
+    let d = num(s, hex, base, c.next, 4);
+    let e = label_at(s, hex, base, d.next);
+    let f = span(s, hex, base, e.next, 8);
+    let g = num(s, hex, base, f.next, 4);
+    let h = span(s, hex, base, g.next, 8);
+    let ok = all8(a.ok, b.ok, c.ok, d.ok, e.ok, f.ok, g.ok, h.ok);
+    TermsR {
+        ok: ok,
+        created: Time(a.value),
+        timed: b.has,
+        due: Time(b.value),
+        heighted: c.has,
+        dueheight: Height(c.value),
+        priority: d.value,
+        label: e.value,
+        size: g.value,
+        next: h.next,
+    }
+}
+
+// The mined place: the height, 0 if there is none; the block's id is passed over.
+pub fn place_at(s: &[u8], hex: bool, base: usize, at: usize) -> PlaceR
+    ensures { λ r. ⌜ Reads placeC (view hex (now (s .entry)) base) at (r .ok) (r .next) (PlaceAs r) ⌝ }
+{
+    let f = flag_at(s, hex, base, at);
+    if f.has {
+        let h = num(s, hex, base, f.next, 4);
+        let p = span(s, hex, base, h.next, 32);
+        let ok = both(f.ok, both(h.ok, p.ok));
+        return PlaceR {
+            ok: ok,
+            has: true,
+            height: Height(h.value),
+            next: p.next,
+        };
+    }
+    PlaceR {
+        ok: f.ok,
+        has: false,
+        height: Height(0),
+        next: f.next,
+    }
+}
+
+pub fn body_at(s: &[u8], hex: bool, base: usize, at: usize) -> BodyR
+    ensures { λ r. ⌜ Reads bodyC (view hex (now (s .entry)) base) at (r .ok) (r .next) (BodyAs (view hex (now (s .entry)) base) r) ⌝ }
+{
+    let f = flag_at(s, hex, base, at);
+    if f.has {
+        let i = counted(s, hex, base, f.next, 2, 32);
+        let o = counted(s, hex, base, i.next, 2, 32);
+        let b = counted(s, hex, base, o.next, 4, 1);
+        let ok = all4(f.ok, i.ok, o.ok, b.ok);
+        return BodyR {
+            ok: ok,
+            holder: true,
+            ins: i.len,
+            outs: o.len,
+            bytes: b.len,
+            at: i.start,
+            to: o.start,
+            content: b.start,
+            next: b.next,
+        };
+    }
+    BodyR {
+        ok: f.ok,
+        holder: false,
+        ins: 0,
+        outs: 0,
+        bytes: 0,
+        at: f.next,
+        to: f.next,
+        content: f.next,
+        next: f.next,
+    }
+}
+
+pub fn rest_at(s: &[u8], hex: bool, base: usize, at: usize) -> RestR
+    ensures { λ r. ⌜ Reads restC (view hex (now (s .entry)) base) at (r .ok) (r .next) (RestAs (view hex (now (s .entry)) base) at r) ⌝ }
+{
+    let a = place_at(s, hex, base, at);
+    let b = num(s, hex, base, a.next, 1);
+    let c = num(s, hex, base, b.next, 8);
+    let d = body_at(s, hex, base, c.next);
+    let ok = all4(a.ok, b.ok, c.ok, d.ok);
+    let mined = a.height;
+    RestR {
+        ok: ok,
+        placed: a.has,
+        mined: mined,
+        mark: b.value,
+        finish: Finish(c.value),
+        held: d,
+        marks: a.next,
+        body: c.next,
+        next: d.next,
+    }
+}
+
+pub fn rec_at(s: &[u8], hex: bool, base: usize) -> Seen
+    ensures { λ r. ⌜ Reads recC (view hex (now (s .entry)) base) 0 (r .ok) (r .size) (SeenAs (view hex (now (s .entry)) base) r) ⌝ }
+{
+    let a = tag_at(s, hex, base, 0, 2);
+    let b = id_read(s, hex, base, a.next);
+    let c = num(s, hex, base, b.next, 1);
+    let d = num(s, hex, base, c.next, 1);
+    let t = terms_at(s, hex, base, d.next);
+    let e = rest_at(s, hex, base, t.next);
+    let h = e.held;
+    let created = t.created;
+    let due = t.due;
+    let dueheight = t.dueheight;
+    let mined = e.mined;
+    let finish = e.finish;
+    let facts = Facts {
+        state: c.value,
+        reason: d.value,
+        created: created,
+        timed: t.timed,
+        due: due,
+        heighted: t.heighted,
+        dueheight: dueheight,
+        priority: t.priority,
+        label: t.label,
+        size: t.size,
+        placed: e.placed,
+        mined: mined,
+        mark: e.mark,
+        finish: finish,
+        holder: h.holder,
+        ins: h.ins,
+        outs: h.outs,
+        bytes: h.bytes,
+    };
+    let ok = all4(a.ok, b.ok, c.ok, all4(d.ok, t.ok, e.ok, true));
+    let id = b.id;
+    Seen {
+        ok: ok,
+        id: id,
+        facts: facts,
+        after: t.next,
+        mark: e.marks,
+        body: e.body,
+        at: h.at,
+        outs: h.to,
+        content: h.content,
+        size: e.next,
+    }
+}
+
+pub fn limits_at(s: &[u8], hex: bool, base: usize, at: usize) -> Lim
+    ensures { λ r. ⌜ Reads limitsC (view hex (now (s .entry)) base) at (r .ok) (r .next) (LimAs r) ⌝ }
+{
+    let a = num(s, hex, base, at, 4);
+    let b = num(s, hex, base, a.next, 4);
+    let c = num(s, hex, base, b.next, 4);
+    let d = num(s, hex, base, c.next, 4);
+    let ok = all4(a.ok, b.ok, c.ok, d.ok);
+    Lim {
+        ok: ok,
+        p: a.value,
+        b: b.value,
+        t: c.value,
+        k: d.value,
+        next: d.next,
+    }
+}
+
+pub fn head_at(s: &[u8], hex: bool, base: usize) -> HeadR
+    ensures { λ r. ⌜ Reads headC (view hex (now (s .entry)) base) 0 (r .ok) (r .size) (HeadAs (view hex (now (s .entry)) base) r) ⌝ }
+{
+    let a = tag_at(s, hex, base, 0, 1);
+    let m = limits_at(s, hex, base, a.next);
+    let r = num(s, hex, base, m.next, 8);
+    let c = num(s, hex, base, r.next, 4);
+    let i = opt_span(s, hex, base, c.next, 32);
+    let f = num(s, hex, base, i.next, 8);
+    let n = num(s, hex, base, f.next, 4);
+    let ok = all4(a.ok, m.ok, r.ok, all4(c.ok, i.ok, f.ok, n.ok));
+    HeadR {
+        ok: ok,
+        p: m.p,
+        b: m.b,
+        t: m.t,
+        k: m.k,
+        revision: r.value,
+        cursor: Height(c.value),
+        tip: i.has,
+        counter: Finish(f.value),
+        count: n.value,
+        marks: r.next,
+        after: i.next,
+        size: n.next,
+    }
+}

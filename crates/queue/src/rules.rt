@@ -1,0 +1,145 @@
+// The rules of one record, on what was read of it, and what a record counts for.
+use super::frame::Facts;
+use super::frame::Finish;
+use super::frame::Height;
+use super::frame::Time;
+use super::logic::both;
+use super::logic::either;
+use super::logic::one_if;
+ghost use mathlib.Core.Path.{_≡_};
+ghost use Prim.Native.Nat.{_≤_, _<_};
+ghost use Rattle.queue.specs.paper.Sound.{pending?, heldRight?, reasonRight?, placeRight?, markRight?, finishRight?, sizesRight?};
+ghost use mathlib.Core.Bool.{_&&_};
+ghost use lib.Dec.{leb};
+ghost use Rattle.queue.specs.Rules.{rightF, dueF, stampedF, aboveF, weight};
+
+// What to count.
+pub enum Query {
+    Holders,
+    HeldBytes,
+    MinedHolders,
+    MinedBytes,
+    Tombstones,
+    Wrong(u64, Finish),
+    Stamped(Finish),
+    Above(Finish),
+    Due(Time, Height),
+}
+
+pub fn pending(state: u64) -> bool
+    ensures { λ r. ⌜ r ≡ pending? state ⌝ }
+{
+    either(state == 0, state == 3)
+}
+
+fn held_right(state: u64, holder: bool) -> bool
+    ensures { λ r. ⌜ r ≡ heldRight? state holder ⌝ }
+{
+    let a = both(pending(state), holder);
+    let b = both(either(state == 4, state == 5), !holder);
+    either(a, either(b, state == 2))
+}
+
+fn reason_right(state: u64, n: u64) -> bool
+    ensures { λ r. ⌜ r ≡ reasonRight? state n ⌝ }
+{
+    let a = both(state == 0, either(n == 0, n == 4));
+    let b = both(state == 3, n == 5);
+    let c = both(state == 2, n == 0);
+    let d = both(state == 4, n == 1);
+    let e = both(state == 5, either(n == 2, n == 3));
+    either(a, either(b, either(c, either(d, e))))
+}
+
+fn place_right(state: u64, placed: bool) -> bool
+    ensures { λ r. ⌜ r ≡ placeRight? state placed ⌝ }
+{
+    if placed { state == 2 } else { !(state == 2) }
+}
+
+fn mark_right(state: u64, holder: bool, mark: u64) -> bool
+    ensures { λ r. ⌜ r ≡ markRight? state holder mark ⌝ }
+{
+    either(mark == 0, both(either(mark == 4, mark == 5), both(state == 2, !holder)))
+}
+
+fn finish_right(counter: Finish, holder: bool, n: Finish) -> bool
+    ensures { λ r. ⌜ r ≡ finishRight? (counter .0) holder (n .0) ⌝ }
+{
+    if holder { n.0 == 0 } else { both(1 <= n.0, n.0 <= counter.0) }
+}
+
+fn sizes_right(k: u64, f: Facts) -> bool
+    ensures { λ r. ⌜ r ≡ sizesRight? k (f .label) (f .ins) (f .outs) (f .holder) (f .size) (f .bytes) ⌝ }
+{
+    both(both(f.label <= 200, both(f.ins <= k, f.outs <= k)), either(!f.holder, f.size == f.bytes))
+}
+
+pub fn right(k: u64, counter: Finish, f: Facts) -> bool
+    ensures { λ r. ⌜ r ≡ rightF k (counter .0) f ⌝ }
+{
+    let n = f.finish;
+    let a = both(held_right(f.state, f.holder), reason_right(f.state, f.reason));
+    let b = both(place_right(f.state, f.placed), mark_right(f.state, f.holder, f.mark));
+    let c = finish_right(counter, f.holder, n);
+    let d = sizes_right(k, f);
+    both(both(a, b), both(c, d))
+}
+
+// Deadlines are compared only with their own kind.
+fn time_reached(timed: bool, due: Time, now: Time) -> bool
+    ensures { λ r. ⌜ r ≡ (timed && leb (due .0) (now .0)) ⌝ }
+{
+    both(timed, due.0 <= now.0)
+}
+
+fn height_reached(heighted: bool, due: Height, height: Height) -> bool
+    ensures { λ r. ⌜ r ≡ (heighted && leb (due .0) (height .0)) ⌝ }
+{
+    both(heighted, due.0 <= height.0)
+}
+
+pub fn due(now: Time, height: Height, f: Facts) -> bool
+    ensures { λ r. ⌜ r ≡ dueF (now .0) (height .0) f ⌝ }
+{
+    let t = f.due;
+    let h = f.dueheight;
+    both(pending(f.state), either(time_reached(f.timed, t, now), height_reached(f.heighted, h, height)))
+}
+
+fn stamped(n: Finish, f: Facts) -> bool
+    ensures { λ r. ⌜ r ≡ stampedF (n .0) f ⌝ }
+{
+    let m = f.finish;
+    both(!f.holder, m.0 == n.0)
+}
+
+fn above(n: Finish, f: Facts) -> bool
+    ensures { λ r. ⌜ r ≡ aboveF (n .0) f ⌝ }
+{
+    let m = f.finish;
+    both(!f.holder, n.0 < m.0)
+}
+
+pub fn weigh(q: Query, f: Facts) -> u64
+    requires { ⌜ f .bytes < 4294967296 ⌝ }
+    ensures { λ r. ⌜ (r ≡ weight q f) × (r < 4294967296) ⌝ }
+{
+    match q {
+        Query::Holders => one_if(f.holder),
+        Query::HeldBytes => f.bytes,
+        Query::MinedHolders => one_if(both(f.state == 2, f.holder)),
+        Query::MinedBytes => {
+            if f.state == 2 {
+                f.bytes
+            } else {
+                0
+            }
+        }
+        Query::Tombstones => one_if(!f.holder),
+        Query::Wrong(k, c) => one_if(!right(k, c, f)),
+        Query::Stamped(n) => one_if(stamped(n, f)),
+        Query::Above(n) => one_if(above(n, f)),
+        Query::Due(t, h) => one_if(due(t, h, f)),
+    }
+}

@@ -1,0 +1,199 @@
+// Loops over the records of a queue, as bytes or as lines of text. Each is one pass; `at` is where the first of n records stands.
+use super::forms::after_in;
+use super::forms::ends_line;
+use super::frame::Finish;
+use super::frame::id_read;
+use super::frame::rec_at;
+use super::logic::both;
+use super::rules::Query;
+use super::rules::weigh;
+use super::view::cmp_id;
+ghost use mathlib.Core.Path.{_≡_};
+ghost use mathlib.Core.Bool.{true, false};
+ghost use Prim.Native.Nat.{_+_, _-_, _*_, _≤_, _<_};
+ghost use lib.ListN.{length, take, drop};
+ghost use Rattle.queue.specs.Frames.{recC, idC};
+ghost use Rattle.queue.specs.Forms.{formC};
+ghost use Rattle.queue.specs.View.{view};
+ghost use Rattle.queue.specs.Reads.{whole, listAt, behind};
+ghost use Rattle.queue.specs.Rules.{sum};
+ghost use Rattle.queue.specs.Areas.{zero?};
+ghost use Rattle.queue.specs.paper.Sound.{rising?, distinct?, among?, used?, clash?, apart?};
+
+pub struct Span {
+    pub ok: bool,
+    pub next: usize,
+}
+
+// The one loop for all counts.
+pub fn tally(s: &[u8], hex: bool, at: usize, n: u64, q: Query) -> u64
+    requires { ⌜ (at ≤ length (now s)) × (whole (formC hex recC) n (now s) at ≡ true) × (n < 4294967296) ⌝ }
+    ensures { λ r. ⌜ (r ≡ sum q (listAt (formC hex recC) n (now (s .entry)) at)) × (r ≤ n * 4294967295) ⌝ }
+{
+    let mut i = at;
+    let mut left = n;
+    let mut total: u64 = 0;
+    while 0 < left {
+        let x = rec_at(s, hex, i);
+        let f = x.facts;
+        total = total + weigh(q, f);
+        i = after_in(s, hex, i, x.size);
+        left = left - 1;
+    }
+    total
+}
+
+// Do n records stand at `at`, and where do they end?
+pub fn frames(s: &[u8], hex: bool, at: usize, n: u64) -> Span
+    requires { ⌜ at ≤ length (now s) ⌝ }
+    ensures { λ r. ⌜ (r .ok ≡ whole (formC hex recC) n (now (s .entry)) at) × (r .ok ≡ true → (drop (r .next) (now (s .entry)) ≡ behind (formC hex recC) n (now (s .entry)) at) × (at ≤ r .next) × (r .next ≤ length (now (s .entry)))) ⌝ }
+{
+    let mut i = at;
+    let mut left = n;
+    while 0 < left {
+        let x = rec_at(s, hex, i);
+        if !x.ok {
+            return Span { ok: false, next: 0 };
+        }
+        if !ends_line(s, hex, i, x.size) {
+            return Span { ok: false, next: 0 };
+        }
+        i = after_in(s, hex, i, x.size);
+        left = left - 1;
+    }
+    Span { ok: true, next: i }
+}
+
+pub fn rising(s: &[u8], hex: bool, at: usize, n: u64) -> bool
+    requires { ⌜ (at ≤ length (now s)) × (whole (formC hex recC) n (now s) at ≡ true) ⌝ }
+    ensures { λ r. ⌜ r ≡ rising? (listAt (formC hex recC) n (now (s .entry)) at) ⌝ }
+{
+    if n == 0 {
+        return true;
+    }
+    let y = rec_at(s, hex, at);
+    let mut prev = y.id;
+    let mut i = after_in(s, hex, at, y.size);
+    let mut left = n - 1;
+    while 0 < left {
+        let x = rec_at(s, hex, i);
+        let id = x.id;
+        if cmp_id(prev, id) != 0 {
+            return false;
+        }
+        prev = id;
+        i = after_in(s, hex, i, x.size);
+        left = left - 1;
+    }
+    true
+}
+
+pub fn distinct(s: &[u8], hex: bool, at: usize, n: u64) -> bool
+    requires { ⌜ (at ≤ length (now s)) × (whole (formC hex recC) n (now s) at ≡ true) × (n < 4294967296) ⌝ }
+    ensures { λ r. ⌜ r ≡ distinct? (listAt (formC hex recC) n (now (s .entry)) at) ⌝ }
+{
+    let mut i = at;
+    let mut left = n;
+    while 0 < left {
+        let x = rec_at(s, hex, i);
+        i = after_in(s, hex, i, x.size);
+        left = left - 1;
+        let f = x.facts;
+        if !f.holder {
+            let m = f.finish;
+            if tally(s, hex, i, left, Query::Stamped(m)) != 0 {
+                return false;
+            }
+        }
+    }
+    true
+}
+
+// Is the id one of the n ids at offset `at` of the frame at base?
+pub fn has_id(s: &[u8], hex: bool, base: usize, at: usize, n: u64, id: [u8; 32]) -> bool
+    requires { ⌜ (at ≤ length (view hex (now s) base)) × (whole idC n (view hex (now s) base) at ≡ true) ⌝ }
+    ensures { λ r. ⌜ r ≡ among? id (listAt idC n (view hex (now (s .entry)) base) at) ⌝ }
+{
+    let mut i = at;
+    let mut left = n;
+    while 0 < left {
+        let x = id_read(s, hex, base, i);
+        let y = x.id;
+        if cmp_id(id, y) == 1 {
+            return true;
+        }
+        i = x.next;
+        left = left - 1;
+    }
+    false
+}
+
+pub fn used_in(s: &[u8], hex: bool, at: usize, n: u64, id: [u8; 32]) -> bool
+    requires { ⌜ (at ≤ length (now s)) × (whole (formC hex recC) n (now s) at ≡ true) ⌝ }
+    ensures { λ r. ⌜ r ≡ used? id (listAt (formC hex recC) n (now (s .entry)) at) ⌝ }
+{
+    let mut i = at;
+    let mut left = n;
+    while 0 < left {
+        let x = rec_at(s, hex, i);
+        let f = x.facts;
+        if has_id(s, hex, i, x.at, f.ins, id) {
+            return true;
+        }
+        i = after_in(s, hex, i, x.size);
+        left = left - 1;
+    }
+    false
+}
+
+// Is one of the m ids at offset `ids` of the frame at base an input of one of the n records at `at`?
+pub fn clashes(s: &[u8], hex: bool, base: usize, ids: usize, m: u64, at: usize, n: u64) -> bool
+    requires { ⌜ (at ≤ length (now s)) × (whole (formC hex recC) n (now s) at ≡ true) × (ids ≤ length (view hex (now s) base)) × (whole idC m (view hex (now s) base) ids ≡ true) ⌝ }
+    ensures { λ r. ⌜ r ≡ clash? (listAt idC m (view hex (now (s .entry)) base) ids) (listAt (formC hex recC) n (now (s .entry)) at) ⌝ }
+{
+    let mut i = ids;
+    let mut left = m;
+    while 0 < left {
+        let x = id_read(s, hex, base, i);
+        let id = x.id;
+        if used_in(s, hex, at, n, id) {
+            return true;
+        }
+        i = x.next;
+        left = left - 1;
+    }
+    false
+}
+
+pub fn apart(s: &[u8], hex: bool, at: usize, n: u64) -> bool
+    requires { ⌜ (at ≤ length (now s)) × (whole (formC hex recC) n (now s) at ≡ true) ⌝ }
+    ensures { λ r. ⌜ r ≡ apart? (listAt (formC hex recC) n (now (s .entry)) at) ⌝ }
+{
+    let mut i = at;
+    let mut left = n;
+    while 0 < left {
+        let x = rec_at(s, hex, i);
+        let j = after_in(s, hex, i, x.size);
+        left = left - 1;
+        let f = x.facts;
+        if clashes(s, hex, i, x.at, f.ins, j, left) {
+            return false;
+        }
+        i = j;
+    }
+    true
+}
+
+pub fn zeros(s: &[u8], from: usize, to: usize) -> bool
+    requires { ⌜ (from ≤ to) × (to ≤ length (now s)) ⌝ }
+    ensures { λ r. ⌜ r ≡ zero? (take (to - from) (drop from (now (s .entry)))) ⌝ }
+{
+    let mut i = from;
+    while i < to {
+        if s[i] != 0 {
+            return false;
+        }
+        i += 1;
+    }
+    true
+}
