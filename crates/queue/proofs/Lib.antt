@@ -3,3 +3,4 @@ pub mod FrameLaws
 pub mod PutLaws
 pub mod Turns
 pub mod ScanLaws
+pub mod OpenLaws

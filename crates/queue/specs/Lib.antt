@@ -12,3 +12,4 @@ pub mod Forms
 pub mod Areas
 pub mod Facts
 pub mod Rules
+pub mod Opens

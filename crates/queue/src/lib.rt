@@ -1,6 +1,9 @@
 // The private transaction queue in a lent area.
+
+pub mod area;
 pub mod forms;
 pub mod frame;
+pub mod limits;
 pub mod logic;
 pub mod put;
 pub mod rules;

@@ -13,9 +13,9 @@ ghost use mathlib.Core.Bool.{true, false};
 ghost use Prim.Native.Nat.{_+_, _-_, _*_, _≤_, _<_};
 ghost use lib.ListN.{length, take, drop};
 ghost use Rattle.queue.specs.Frames.{recC, idC};
-ghost use Rattle.queue.specs.Forms.{formC};
+ghost use Rattle.queue.specs.Forms.{formC, Many};
 ghost use Rattle.queue.specs.View.{view};
-ghost use Rattle.queue.specs.Reads.{whole, listAt, behind};
+ghost use Rattle.queue.specs.Reads.{whole, listAt};
 ghost use Rattle.queue.specs.Rules.{sum};
 ghost use Rattle.queue.specs.Areas.{zero?};
 ghost use Rattle.queue.specs.paper.Sound.{rising?, distinct?, among?, used?, clash?, apart?};
@@ -46,7 +46,7 @@ pub fn tally(s: &[u8], hex: bool, at: usize, n: u64, q: Query) -> u64
 // Do n records stand at `at`, and where do they end?
 pub fn frames(s: &[u8], hex: bool, at: usize, n: u64) -> Span
     requires { ⌜ at ≤ length (now s) ⌝ }
-    ensures { λ r. ⌜ (r .ok ≡ whole (formC hex recC) n (now (s .entry)) at) × (r .ok ≡ true → (drop (r .next) (now (s .entry)) ≡ behind (formC hex recC) n (now (s .entry)) at) × (at ≤ r .next) × (r .next ≤ length (now (s .entry)))) ⌝ }
+    ensures { λ r. ⌜ Many (formC hex recC) (now (s .entry)) at n (r .ok) (r .next) ⌝ }
 {
     let mut i = at;
     let mut left = n;

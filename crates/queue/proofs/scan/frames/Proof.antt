@@ -32,13 +32,13 @@ rec-at-requires : tie.Need-rec-at-requires Inv-loop μ-loop
 rec-at-requires c κs = search needs
 
 returns : tie.Need-returns Inv-loop μ-loop
-returns c = (frames-short (c .before .before .before .before .loop .inv) (c .before .before .before .loop-test .taken) (c .before .before .rec-at .ensures) (not-true _ (c .if1 .taken)), λ t. false-true t)
+returns c = record { is = frames-short (c .before .before .before .before .loop .inv) (c .before .before .before .loop-test .taken) (c .before .before .rec-at .ensures) (not-true _ (c .if1 .taken)); end = λ t. false-true t }
 
 ends-line-requires : tie.Need-ends-line-requires Inv-loop μ-loop
 ends-line-requires c κs = frames-in (c .before .before .before .before .loop .inv) (c .before .before .before .loop-test .taken) (c .before .before .rec-at .ensures) (not-false _ (c .if1 .left))
 
 returns-2 : tie.Need-returns-2 Inv-loop μ-loop
-returns-2 c = (frames-line (c .before .before .before .before .before .before .loop .inv) (c .before .before .before .before .before .loop-test .taken) (c .before .before .before .before .rec-at .ensures) (not-false _ (c .before .before .if1 .left)) (c .before .ends-line .ensures) (not-true _ (c .if2 .taken)), λ t. false-true t)
+returns-2 c = record { is = frames-line (c .before .before .before .before .before .before .loop .inv) (c .before .before .before .before .before .loop-test .taken) (c .before .before .before .before .rec-at .ensures) (not-false _ (c .before .before .if1 .left)) (c .before .ends-line .ensures) (not-true _ (c .if2 .taken)); end = λ t. false-true t }
 
 after-in-requires : tie.Need-after-in-requires Inv-loop μ-loop
 after-in-requires c κs = frames-in (c .before .before .before .before .before .before .loop .inv) (c .before .before .before .before .before .loop-test .taken) (c .before .before .before .before .rec-at .ensures) (not-false _ (c .before .before .if1 .left))
@@ -53,7 +53,7 @@ loop-again : tie.Need-loop-again Inv-loop μ-loop
 loop-again c = frames-go (c .before .before .before .before .before .before .before .loop .inv) (c .before .before .before .before .before .before .loop-test .taken) (c .before .before .before .before .before .rec-at .ensures) (not-false _ (c .before .before .before .if1 .left)) (c .before .before .ends-line .ensures) (not-false _ (c .before .if2 .left)) (c .after-in .ensures)
 
 returns-3 : tie.Need-returns-3 Inv-loop μ-loop
-returns-3 c = let e = frames-end (c .before .loop .inv) (omega arith) in (e .0, λ t. (e .1, c .before .loop .inv .up, c .before .loop .inv .within))
+returns-3 c = let e = frames-end (c .before .loop .inv) (omega arith) in record { is = e .0; end = λ t. (e .1, c .before .loop .inv .up, c .before .loop .inv .within) }
 
 pub frames-spec : {M : Type 1} → statement M
 frames-spec =

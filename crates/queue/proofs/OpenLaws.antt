@@ -1,0 +1,257 @@
+-- A queue found in bytes or in a text: limits, counts, and each exit of its readers. Assumes nothing.
+use mathlib.Core.Path.{_≡_, refl, ap, sym, _∙_}
+use mathlib.Core.Bool.{Bool, true, false, cond, not, _&&_}
+use mathlib.Core.Option.{Option, none, some}
+use mathlib.Core.List.{List, [], _∷_, _++_}
+use Prim.Native.Nat.{ℕ, zero, suc, _+_, _-_, _*_, _≤_, _<_}
+use native.Mathlib.Omega.{arith}
+use native.Mathlib.Nat.{mul-le-mul, zero-add}
+use lib.Dec.{ltb, leb, eqb}
+use lib.ListN.{length, drop, take}
+use borrow.Author.Tests.{leb-true, le-leb, lt-leb, eqb-true, eq-eqb, ne-eqb}
+use Rattle.queue.specs.Codec.{Got, fail, got, _>>=_, Codec, cases, beC, be-length, pairC, pairDec, mapC, decs, vec-bwd}
+use Rattle.queue.specs.Lists.{and-true}
+use Rattle.queue.specs.Frames.{Head, headC, recC}
+use Rattle.queue.specs.Reads.{Reads, whole, listAt, behind, isGot, valOf}
+use Rattle.queue.specs.ReadLaws.{false-true, weaken}
+use Rattle.queue.specs.View.{view}
+use Rattle.queue.specs.Forms.{formC, afterIn, endsLine, Framed, framed, frame-bad, taken, Many, Store, headFor, storeC, store-read, queueC, storeOf, queue-read}
+use Rattle.queue.specs.Areas.{readArea, readGot, zero?, reads-stands, area-found, area-none}
+use Rattle.queue.specs.Facts.{factsOf, HeadAs}
+use Rattle.queue.specs.Rules.{rightF, weight, sum}
+use Rattle.queue.specs.Opens.{limits, StoreAs, heldOk, minedOk, soundL, sound-list, filledBy, FilledAs, AreaAs, AreaIs}
+use Rattle.queue.specs.paper.Records.{Bytes, Limits, Rec, Queue}
+use Rattle.queue.specs.paper.Lists.{one, all?}
+use Rattle.queue.specs.paper.Sound.{inRange, need, holders, heldBytes, minedHolders, minedBytes, tombstones, right?, counts?, rising?, distinct?, apart?, sound?}
+use Rattle.queue.specs.declared.frame.HeadR.{HeadR}
+use Rattle.queue.specs.declared.frame.Finish.{Finish}
+use Rattle.queue.specs.declared.area.Open.{Open}
+use Rattle.queue.specs.declared.area.Area.{Area}
+use Rattle.queue.specs.declared.scan.Span.{Span}
+use Rattle.queue.specs.declared.rules.Query.the-variants.{Holders, HeldBytes, MinedHolders, MinedBytes, Tombstones, Wrong}
+
+-- ---- limits
+pub record Ranged (m : Limits) : Type 0 where
+  pub p1 : 1 ≤ m .P
+  pub p2 : m .P ≤ 1024
+  pub b1 : 1 ≤ m .B
+  pub b2 : m .B ≤ 16777216
+  pub t1 : 1 ≤ m .T
+  pub t2 : m .T ≤ 1024
+  pub k1 : 1 ≤ m .K
+  pub k2 : m .K ≤ 128
+
+pub ranged : (m : Limits) → inRange m ≡ true → Ranged m
+unfolding inRange
+ranged m e =
+    let x = and-true _ _ e in
+    let y = and-true _ _ (x .0) in
+    let z = and-true _ _ (x .1) in
+    let y0 = and-true _ _ (y .0) in
+    let y1 = and-true _ _ (y .1) in
+    let z0 = and-true _ _ (z .0) in
+    let z1 = and-true _ _ (z .1) in
+    record { p1 = leb-true _ _ (y0 .0); p2 = leb-true _ _ (y0 .1); b1 = leb-true _ _ (y1 .0); b2 = leb-true _ _ (y1 .1); t1 = leb-true _ _ (z0 .0); t2 = leb-true _ _ (z0 .1); k1 = leb-true _ _ (z1 .0); k2 = leb-true _ _ (z1 .1) }
+
+-- the product in an area's need is small
+pub product : (p k : ℕ) → p ≤ 1024 → k ≤ 128 → 2 * p * (512 + 64 * k) ≤ 2048 * 8704
+product p k h g = let a : 2 * p ≤ 2048 = omega arith in let b : 512 + 64 * k ≤ 8704 = omega arith in mul-le-mul a b
+
+-- ---- counts
+pub list-length : {A : Type 0} (𝓐 : Codec A) (n : ℕ) (s : Bytes) (at : ℕ) → whole 𝓐 n s at ≡ true → length (listAt 𝓐 n s at) ≡ n
+unfolding whole listAt
+list-length {A} 𝓐 n s at w = go (decs 𝓐 n (drop at s)) refl w
+  where
+    go : (o : Got (List A)) → decs 𝓐 n (drop at s) ≡ o → isGot o ≡ true → length (valOf o) ≡ n
+    go fail p w = false-true w
+    go (got l r) p w = vec-bwd 𝓐 n (drop at s) l r p .1 .1
+
+pub holders-sum : (l : List Rec) → sum Holders l ≡ holders l
+unfolding sum weight factsOf
+holders-sum l = refl
+
+pub bytes-sum : (l : List Rec) → sum HeldBytes l ≡ heldBytes l
+unfolding sum weight factsOf
+bytes-sum l = refl
+
+pub mined-sum : (l : List Rec) → sum MinedHolders l ≡ minedHolders l
+unfolding sum weight factsOf
+mined-sum l = refl
+
+pub minedBytes-sum : (l : List Rec) → sum MinedBytes l ≡ minedBytes l
+unfolding sum weight factsOf
+minedBytes-sum l = refl
+
+pub tombs-sum : (l : List Rec) → sum Tombstones l ≡ tombstones l
+unfolding sum weight factsOf
+tombs-sum l = refl
+
+right-facts : (k c : ℕ) (r : Rec) → rightF k c (factsOf r) ≡ right? k c r
+unfolding rightF factsOf right?
+right-facts k c r = refl
+
+pub right-sum : (k : ℕ) (c : Finish) (l : List Rec) → eqb (sum (Wrong k c) l) 0 ≡ all? (right? k (c .0)) l
+unfolding sum weight
+right-sum k c [] = refl
+right-sum k c (r ∷ l) = let i = right-sum k c l in cases (right? k (c .0) r)
+    (λ t. rw (right-facts k (c .0) r, t, zero-add) i)
+    (λ t. rw (right-facts k (c .0) r, t) (ne-eqb (1 + sum (Wrong k c) l) 0 (λ e. omega arith)))
+
+pub held-is : (p b t : ℕ) {h i n : ℕ} (l : List Rec) → h ≡ sum Holders l → i ≡ sum HeldBytes l → length l ≡ n → (leb n (2 * p + t) && (leb h (2 * p) && leb i (2 * b))) ≡ heldOk p b t l
+unfolding heldOk
+held-is p b t l e f g = rw (e, f, ← g, holders-sum, bytes-sum)
+
+pub mined-is : (p b t : ℕ) {h i m : ℕ} (l : List Rec) → h ≡ sum MinedHolders l → i ≡ sum MinedBytes l → m ≡ sum Tombstones l → ((leb h p && leb i b) && leb m t) ≡ minedOk p b t l
+unfolding minedOk
+mined-is p b t l e f g = rw (e, f, g, mined-sum, minedBytes-sum, tombs-sum)
+
+pub sound-out : (m : Limits) (c : ℕ) (l : List Rec) → inRange m ≡ false → false ≡ soundL m c l
+unfolding soundL
+sound-out m c l e = rw e
+
+pub sound-in : (p b t k : ℕ) (c : Finish) (l : List Rec) {x y z : Bool} {n : ℕ} → inRange (limits p b t k) ≡ true → x ≡ (heldOk p b t l && minedOk p b t l) → n ≡ sum (Wrong k c) l → y ≡ rising? l → z ≡ (distinct? l && apart? l)
+    → (x && (eqb n 0 && (y && z))) ≡ soundL (limits p b t k) (c .0) l
+unfolding soundL counts? heldOk minedOk
+sound-in p b t k c l r e f g h = rw (r, e, f, right-sum k c l, g, h)
+
+pub sound-range : (m : Limits) (c : ℕ) (l : List Rec) → soundL m c l ≡ true → inRange m ≡ true
+unfolding soundL
+sound-range m c l e = and-true (inRange m) _ e .0
+
+-- ---- a store
+module _ (hex : Bool) (s : Bytes) {base : ℕ} {h : HeadR} (b : base ≤ length s) (r : Reads headC (view hex s base) 0 (h .ok) (h .size) (HeadAs (view hex s base) h)) where
+  pub head-within : h .ok ≡ true → h .size ≤ length (view hex s base)
+  head-within t = r .good (omega arith) t .3
+
+  pub head-start : {e : Bool} {j : ℕ} → h .ok ≡ true → e ≡ endsLine hex s base (h .size) → e ≡ true → j ≡ afterIn hex s base (h .size) → j ≤ length s
+  head-start t e f g = let u = framed hex b r .good b (rw (t, ← e, f)) in rw g (u .4 .1 .after)
+
+  store-fail : (h .ok && endsLine hex s base (h .size)) ≡ false → (W : Store → Type 0) → Reads (storeC hex) s base false 0 W
+  store-fail e W =
+      let v = store-read hex {n₂ = 0} {count = 0} {ok₂ = false} {W = λ h. Unit {0}} (frame-bad hex b r e 0 (λ h. (h .count ≡ 0) × Unit {0})) (λ t. false-true t) in
+      record { good = λ _ t. false-true t; bad = λ k _. v .bad k refl }
+
+  pub store-short : h .ok ≡ false → (W : Store → Type 0) → Reads (storeC hex) s base false 0 W
+  store-short t W = store-fail (rw t) W
+
+  pub store-line : {e : Bool} → h .ok ≡ true → e ≡ endsLine hex s base (h .size) → e ≡ false → (W : Store → Type 0) → Reads (storeC hex) s base false 0 W
+  store-line t e f W = store-fail (rw (t, ← e, f)) W
+
+  pub store-good : {e o : Bool} {j n : ℕ} → h .ok ≡ true → e ≡ endsLine hex s base (h .size) → e ≡ true → j ≡ afterIn hex s base (h .size)
+      → Many (formC hex recC) s j (h .count) o n → Reads (storeC hex) s base o n (StoreAs hex s base (record { ok = o; head = h; start = j; next = n }))
+  store-good {e} {o} {j} {n} t e′ f g m =
+      let k : (h .ok && endsLine hex s base (h .size)) ≡ true = rw (t, ← e′, f) in
+      let u = framed hex b r in
+      let w = weaken (λ a. (a .count ≡ h .count) × (HeadAs (view hex s base) h a × Framed headC hex s base (h .ok) (h .size) a)) u (λ a _ _ _ y. (y .0 .count, y)) in
+      let m′ : Many (formC hex recC) s (afterIn hex s base (h .size)) (h .count) o n = rw g at m in
+      let v = store-read hex w (λ _. m′) in
+      record {
+        good = λ l y. let z = v .good l (rw k y) in let x = m .end y in
+            (z .0, z .1, z .2, z .3, record {
+              head = z .4 .0 .0;
+              frame = z .4 .0 .1;
+              start = g;
+              all = rw g (z .4 .1 .1 .0);
+              list = rw g (sym (z .4 .1 .0));
+              count = z .4 .1 .1 .1;
+              end = x .0;
+              up = x .1;
+              ends = x .2;
+            });
+        bad = λ l y. v .bad l (rw k y);
+      }
+
+-- ---- an area
+pub filled-unsound : {s : Bytes} {x : Open} {b : Bool} → b ≡ soundL (limits (x .head .p) (x .head .b) (x .head .t) (x .head .k)) (x .head .counter .0) (listAt (formC false recC) (x .head .count) s (x .start)) → b ≡ false → FilledAs s x (record { ok = false; next = 0 })
+unfolding filledBy
+filled-unsound e f = record { is = rw (← e, f); next = λ t. false-true t }
+
+module _ {s : Bytes} {x : Open} {b : Bool} {m : ℕ} (e : b ≡ soundL (limits (x .head .p) (x .head .b) (x .head .t) (x .head .k)) (x .head .counter .0) (listAt (formC false recC) (x .head .count) s (x .start))) (t : b ≡ true) (n : m ≡ need (limits (x .head .p) (x .head .b) (x .head .t) (x .head .k))) where
+  pub filled-short : length s < m → FilledAs s x (record { ok = false; next = 0 })
+  unfolding filledBy
+  filled-short h = record { is = rw (← e, t, ← n, lt-leb m (length s) h); next = λ t. false-true t }
+
+  pub filled-over : m ≤ length s → m < x .next → FilledAs s x (record { ok = false; next = 0 })
+  unfolding filledBy
+  filled-over h k = record { is = rw (← e, t, ← n, le-leb m (length s) h, lt-leb (x .next) m k); next = λ t. false-true t }
+
+  pub filled-all : {z : Bool} → m ≤ length s → x .next ≤ m → z ≡ zero? (take (m - x .next) (drop (x .next) s)) → m ≤ 51905024 → FilledAs s x (record { ok = z; next = m })
+  unfolding filledBy
+  filled-all h k z l = record { is = z ∙ rw (← e, t, ← n, le-leb m (length s) h, le-leb (x .next) m k); next = λ _. (n, l) }
+
+view-all : (s : Bytes) → view false s 0 ≡ s
+unfolding view
+view-all s = refl
+
+four-bytes : (a : ℕ) → length (beC 4 .enc a) ≡ 4
+unfolding beC
+four-bytes a = be-length 4 a
+
+-- the persisted height stands in the first four bytes
+pub four : {s : Bytes} {v next : ℕ} {ok : Bool} → Reads (beC 4) (view false s 0) 0 ok next (λ x. x ≡ v) → ok ≡ true → Reads (beC 4) s 0 true 4 (λ x. x ≡ v) × (4 ≤ length s)
+unfolding view
+four {s} {v} {next} r t =
+    let u = r .good (omega arith) t in
+    let z = taken (beC 4) s next (u .0) (u .1) (u .3) in
+    let l : next ≡ 4 = sym (z .0) ∙ four-bytes (u .0) in
+    (record { good = λ h _. (u .0, u .1 ∙ rw l, omega arith, rw (← l) (u .3), u .4); bad = λ h y. false-true (sym y) }, rw (← l) (u .3))
+
+pub area-short : {s : Bytes} {x : Area} {v next : ℕ} {ok : Bool} → Reads (beC 4) (view false s 0) 0 ok next (λ x. x ≡ v) → ok ≡ false → x .ok ≡ false → AreaIs s x
+unfolding readArea queueC mapC pairC pairDec view
+area-short {s} r t e = record { good = λ y. false-true (sym e ∙ y); bad = λ y. let f : beC 4 .dec s ≡ fail = r .bad (omega arith) t in rw f }
+
+filled-parts : (s : Bytes) (from : ℕ) (m : Limits) (c : ℕ) (l : List Rec) → filledBy s from m c l ≡ true → (need m ≤ length s) × (from ≤ need m)
+unfolding filledBy
+filled-parts s from m c l e =
+    let a = and-true (soundL m c l) _ e in
+    let b = and-true (leb (need m) (length s)) _ (a .1) in
+    let d = and-true (leb from (need m)) _ (b .1) in
+    (leb-true _ _ (b .0), leb-true _ _ (d .0))
+
+same-limits : (m : Limits) {p b t k : ℕ} → m .P ≡ p → m .B ≡ b → m .T ≡ t → m .K ≡ k → m ≡ limits p b t k
+same-limits m e f g h = rw (← e, ← f, ← g, ← h)
+
+module _ {s : Bytes} {v next : ℕ} {ok : Bool} {y : Open} (a : Reads (beC 4) (view false s 0) 0 ok next (λ x. x ≡ v)) (t : ok ≡ true) (r : Reads (storeC false) s 4 (y .ok) (y .next) (StoreAs false s 4 y)) where
+  queue : Reads queueC s 0 (y .ok) (y .next) (λ q. (q .persisted ≡ v) × StoreAs false s 4 y (storeOf q))
+  queue = queue-read (four a t .0) r
+
+  pub area-bad : {x : Area} → y .ok ≡ false → x .ok ≡ false → AreaIs s x
+  area-bad f e = record { good = λ z. false-true (sym e ∙ z); bad = λ z. area-none queue f }
+
+  pub store-facts : y .ok ≡ true → (st : Store) × StoreAs false s 4 y st
+  store-facts f = let u = r .good (four a t .1) f in (u .0, u .4)
+
+  the-limits : (q : Queue) → StoreAs false s 4 y (storeOf q) → q .limits ≡ limits (y .head .p) (y .head .b) (y .head .t) (y .head .k)
+  the-limits q w = let h = w .head in same-limits (q .limits) (h .P) (h .B) (h .T) (h .K)
+
+  pub area-good : {x : Area} {f : Span} → y .ok ≡ true → FilledAs s y f → x .ok ≡ f .ok → x .persisted .0 ≡ v → x .open ≡ y → x .need ≡ f .next → AreaIs s x
+  unfolding filledBy
+  area-good {x} {f} o w e1 e2 e3 e4 =
+      let u = area-found queue o in
+      let q = u .0 in
+      let st = u .1 .1 in
+      let m : q .limits ≡ limits (y .head .p) (y .head .b) (y .head .t) (y .head .k) = the-limits q st in
+      let c : q .counter ≡ y .head .counter .0 = st .head .counter in
+      let l : listAt (formC false recC) (y .head .count) s (y .start) ≡ q .recs = st .list in
+      let k : sound? q ≡ soundL (limits (y .head .p) (y .head .b) (y .head .t) (y .head .k)) (y .head .counter .0) (listAt (formC false recC) (y .head .count) s (y .start)) = sound-list q ∙ rw (m, c, l) in
+      let B : readArea s ≡ cond (f .ok) (some q) none = u .2 ∙ rw (k, m) (rw (w .is)) in
+      record {
+        good = λ g.
+            let t₁ : f .ok ≡ true = sym e1 ∙ g in
+            let rd : readArea s ≡ some q = B ∙ rw t₁ in
+            let sd = reads-stands s q rd in
+            let n = w .next t₁ in
+            let z = filled-parts s (y .next) (limits (y .head .p) (y .head .b) (y .head .t) (y .head .k)) (y .head .counter .0) (listAt (formC false recC) (y .head .count) s (y .start)) (sym (w .is) ∙ t₁) in
+            let need-is : x .need ≡ need (q .limits) = e4 ∙ n .0 ∙ ap need (sym m) in
+            (q, rd, record {
+              persisted = u .1 .0 ∙ sym e2;
+              store = rw e3 st;
+              need = need-is;
+              small = rw e4 (n .1);
+              fits = rw (e3, e4, n .0) (z .1);
+              long = rw (e4, n .0) (z .0);
+              sound = sd .sound;
+              range = sd .range;
+            });
+        bad = λ g. B ∙ rw (sym e1 ∙ g);
+      }

@@ -1,0 +1,48 @@
+use mathlib.Core.Path.{_≡_, refl, sym, ap, _∙_}
+use native.Mathlib.Omega.{arith}
+use mathlib.Core.Bool.{Bool, true, false, _&&_}
+use Prim.Native.Nat.{ℕ, _≤_, _+_, _-_, _*_, _<_}
+use borrow.Author.Tests.{not-true, not-false}
+use Rattle.queue.proofs.OpenLaws.{four, area-short, area-bad, store-facts, area-good}
+use borrow.Author.Needs.{needs}
+use Rattle.queue.proofs.area.area_at.Statement.{statement}
+use Rattle.queue.proofs.area.area_at.Tie as tie
+use Rattle.queue.proofs.area.area_at.Reads as reads
+use Rattle.queue.proofs.area.area_at.Lts as lts
+use Rattle.queue.proofs.area.filled.Reads as filled-reads
+use Rattle.queue.proofs.area.no_store.Reads as no-store-reads
+use Rattle.queue.proofs.area.store_at.Reads as store-at-reads
+use Rattle.queue.proofs.frame.num.Reads as num-reads
+
+num-requires : tie.Need-num-requires
+num-requires c κs = search needs
+
+no-store-requires : tie.Need-no-store-requires
+no-store-requires c κs = search needs
+
+returns : tie.Need-returns
+returns c = area-short (c .before .before .before .num .ensures .0) (not-true _ (c .before .if1 .taken)) refl
+
+store-at-requires : tie.Need-store-at-requires
+store-at-requires c κs = four (c .before .before .num .ensures .0) (not-false _ (c .if1 .left)) .1
+
+returns-2 : tie.Need-returns-2
+returns-2 c = area-bad (c .before .before .before .before .before .num .ensures .0) (not-false _ (c .before .before .before .if1 .left)) (c .before .before .store-at .ensures) (not-true _ (c .if2 .taken)) refl
+
+filled-requires : tie.Need-filled-requires
+filled-requires c κs = let w = store-facts (c .before .before .before .before .before .num .ensures .0) (not-false _ (c .before .before .before .if1 .left)) (c .before .before .store-at .ensures) (not-false _ (c .if2 .left)) .1 in (omega (arith, w .up, w .ends), w .all, w .head .countSmall, w .ends)
+
+returns-3 : tie.Need-returns-3
+returns-3 c = area-good (c .before .before .before .before .before .before .num .ensures .0) (not-false _ (c .before .before .before .before .if1 .left)) (c .before .before .before .store-at .ensures) (not-false _ (c .before .if2 .left)) (c .filled .ensures) refl refl refl refl
+
+pub area-at-spec : {M : Type 1} → statement M
+area-at-spec =
+    tie.close
+    (tie.spec
+    num-requires
+    no-store-requires
+    returns
+    store-at-requires
+    returns-2
+    filled-requires
+    returns-3)

@@ -1,0 +1,74 @@
+-- What a queue that was read from bytes or from a text says of the queue.
+use mathlib.Core.Path.{_≡_, refl}
+use mathlib.Core.Bool.{Bool, true, false, cond, not, _&&_}
+use mathlib.Core.Option.{Option, none, some}
+use mathlib.Core.List.{List, [], _∷_, _++_}
+use Prim.Native.Nat.{ℕ, _+_, _*_, _-_, _≤_, _<_}
+use lib.Dec.{leb}
+use lib.ListN.{length, take, drop}
+use Rattle.queue.specs.Codec.{Codec}
+use Rattle.queue.specs.Frames.{headC, recC}
+use Rattle.queue.specs.Reads.{whole, listAt, behind}
+use Rattle.queue.specs.View.{view}
+use Rattle.queue.specs.Forms.{formC, afterIn, Framed, Store, headFor, storeOf, storeC, queueC}
+use Rattle.queue.specs.Areas.{readArea, zero?}
+use Rattle.queue.specs.Facts.{HeadAs}
+use Rattle.queue.specs.paper.Records.{Bytes, Limits, Rec, Queue}
+use Rattle.queue.specs.paper.Lists.{all?}
+use Rattle.queue.specs.paper.Sound.{inRange, need, holders, heldBytes, minedHolders, minedBytes, tombstones, right?, counts?, rising?, distinct?, apart?, sound?}
+use Rattle.queue.specs.declared.area.Open.{Open}
+use Rattle.queue.specs.declared.area.Area.{Area}
+use Rattle.queue.specs.declared.scan.Span.{Span}
+
+abbrev pub limits : ℕ → ℕ → ℕ → ℕ → Limits
+limits p b t k = record { P = p; B = b; T = t; K = k }
+
+-- x was read from s at base, and says of st: its header, and where its records stand
+pub record StoreAs (hex : Bool) (s : Bytes) (base : ℕ) (x : Open) (st : Store) : Type 0 where
+  pub head : HeadAs (view hex s base) (x .head) (headFor st)
+  pub frame : Framed headC hex s base (x .head .ok) (x .head .size) (headFor st)
+  pub start : x .start ≡ afterIn hex s base (x .head .size)
+  pub all : whole (formC hex recC) (x .head .count) s (x .start) ≡ true
+  pub list : listAt (formC hex recC) (x .head .count) s (x .start) ≡ st .recs
+  pub count : length (st .recs) ≡ x .head .count
+  pub end : drop (x .next) s ≡ behind (formC hex recC) (x .head .count) s (x .start)
+  pub up : x .start ≤ x .next
+  pub ends : x .next ≤ length s
+
+-- the rules of a sound queue on its limits, counter and records; the counts in two parts
+unfoldable pub heldOk : ℕ → ℕ → ℕ → List Rec → Bool
+heldOk p b t l = leb (length l) (2 * p + t) && (leb (holders l) (2 * p) && leb (heldBytes l) (2 * b))
+
+unfoldable pub minedOk : ℕ → ℕ → ℕ → List Rec → Bool
+minedOk p b t l = (leb (minedHolders l) p && leb (minedBytes l) b) && leb (tombstones l) t
+
+unfoldable pub soundL : Limits → ℕ → List Rec → Bool
+soundL m counter l =
+    inRange m && (counts? m l && (all? (right? (m .K) counter) l && (rising? l && (distinct? l && apart? l))))
+
+pub sound-list : (q : Queue) → sound? q ≡ soundL (q .limits) (q .counter) (q .recs)
+unfolding sound? soundL
+sound-list q = refl
+
+-- the rules hold, and zeros stand from `from` on up to what the limits need, which is next
+unfoldable pub filledBy : Bytes → ℕ → Limits → ℕ → List Rec → Bool
+filledBy s from m counter l = soundL m counter l && (leb (need m) (length s) && (leb from (need m) && zero? (take (need m - from) (drop from s))))
+
+pub record FilledAs (s : Bytes) (x : Open) (r : Span) : Type 0 where
+  pub is : r .ok ≡ filledBy s (x .next) (limits (x .head .p) (x .head .b) (x .head .t) (x .head .k)) (x .head .counter .0) (listAt (formC false recC) (x .head .count) s (x .start))
+  pub next : r .ok ≡ true → (r .next ≡ need (limits (x .head .p) (x .head .b) (x .head .t) (x .head .k))) × (r .next ≤ 51905024)
+
+-- x was read from the area s, which holds q
+pub record AreaAs (s : Bytes) (x : Area) (q : Queue) : Type 0 where
+  pub persisted : q .persisted ≡ x .persisted .0
+  pub store : StoreAs false s 4 (x .open) (storeOf q)
+  pub need : x .need ≡ need (q .limits)
+  pub small : x .need ≤ 51905024
+  pub fits : x .open .next ≤ x .need
+  pub long : x .need ≤ length s
+  pub sound : sound? q ≡ true
+  pub range : queueC .ok q
+
+pub record AreaIs (s : Bytes) (x : Area) : Type 0 where
+  pub good : x .ok ≡ true → (q : Queue) × (readArea s ≡ some q) × AreaAs s x q
+  pub bad : x .ok ≡ false → readArea s ≡ none
