@@ -10,3 +10,4 @@ pub mod View
 pub mod Hex
 pub mod Forms
 pub mod Areas
+pub mod Plain
