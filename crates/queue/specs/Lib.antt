@@ -11,3 +11,4 @@ pub mod Hex
 pub mod Forms
 pub mod Areas
 pub mod Plain
+pub mod Order
