@@ -12,3 +12,4 @@ pub mod Forms
 pub mod Areas
 pub mod Plain
 pub mod Order
+pub mod Sounds
