@@ -13,3 +13,4 @@ pub mod Areas
 pub mod Plain
 pub mod Order
 pub mod Sounds
+pub mod Bound
