@@ -14,3 +14,4 @@ pub mod Plain
 pub mod Order
 pub mod Sounds
 pub mod Bound
+pub mod ListLaws
