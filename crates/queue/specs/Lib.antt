@@ -15,3 +15,4 @@ pub mod Order
 pub mod Sounds
 pub mod Bound
 pub mod ListLaws
+pub mod Forget
