@@ -16,3 +16,4 @@ pub mod Sounds
 pub mod Bound
 pub mod ListLaws
 pub mod Forget
+pub mod Keeps

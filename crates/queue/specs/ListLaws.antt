@@ -58,6 +58,10 @@ module _ {A : Type 0} where
   pub total-le : (f g : A → ℕ) → ((a : A) → f a ≤ g a) → (l : List A) → total f l ≤ total g l
   total-le f g k l = total-with (λ a. Unit {0}) f g (λ a _. k a) l (all-every (λ a. Unit {0}) (λ a. tt) l)
 
+  pub total-eq : (f g : A → ℕ) → ((a : A) → f a ≡ g a) → (l : List A) → total f l ≡ total g l
+  total-eq f g k [] = refl
+  total-eq f g k (a ∷ l) = let i = total-eq f g k l in let j = k a in omega arith
+
   pub total-plus : (f g k : A → ℕ) → ((a : A) → f a ≡ g a + k a) → (l : List A) → total f l ≡ total g l + total k l
   total-plus f g k h [] = refl
   total-plus f g k h (a ∷ l) = let i = total-plus f g k h l in let j = h a in omega arith
@@ -99,6 +103,16 @@ module _ {A : Type 0} where
   find-only p (a ∷ l) h x e = cond-cases (p a) (some a) (find p l) (some x) e
       (λ t e′. let q : a ≡ x = cc in (λ u. q, all-map l (λ b k u. absurd (k t u)) (h .0)))
       (λ t e′. (λ u. false-true (sym t ∙ u), find-only p l (h .1) x e′))
+
+  pub find-count : (p : A → Bool) (l : List A) (x : A) → find p l ≡ some x → 1 ≤ count p l
+  find-count p [] x e = let z : _≡_ {A = ℕ} 0 1 = cc in absurd (omega arith)
+  find-count p (a ∷ l) x e = cond-cases (p a) (some a) (find p l) (some x) e
+      (λ t e′. rw t (omega arith))
+      (λ t e′. let i = find-count p l x e′ in omega arith)
+
+  pub any-none : (p : A → Bool) (l : List A) → any? p l ≡ false → All (λ a. p a ≡ false) l
+  any-none p [] e = tt
+  any-none p (a ∷ l) e = cases (p a) (λ t. let z = rw t at e in false-true (sym z)) (λ t. (t, any-none p l (rw t at e)))
 
   -- a record by record change
   pub map-all : (P Q : A → Type 0) (h : A → A) → ((a : A) → P a → Q (h a)) → (l : List A) → All P l → All Q (map h l)
