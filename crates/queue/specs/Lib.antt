@@ -17,3 +17,4 @@ pub mod Bound
 pub mod ListLaws
 pub mod Forget
 pub mod Keeps
+pub mod Admits
