@@ -18,3 +18,4 @@ pub mod ListLaws
 pub mod Forget
 pub mod Keeps
 pub mod Admits
+pub mod Cards
