@@ -19,3 +19,4 @@ pub mod Forget
 pub mod Keeps
 pub mod Admits
 pub mod Cards
+pub mod Reconciles
