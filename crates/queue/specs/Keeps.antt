@@ -170,10 +170,10 @@ pub record Ending (state reason : ℕ) : Type 0 where
   pub small : state < 256
   pub small-reason : reason < 256
 
-no-place : (s : ℕ) (b : Bool) → b ≡ false → eqb s mined ≡ false → placeRight? s b ≡ true
+pub no-place : (s : ℕ) (b : Bool) → b ≡ false → eqb s mined ≡ false → placeRight? s b ≡ true
 no-place s b e h = rw (e, h)
 
-no-mark : (s m : ℕ) (b : Bool) → m ≡ 0 → markRight? s b m ≡ true
+pub no-mark : (s m : ℕ) (b : Bool) → m ≡ 0 → markRight? s b m ≡ true
 no-mark s m b e = rw e
 
 in-range : (c k : ℕ) → 1 ≤ k → k ≤ c → finishRight? c false k ≡ true

@@ -16,7 +16,7 @@ use Rattle.queue.specs.Order.{same-is, same-self, same-sym, below-not-sa
 use Rattle.queue.specs.ListLaws.{and-false, one-le, all-every, all-with, pairwise-with, filter-sub, filter-total, total-le, total-with, total-eq, find-all, map-all, map-pairwise, map-total, map-total-le, sort-all, sort-total, sort-apart}
 use Rattle.queue.specs.Sounds.{InRange, Right, Before, Distinct, Apart, Sound, Fields, Fit}
 use Rattle.queue.specs.Forget.{Core, core-sound, forget-sub, forget-sound}
-use Rattle.queue.specs.Keeps.{Kept, Leaves, moved-fit, committed-kept, pending-mined, pending-held, unmined-place, unmined-mark, right-later, finish-le, finished-fields, apart-finished, finished-apart, Alike, alike-rising, alike-distinct, alike-apart, alike-total, mined-weight}
+use Rattle.queue.specs.Keeps.{Kept, Leaves, moved-fit, committed-kept, pending-mined, pending-held, unmined-place, unmined-mark, no-place, no-mark, right-later, finish-le, finished-fields, apart-finished, finished-apart, Alike, alike-rising, alike-distinct, alike-apart, alike-total, mined-weight}
 use Rattle.queue.specs.declared.Kind.the-variants.{Memory, Whole, Cursor}
 use Rattle.queue.specs.paper.Records.{Bytes, Id, Limits, Terms, Held, Rec, Queue, queued, mined, conflicted, cancelled, expired}
 use Rattle.queue.specs.paper.Lists.{isSome, one, all?, any?, total, count, filter, find, sort, map}
@@ -93,19 +93,13 @@ judged-right state reason p w K c r t h =
       held = held-now state (holder? r) (pending-held (r .state) (holder? r) t (h .held)) p;
       reason = w;
       place = no-place state (isSome (r .place)) k (pending-mined state p);
-      mark = no-mark state (holder? r) (r .mark) m;
+      mark = no-mark state (r .mark) (holder? r) m;
       finish = h .finish;
       label = h .label;
       ins = h .ins;
       outs = h .outs;
       size = h .size;
     }
-  where
-    no-place : (s : ℕ) (b : Bool) → b ≡ false → eqb s mined ≡ false → placeRight? s b ≡ true
-    no-place s b e h = rw (e, h)
-
-    no-mark : (s : ℕ) (b : Bool) (m : ℕ) → m ≡ 0 → markRight? s b m ≡ true
-    no-mark s b m e = rw e
 
 module _ (c : Reconciling) (own : List Id) (ok : All AppliedOk (c .applied)) where
   abbrev pub touched : Rec → Rec
@@ -130,3 +124,103 @@ module _ (c : Reconciling) (own : List Id) (ok : All AppliedOk (c .applied)) whe
       pick : (t : Bool) (a b : ℕ) → a < 256 → b < 256 → cond t a b < 256
       pick true a b x y = x
       pick false a b x y = y
+
+-- ---- the place of an id in a list
+
+past-le : (n m : ℕ) → n ≤ m → onePast n ≤ suc m
+past-le zero m h = omega arith
+past-le (suc n) m h = omega arith
+
+pub place-le : (i : Id) (l : List Id) → placeIn i l ≤ length l
+place-le i [] = omega arith
+place-le i (j ∷ l) = let h = past-le (placeIn i l) (length l) (place-le i l) in cases (same? i j) (λ t. rw t (omega arith)) (λ t. rw t h)
+
+past-inj : (n m k : ℕ) → onePast n ≡ suc k → onePast m ≡ suc k → (n ≡ k) × (m ≡ k) × (1 ≤ k)
+past-inj zero m k p q = absurd (omega arith)
+past-inj (suc n) zero k p q = absurd (omega arith)
+past-inj (suc n) (suc m) k p q = (omega arith, omega arith, omega arith)
+
+past-one : (n : ℕ) → onePast n ≡ 1 → ⊥
+past-one zero p = omega arith
+past-one (suc n) p = omega arith
+
+pub place-inj : (i j : Id) (l : List Id) (k : ℕ) → placeIn i l ≡ suc k → placeIn j l ≡ suc k → i ≡ j
+place-inj i j [] k p q = absurd (omega arith)
+place-inj i j (x ∷ l) k p q = cond-cases (same? i x) 1 (onePast (placeIn i l)) (suc k) p
+    (λ t p′. cond-cases (same? j x) 1 (onePast (placeIn j l)) (suc k) q
+    (λ u q′. let a = same-is i x t in let b = same-is j x u in cc)
+    (λ u q′. absurd (past-one (placeIn j l) (q′ ∙ sym p′))))
+    (λ t p′. cond-cases (same? j x) 1 (onePast (placeIn j l)) (suc k) q
+    (λ u q′. absurd (past-one (placeIn i l) (p′ ∙ sym q′)))
+    (λ u q′. step k (past-inj (placeIn i l) (placeIn j l) k p′ q′) (λ n. place-inj i j l n)))
+  where
+    step : (k : ℕ) → (placeIn i l ≡ k) × (placeIn j l ≡ k) × (1 ≤ k) → ((n : ℕ) → placeIn i l ≡ suc n → placeIn j l ≡ suc n → i ≡ j) → i ≡ j
+    step zero b f = let z = b .2 in absurd (omega arith)
+    step (suc n) b f = f n (b .0) (b .1)
+
+past-zero : (n : ℕ) → eqb (onePast n) 0 ≡ eqb n 0
+past-zero zero = refl
+past-zero (suc n) = ne-eqb (suc (suc n)) 0 (λ e. omega arith) ∙ sym (ne-eqb (suc n) 0 (λ e. omega arith))
+
+-- ---- the walk
+
+abbrev Diff : Rec → Rec → Type 0
+Diff a b = same? (a .id) (b .id) ≡ false
+
+diff-sym : (a b : Rec) → Diff a b → Diff b a
+diff-sym a b h = same-sym (b .id) (a .id) ∙ h
+
+rising-diff : (l : List Rec) → Pairwise Before l → Pairwise Diff l
+rising-diff l h = pairwise-with (λ r. Unit {0}) Before Diff (λ a b _ _ k. below-not-same (a .id) (b .id) k) l (all-every _ (λ r. tt) l) h
+
+-- the weight of what is not in a list of ids
+abbrev unlisted : List Id → (Rec → ℕ) → Rec → ℕ
+unlisted ids w r = cond (eqb (placeIn (r .id) ids) 0) (w r) 0
+
+module _ (m : Limits) (height window : ℕ) where
+  abbrev release? : ℕ → ℕ → Rec → Bool
+  release? n b r = leb window (height - minedHeight r) || (leb (m .P) n || ltb (m .B) (b + length (content (r .body))))
+
+  -- an id that none of the list has is not released
+  walk-other : (i : Id) (n b : ℕ) (l : List Rec) → All (λ s. same? i (s .id) ≡ false) l → placeIn i (releases m height window n b l) ≡ 0
+  unfolding releases
+  walk-other i n b [] h = refl
+  walk-other i n b (r ∷ l) h = let k = walk-other i (n + 1) (b + length (content (r .body))) l (h .1) in cases (release? n b r)
+      (λ t. rw (t, h .0, k))
+      (λ t. rw (t, k))
+
+  -- one id more, for records of other ids
+  unlisted-more : (w : Rec → ℕ) (r : Rec) (ids : List Id) (l : List Rec) → All (Diff r) l → total (unlisted (r .id ∷ ids) w) l ≡ total (unlisted ids w) l
+  unlisted-more w r ids [] h = refl
+  unlisted-more w r ids (s ∷ l) h = let i = unlisted-more w r ids l (h .1) in
+      let e : unlisted (r .id ∷ ids) w s ≡ unlisted ids w s = rw (same-sym (s .id) (r .id), h .0, past-zero (placeIn (s .id) ids)) in
+      omega arith
+
+  -- what is kept: at most P less those seen, and B less their bytes
+  walk-few : (n b : ℕ) (l : List Rec) → Pairwise Diff l → total (unlisted (releases m height window n b l) (λ r. one (isSome (r .body)))) l ≤ m .P - n
+  unfolding releases
+  walk-few n b [] h = omega arith
+  walk-few n b (r ∷ l) h =
+      let w = length (content (r .body)) in
+      let i = walk-few (n + 1) (b + length (content (r .body))) l (h .1) in
+      let ids = releases m height window (n + 1) (b + length (content (r .body))) l in
+      let k = walk-other (r .id) (n + 1) (b + length (content (r .body))) l (h .0) in
+      cases (release? n b r)
+      (λ t. let j = unlisted-more (λ r. one (isSome (r .body))) r ids l (h .0) in rw (t, same-self (r .id)) (omega arith))
+      (λ t. let u = or-false (leb window (height - minedHeight r)) _ t in
+      let v = or-false (leb (m .P) n) (ltb (m .B) (b + length (content (r .body)))) (u .1) in
+      let x = leb-false (m .P) n (v .0) in
+      let y = one-le (isSome (r .body)) in rw (t, k) (omega arith))
+
+  walk-light : (n b : ℕ) (l : List Rec) → Pairwise Diff l → total (unlisted (releases m height window n b l) (λ r. length (content (r .body)))) l ≤ m .B - b
+  unfolding releases
+  walk-light n b [] h = omega arith
+  walk-light n b (r ∷ l) h =
+      let i = walk-light (n + 1) (b + length (content (r .body))) l (h .1) in
+      let ids = releases m height window (n + 1) (b + length (content (r .body))) l in
+      let k = walk-other (r .id) (n + 1) (b + length (content (r .body))) l (h .0) in
+      cases (release? n b r)
+      (λ t. let j = unlisted-more (λ r. length (content (r .body))) r ids l (h .0) in rw (t, same-self (r .id)) (omega arith))
+      (λ t. let u = or-false (leb window (height - minedHeight r)) _ t in
+      let v = or-false (leb (m .P) n) (ltb (m .B) (b + length (content (r .body)))) (u .1) in
+      let x = ltb-false (m .B) (b + length (content (r .body))) (v .1) in rw (t, k) (omega arith))
