@@ -176,7 +176,7 @@ no-place s b e h = rw (e, h)
 pub no-mark : (s m : ℕ) (b : Bool) → m ≡ 0 → markRight? s b m ≡ true
 no-mark s m b e = rw e
 
-in-range : (c k : ℕ) → 1 ≤ k → k ≤ c → finishRight? c false k ≡ true
+pub in-range : (c k : ℕ) → 1 ≤ k → k ≤ c → finishRight? c false k ≡ true
 in-range c k a b = and-both (leb 1 k) (leb k c) (le-leb 1 k a) (le-leb k c b)
 
 pub finished-right : (state reason : ℕ) → Ending state reason → (K c d k : ℕ) (r : Rec) → pending? (r .state) ≡ true → 1 ≤ k → k ≤ d → Right K c r → Right K d (finished state reason k r)
