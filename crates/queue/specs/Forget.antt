@@ -74,9 +74,10 @@ Counted L s = holder? s ≡ false → 1 ≤ count (stamped? (s .finish)) L
 
 counted : (l : List Rec) → All (Counted l) l
 counted [] = tt
-counted (r ∷ l) =
-    (λ h. let e = eq-eqb (r .finish) (r .finish) refl in rw (h, e) (omega arith),
-    all-map l (λ s k h. let i = k h in omega arith) (counted l))
+counted (r ∷ l) = (
+  λ h. let e = eq-eqb (r .finish) (r .finish) refl in rw (h, e) (omega arith),
+  all-map l (λ s k h. let i = k h in omega arith) (counted l),
+)
 
 -- a lower number has more above it
 higher-less : (L : List Rec) (a b : Rec) → holder? b ≡ false → Counted L b → a .finish < b .finish → higher (b .finish) L < higher (a .finish) L

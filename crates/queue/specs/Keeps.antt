@@ -146,14 +146,20 @@ module _ (p : Rec → Bool) (state reason : ℕ) where
   unfolding finishThose finished
   finish-distinct K c n [] a h d = tt
   finish-distinct K c n (r ∷ l) a h d = cases (p r)
-      (λ t. rw t (finish-all (n + 1) (n + 1 + count p l) (Distinct (finished state reason (n + 1) r)) (Right K c)
-      (λ k s lo _ _ _ _ _ e. absurd (omega arith))
-      (λ s x _ z e. let y = finish-le c (holder? s) (s .finish) (x .finish) z in omega arith)
-      (n + 1) l (omega arith) (omega arith) (h .1), finish-distinct K c (n + 1) l (omega arith) (h .1) (d .1)))
-      (λ t. rw t (finish-all n (n + count p l) (Distinct r) (Distinct r)
-      (λ k s lo _ _ _ z _ e. let y = finish-le c (holder? r) (r .finish) (h .0 .finish) z in omega arith)
-      (λ s x. x)
-      n l (omega arith) (omega arith) (d .0), finish-distinct K c n l a (h .1) (d .1)))
+      (λ t. rw t (
+        finish-all (n + 1) (n + 1 + count p l) (Distinct (finished state reason (n + 1) r)) (Right K c)
+            (λ k s lo _ _ _ _ _ e. absurd (omega arith))
+            (λ s x _ z e. let y = finish-le c (holder? s) (s .finish) (x .finish) z in omega arith)
+            (n + 1) l (omega arith) (omega arith) (h .1),
+        finish-distinct K c (n + 1) l (omega arith) (h .1) (d .1),
+      ))
+      (λ t. rw t (
+        finish-all n (n + count p l) (Distinct r) (Distinct r)
+            (λ k s lo _ _ _ z _ e. let y = finish-le c (holder? r) (r .finish) (h .0 .finish) z in omega arith)
+            (λ s x. x)
+            n l (omega arith) (omega arith) (d .0),
+        finish-distinct K c n l a (h .1) (d .1),
+      ))
 
   pub finish-total : (f : Rec → ℕ) → ((k : ℕ) (r : Rec) → f (finished state reason k r) ≤ f r) → (n : ℕ) (l : List Rec) → total f (finishThose p state reason n l) ≤ total f l
   unfolding finishThose

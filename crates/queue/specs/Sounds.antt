@@ -149,10 +149,12 @@ pub distinct-of : (l : List Rec) → distinct? l ≡ true → Pairwise Distinct 
 unfolding distinct?
 distinct-of [] e = tt
 distinct-of (r ∷ l) e =
-    let h = and-true _ (distinct? l) e in
-    (or-true (holder? r) _ (h .0)
-    (λ t. all-map {P = λ s. Unit {0}} l (λ s _ a. false-true (sym a ∙ t)) (units l))
-    (λ _ t. all-map l (λ s k a. stamp-apart (r .finish) s k) (count-none (stamped? (r .finish)) l (eqb-true _ 0 t))), distinct-of l (h .1))
+    let h = and-true _ (distinct? l) e in (
+      or-true (holder? r) _ (h .0)
+          (λ t. all-map {P = λ s. Unit {0}} l (λ s _ a. false-true (sym a ∙ t)) (units l))
+          (λ _ t. all-map l (λ s k a. stamp-apart (r .finish) s k) (count-none (stamped? (r .finish)) l (eqb-true _ 0 t))),
+      distinct-of l (h .1),
+    )
   where
     units : (l : List Rec) → All (λ s. Unit {0}) l
     units [] = tt
