@@ -1,21 +1,21 @@
 -- Every sound queue fits its area; so an area and an image are read as a queue exactly where they are its bytes.
 use mathlib.Core.Path.{_≡_, refl, ap, sym, _∙_}
-use mathlib.Core.Bool.{Bool, true, false, cond, not}
+use mathlib.Core.Bool.{Bool, true, false, not}
 use mathlib.Core.Option.{Option, none, some}
-use mathlib.Core.List.{List, [], _∷_, _++_, append-assoc}
-use Prim.Native.Nat.{ℕ, zero, suc, _+_, _*_, _-_, _^_, _≤_, _<_}
+use mathlib.Core.List.{List, [], _∷_, _++_}
+use Prim.Native.Nat.{ℕ, _+_, _*_, _≤_}
 use native.Mathlib.Omega.{arith}
-use native.Mathlib.Nat.{mul-le-mul-right, mul-le-mul-left}
-use lib.ListN.{length, take, drop, replicate, length-append, length-replicate, length-drop}
+use native.Mathlib.Nat.{mul-le-mul-right}
+use lib.ListN.{length, drop, length-append, length-replicate, length-drop}
 use lib.Seq.{drop-at}
-use Rattle.queue.specs.Codec.{Codec, All, be, byteC, beC, pairC, mapC, optC, vecC, countedC, encs, vecMost, optMost}
+use Rattle.queue.specs.Codec.{All, byteC, beC, pairC, mapC, optC, vecC, countedC, vecMost}
 use Rattle.queue.specs.Frames.{Head, tagC, idC, labelC, termsC, heldC, bodyC, placeC, recC, limitsC, headC}
-use Rattle.queue.specs.Forms.{headFor, storeOf, formC, storeC, framesC, form-raw, queueC, ok-store, ok-queue}
-use Rattle.queue.specs.Areas.{layout, image, readArea, readImage, Stands, stands-reads, reads-stands, Shows, shows-reads, reads-shows}
-use Rattle.queue.specs.Plain.{queue-plain, area-plain, line, image-plain}
-use Rattle.queue.specs.Sounds.{Right, Sound, sound-of}
-use Rattle.queue.specs.paper.Records.{Bytes, Id, Limits, Terms, Held, Rec, Queue}
-use Rattle.queue.specs.paper.Lists.{isSome, one, map, concat, total, count}
+use Rattle.queue.specs.Forms.{headFor, storeOf, formC, storeC, framesC, queueC, ok-store}
+use Rattle.queue.specs.Areas.{layout, readArea, readImage, stands-reads, reads-stands, shows-reads, reads-shows}
+use Rattle.queue.specs.Plain.{area-plain, line, image-plain}
+use Rattle.queue.specs.Sounds.{Right, sound-of, Fit, fit-of, fit-sound, fit-ok}
+use Rattle.queue.specs.paper.Records.{Bytes, Id, Terms, Held, Rec, Queue}
+use Rattle.queue.specs.paper.Lists.{isSome, one, map, concat}
 use Rattle.queue.specs.paper.Sound.{sound?, need, holder?, inputs, outputs, content, labelLen, holders, heldBytes, tombstones}
 use Rattle.queue.specs.paper.Area.{recBytes, headBytes, areaBytes, over}
 
@@ -152,11 +152,28 @@ reads-size s q e =
     let z = area-size q (w .0) (w .1 .0) in
     omega (arith, simp length-append at (ap length (w .1 .1)))
 
-abbrev pub imageText : Queue → Bytes
-imageText q = line (headBytes q) ++ concat (map (λ r. line (recBytes r)) (q .recs))
+abbrev pub imageLines : Queue → Bytes
+imageLines q = line (headBytes q) ++ concat (map (λ r. line (recBytes r)) (q .recs))
 
-pub image-reads : (q : Queue) → sound? q ≡ true → queueC .ok q → q .persisted ≡ q .cursor → readImage (imageText q) ≡ some q
-image-reads q e o h = shows-reads (imageText q) q (record { sound = e; range = o; level = h; is = sym (image-plain q) })
+pub image-reads : (q : Queue) → sound? q ≡ true → queueC .ok q → q .persisted ≡ q .cursor → readImage (imageLines q) ≡ some q
+image-reads q e o h = shows-reads (imageLines q) q (record { sound = e; range = o; level = h; is = sym (image-plain q) })
 
-pub reads-image : (t : Bytes) (q : Queue) → readImage t ≡ some q → (sound? q ≡ true) × (queueC .ok q × ((q .persisted ≡ q .cursor) × (t ≡ imageText q)))
+pub reads-image : (t : Bytes) (q : Queue) → readImage t ≡ some q → (sound? q ≡ true) × (queueC .ok q × ((q .persisted ≡ q .cursor) × (t ≡ imageLines q)))
 reads-image t q e = let w = reads-shows t q e in (w .sound, (w .range, (w .level, w .is ∙ image-plain q)))
+
+-- ---- the same of a queue that fits
+
+pub fit-stands : (q : Queue) → Fit q → (later : Bytes) → readArea (areaBytes q ++ later) ≡ some q
+fit-stands q f later = stands q (fit-sound q f) (fit-ok q f) later
+
+pub fit-over : (q : Queue) → Fit q → (d : Bytes) → readArea (over (areaBytes q) d) ≡ some q
+fit-over q f d = over-reads q (fit-sound q f) (fit-ok q f) d
+
+pub fit-image : (q : Queue) → Fit q → q .persisted ≡ q .cursor → readImage (imageLines q) ≡ some q
+fit-image q f h = image-reads q (fit-sound q f) (fit-ok q f) h
+
+pub reads-fit : (s : Bytes) (q : Queue) → readArea s ≡ some q → Fit q
+reads-fit s q e = let w = reads-area s q e in fit-of q (w .0) (w .1 .0)
+
+pub opens-fit : (t : Bytes) (q : Queue) → readImage t ≡ some q → Fit q
+opens-fit t q e = let w = reads-image t q e in fit-of q (w .0) (w .1 .0)

@@ -1,21 +1,19 @@
 -- Document 01's bench cards, its worked image and docs/AREA.md's worked areas, as one table of tests.
 use mathlib.Core.Path.{_≡_, refl}
-use mathlib.Core.Bool.{Bool, true, false, cond, not, _&&_, _||_}
+use mathlib.Core.Bool.{Bool, true, false, _&&_}
 use mathlib.Core.Option.{Option, none, some}
 use mathlib.Core.List.{List, [], _∷_, _++_}
-use Prim.Native.Nat.{ℕ, _+_, _-_, _*_, _%_, _^_}
-use lib.Dec.{ltb, leb, eqb}
+use Prim.Native.Nat.{ℕ, _+_}
+use lib.Dec.{eqb}
 use lib.ListN.{length, replicate}
-use Rattle.queue.specs.declared.Kind.the-variants.{Nothing, Memory, Whole, Cursor}
-use Rattle.queue.specs.Codec.{be}
 use Rattle.queue.specs.Hex.{textOf, digOf}
-use Rattle.queue.specs.Bound.{imageText}
-use Rattle.queue.specs.paper.Records.{Bytes, Id, Limits, Terms, Held, Rec, Queue}
-use Rattle.queue.specs.paper.Lists.{all?, map, find}
+use Rattle.queue.specs.Bound.{imageLines}
+use Rattle.queue.specs.paper.Records.{Id, Limits, Rec, Queue}
+use Rattle.queue.specs.paper.Lists.{all?, find}
 use Rattle.queue.specs.paper.Ids.{cmpL, same?}
 use Rattle.queue.specs.paper.Sound.{need, sound?, inRange, counts?, right?, rising?, distinct?, apart?, used?, clash?}
 use Rattle.queue.specs.paper.Area.{termsBytes, placeBytes, heldBytes, recBytes, headBytes, queueBytes, areaBytes}
-use Rattle.queue.specs.paper.Changing.{Out, refused, done, named?, committed, moved, Admission, newRec, admit, finished, finishThose, forget, cancel, due?, expire, Applied, Reconciling, confirm, judged, touch, releases, released, reconcile, reopened, reopen, setCursor}
+use Rattle.queue.specs.paper.Changing.{Out, refused, done, named?, committed, moved, newRec, admit, finished, finishThose, forget, cancel, due?, expire, Applied, confirm, judged, touch, releases, released, reconcile, reopened, reopen, setCursor}
 use Rattle.queue.specs.paper.Calls.{kindNumber, fresh}
 
 -- the number that a call gives back: a refusal's own, or 100 and the kind
@@ -54,9 +52,9 @@ releasedIn (done k q a) = length (a .1)
 abbrev limits : ℕ → ℕ → ℕ → ℕ → Limits
 limits P B T K = record { P = P; B = B; T = T; K = K }
 
--- an id of one byte, n signed bytes, time deadline and height deadline
-abbrev enter : ℕ → ℕ → ℕ → Option ℕ → Option ℕ → Queue → Out Rec
-enter i n now due dueHeight q = admit (record {
+-- an id of one byte, inputs, n signed bytes, time deadline and height deadline
+abbrev enterWith : List Id → ℕ → ℕ → ℕ → Option ℕ → Option ℕ → Queue → Out Rec
+enterWith ins i n now due dueHeight q = admit (record {
   id = i ∷ [];
   now = now;
   due = due;
@@ -65,10 +63,13 @@ enter i n now due dueHeight q = admit (record {
   label = none;
   fee = 0;
   cost = 0;
-  held = record { ins = []; outs = []; bytes = replicate n 7 };
+  held = record { ins = ins; outs = []; bytes = replicate n 7 };
   tipHeight = 9;
   tip = none;
 }) q
+
+abbrev enter : ℕ → ℕ → ℕ → Option ℕ → Option ℕ → Queue → Out Rec
+enter = enterWith []
 
 abbrev watch : ℕ → ℕ → List Applied → Queue → Out (Bool × List Id)
 watch height window applied q = reconcile (record { height = height; tip = []; applied = applied; caughtUp = false; available = []; window = window }) q
@@ -78,6 +79,11 @@ mined50 i = record { id = i ∷ []; height = 50; block = [] } ∷ []
 
 abbrev small : Queue
 small = fresh (limits 2 10 1 1)
+
+-- two Mined holders under P 2, the first with an input
+abbrev twoMined : Queue
+twoMined =
+    after (watch 50 100 (mined50 1 ++ mined50 2)) (after (enter 2 3 0 none none) (after (enterWith ((9 ∷ []) ∷ []) 1 3 0 none none) small))
 
 -- one record Mined at 50, kept by a window of 100
 abbrev confirmed : Queue
@@ -139,15 +145,19 @@ cards =
     ∷ absent? (2 ∷ []) (after (cancel (1 ∷ [])) (after (cancel (2 ∷ [])) (after (enter 2 3 0 none none) (after (enter 1 3 0 none none) small))))
     -- "Revision at top: 0."
     ∷ eqb (after (enter 1 3 0 none none) topRevision .revision) 0
+    -- "Errors near to hand: counting Mined in refusal 10; dropping inputs at confirmation; taking zero bytes for a tombstone"
+    ∷ eqb (gives (enter 3 3 0 none none twoMined)) 102
+    ∷ eqb (gives (enterWith ((9 ∷ []) ∷ []) 3 3 0 none none twoMined)) 12
+    ∷ eqb (gives (cancel (1 ∷ []) (after (enter 1 0 0 none none) small))) 102
     -- "Fresh with P 2, B 10, T 1, K 1, whole, 85 bytes": each digit's byte, and the end byte
-    ∷ same? (imageText small)
+    ∷ same? (imageLines small)
     ((48 ∷ 49 ∷ [])
     ++ ((48 ∷ 48 ∷ 48 ∷ 48 ∷ 48 ∷ 48 ∷ 48 ∷ 50 ∷ [])
     ++ ((48 ∷ 48 ∷ 48 ∷ 48 ∷ 48 ∷ 48 ∷ 48 ∷ 97 ∷ [])
     ++ ((48 ∷ 48 ∷ 48 ∷ 48 ∷ 48 ∷ 48 ∷ 48 ∷ 49 ∷ [])
     ++ ((48 ∷ 48 ∷ 48 ∷ 48 ∷ 48 ∷ 48 ∷ 48 ∷ 49 ∷ [])
     ++ (replicate 16 48 ++ (replicate 8 48 ++ (replicate 2 48 ++ (replicate 16 48 ++ (replicate 8 48 ++ (10 ∷ [])))))))))))
-    ∷ eqb (length (imageText small)) 85
+    ∷ eqb (length (imageLines small)) 85
     -- docs/AREA.md: "A fresh queue under P 2, B 10, T 1, K 1 needs 3,348 bytes. They start with these 46, and the rest are zeros"
     ∷ eqb (need (limits 2 10 1 1)) 3348
     ∷ same? (areaBytes small)

@@ -3,27 +3,27 @@ use mathlib.Core.Path.{_≡_, refl, ap, sym, _∙_}
 use mathlib.Core.Bool.{Bool, true, false, cond, not, _&&_, _||_}
 use mathlib.Core.Option.{Option, none, some}
 use mathlib.Core.List.{List, [], _∷_}
-use Prim.Native.Nat.{ℕ, zero, suc, _+_, _*_, _-_, _%_, _^_, _≤_, _<_}
+use Prim.Native.Nat.{ℕ, _+_, _^_, _≤_, _<_}
 use native.Mathlib.Omega.{arith}
 use native.Mathlib.Nat.{mod-lt}
 use lib.Dec.{ltb, leb, eqb}
 use lib.ListN.{length}
-use borrow.Author.Tests.{ltb-true, ltb-false, leb-true, le-leb, lt-ltb, le-ltb, eqb-true, eqb-false, eq-eqb, ne-eqb, not-true}
-use Rattle.queue.specs.Codec.{cases, All, Codec, beC, pairC, optC}
+use borrow.Author.Tests.{ltb-false, leb-true, le-leb, eqb-true, ne-eqb, not-true}
+use Rattle.queue.specs.Codec.{cases, All, optC}
 use Rattle.queue.specs.Frames.{idC, placeC, bodyC}
-use Rattle.queue.specs.Lists.{Pairwise, and-true, and-both, all-map, Sub, sub-self, sub-all, sub-pairwise, sub-total}
+use Rattle.queue.specs.Lists.{Pairwise, and-true, and-both, all-map, Sub, sub-all}
 use Rattle.queue.specs.ReadLaws.{false-true}
-use Rattle.queue.specs.Order.{same-is, same-self, below-not-same, or-false, or-true}
+use Rattle.queue.specs.Order.{same-is, same-self, below-not-same, or-true}
 use Rattle.queue.specs.ListLaws.{and-false, all-every, all-with, pairwise-with, find-all, find-only, find-count, filter-sub, total-eq, map-all, map-pairwise, map-total, map-total-le}
-use Rattle.queue.specs.Sounds.{InRange, range-of, Right, Before, Distinct, Apart, Sound, Fields, Fit, fit-sound, fit-ok}
+use Rattle.queue.specs.Sounds.{range-of, Right, Before, Distinct, Apart, Sound, Fields, Fit}
 use Rattle.queue.specs.Forget.{Core, core-sound, forget-sub, forget-sound}
 use Rattle.queue.specs.declared.Kind.{Kind}
 use Rattle.queue.specs.declared.Kind.the-variants.{Nothing, Memory, Whole, Cursor}
-use Rattle.queue.specs.paper.Records.{Bytes, Id, Limits, Terms, Held, Rec, Queue, queued, mined, conflicted, cancelled, expired}
+use Rattle.queue.specs.paper.Records.{Id, Limits, Held, Rec, Queue, queued, mined, conflicted, cancelled, expired}
 use Rattle.queue.specs.paper.Lists.{isSome, one, any?, total, count, filter, find, map}
-use Rattle.queue.specs.paper.Ids.{below?, same?}
-use Rattle.queue.specs.paper.Sound.{inRange, holder?, pending?, mined?, inputs, outputs, content, among?, holders, heldBytes, minedHolders, minedBytes, tombstones, heldRight?, reasonRight?, placeRight?, markRight?, finishRight?}
-use Rattle.queue.specs.paper.Changing.{Out, refused, done, top, named?, committed, moved, finished, finishThose, forget, finishAll, cancelFound, cancel, due?, expire, reopenedState, reopenedReason, reopened, listed?, reopen, setCursor}
+use Rattle.queue.specs.paper.Ids.{same?}
+use Rattle.queue.specs.paper.Sound.{inRange, holder?, pending?, mined?, content, minedHolders, heldRight?, reasonRight?, placeRight?, markRight?, finishRight?}
+use Rattle.queue.specs.paper.Changing.{Out, refused, done, top, named?, committed, moved, finished, finishThose, forget, finishAll, cancelFound, cancel, due?, expire, reopened, listed?, reopen, setCursor}
 use Rattle.queue.specs.paper.Calls.{fresh}
 
 -- what else the kind says of the next queue
@@ -476,3 +476,35 @@ module _ (ids : List Id) (q : Queue) (f : Fit q) where
       (map-all (λ r. R r × Fields r) Fields again (λ r x. cases (listed? ids r) (λ t. rw t (reopened-fields (q .limits .K) (q .counter) r (x .0) (x .1))) (λ t. rw t (x .1))) (q .recs)
       (all-with _ _ _ (λ r a b. (a, b)) (q .recs) (f .sound .right) (f .recs)))))
       (λ t. rw t (same-kept q f))
+
+-- ---- cancellation, expiry and reopening leave the queue or ask for a whole write
+
+abbrev pub Wholly : {A : Type 0} → Out A → Type 0
+Wholly (refused n) = Unit {0}
+Wholly (done Nothing q a) = Unit {0}
+Wholly (done Memory q a) = ⊥
+Wholly (done Whole q a) = Unit {0}
+Wholly (done Cursor q a) = ⊥
+
+finishAll-wholly : (p : Rec → Bool) (state reason : ℕ) {A : Type 0} (a : A) (q : Queue) → Wholly (finishAll p state reason a q)
+finishAll-wholly p state reason a q = cases (ltb top (q .counter + count p (q .recs))) (λ t. rw t tt) (λ t. rw t tt)
+
+pub cancel-wholly : (i : Id) (q : Queue) → Wholly (cancel i q)
+unfolding cancel
+cancel-wholly i q = found (find (named? i) (q .recs))
+  where
+    found : (o : Option Rec) → Wholly (cancelFound i q o)
+    found none = tt
+    found (some r) = cases (mined? r)
+        (λ t. rw t tt)
+        (λ t. cases (holder? r) (λ u. rw (t, u) (finishAll-wholly (named? i) cancelled 1 (finished cancelled 1 (q .counter + 1) r) q)) (λ u. rw (t, u) tt))
+
+pub expire-wholly : (now height : ℕ) (q : Queue) → Wholly (expire now height q)
+unfolding expire
+expire-wholly now height q = cases (any? (due? now height) (q .recs))
+    (λ t. rw t (finishAll-wholly (due? now height) expired 2 (map (λ r. r .id) (filter (due? now height) (q .recs))) q))
+    (λ t. rw t tt)
+
+pub reopen-wholly : (ids : List Id) (q : Queue) → Wholly (reopen ids q)
+unfolding reopen
+reopen-wholly ids q = cases (any? (listed? ids) (q .recs)) (λ t. rw t tt) (λ t. rw t tt)

@@ -20,3 +20,4 @@ pub mod Keeps
 pub mod Admits
 pub mod Cards
 pub mod Reconciles
+pub mod Arguments

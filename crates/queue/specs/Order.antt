@@ -1,17 +1,15 @@
 -- The order of ids, and ids in a list.
-use mathlib.Core.Path.{_≡_, refl, ap, sym, _∙_}
-use mathlib.Core.Bool.{Bool, true, false, cond, not, _&&_, _||_}
-use mathlib.Core.List.{List, [], _∷_}
-use Prim.Native.Nat.{ℕ, zero, suc, _+_, _-_, _≤_, _<_}
+use mathlib.Core.Path.{_≡_, refl, sym, _∙_}
+use mathlib.Core.Bool.{Bool, true, false, _||_}
+use mathlib.Core.List.{[], _∷_}
+use Prim.Native.Nat.{_+_}
 use native.Mathlib.Omega.{arith}
-use lib.Dec.{ltb, leb, eqb}
+use lib.Dec.{ltb}
 use borrow.Author.Tests.{ltb-true, ltb-false, lt-ltb, le-ltb, eqb-true, eqb-false, eq-eqb, ne-eqb}
-use Rattle.queue.specs.Codec.{cases, All}
+use Rattle.queue.specs.Codec.{cases}
 use Rattle.queue.specs.ReadLaws.{false-true}
 use Rattle.queue.specs.paper.Records.{Id}
 use Rattle.queue.specs.paper.Ids.{cmpL, below?, same?}
-use Rattle.queue.specs.paper.Lists.{any?}
-use Rattle.queue.specs.paper.Sound.{among?}
 
 pub cmp-self : (s : Id) → cmpL s s ≡ 1
 unfolding cmpL

@@ -3,16 +3,15 @@ use mathlib.Core.Path.{_≡_, refl, ap, _∙_}
 use mathlib.Core.Bool.{true}
 use mathlib.Core.Option.{Option, none, some}
 use mathlib.Core.List.{List, [], _∷_, _++_}
-use Prim.Native.Nat.{ℕ, _+_, _-_}
-use lib.ListN.{length, replicate}
+use Prim.Native.Nat.{ℕ}
+use lib.ListN.{length}
 use Rattle.queue.specs.Codec.{Codec, be, byteC, beC, pairC, mapC, optC, optEnc, vecC, countedC, encs}
 use Rattle.queue.specs.Frames.{tagC, idC, labelC, termsC, heldC, bodyC, placeC, recC, limitsC, headC}
 use Rattle.queue.specs.Hex.{textOf}
 use Rattle.queue.specs.Forms.{headFor, storeOf, formC, lineEnc, queueC, queue-enc, image-enc}
 use Rattle.queue.specs.Areas.{layout, image}
-use Rattle.queue.specs.paper.Records.{Bytes, Id, Limits, Terms, Held, Rec, Queue}
+use Rattle.queue.specs.paper.Records.{Bytes, Id, Terms, Held, Rec, Queue}
 use Rattle.queue.specs.paper.Lists.{map, concat}
-use Rattle.queue.specs.paper.Sound.{need}
 use Rattle.queue.specs.paper.Area.{flagged, termsBytes, placeBytes, heldBytes, recBytes, headBytes, queueBytes, areaBytes}
 
 pub bytes-plain : (s : Bytes) → encs byteC s ≡ s

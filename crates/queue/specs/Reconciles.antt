@@ -1,28 +1,28 @@
 -- What reconciliation leaves: each record by itself, then the walk over the Mined holders.
-use mathlib.Core.Path.{_≡_, refl, ap, sym, _∙_}
+use mathlib.Core.Path.{_≡_, refl, sym, _∙_}
 use mathlib.Core.Bool.{Bool, true, false, cond, not, _&&_, _||_}
 use mathlib.Core.Option.{Option, none, some}
 use mathlib.Core.List.{List, [], _∷_, _++_}
-use Prim.Native.Nat.{ℕ, zero, suc, _+_, _*_, _-_, _%_, _^_, _≤_, _<_, min}
+use Prim.Native.Nat.{ℕ, zero, suc, _+_, _*_, _-_, _^_, _≤_, _<_, min}
 use native.Mathlib.Omega.{arith}
 use lib.Dec.{ltb, leb, eqb}
 use lib.ListN.{length}
-use borrow.Author.Tests.{ltb-true, ltb-false, leb-true, leb-false, le-leb, lt-ltb, le-ltb, eqb-true, eqb-false, eq-eqb, ne-eqb, not-true}
-use Rattle.queue.specs.Codec.{cases, cond-cases, All, Codec, beC, pairC, optC}
-use Rattle.queue.specs.Frames.{idC, placeC, bodyC}
-use Rattle.queue.specs.Lists.{Pairwise, and-true, and-both, all-map, both-pairwise, Sub, sub-all, sub-pairwise, sub-total}
+use borrow.Author.Tests.{ltb-false, leb-false, eqb-true, eqb-false, eq-eqb, ne-eqb, not-true}
+use Rattle.queue.specs.Codec.{cases, cond-cases, All, beC, pairC, optC}
+use Rattle.queue.specs.Frames.{idC, placeC}
+use Rattle.queue.specs.Lists.{Pairwise, and-true, all-map, both-pairwise, sub-all, sub-pairwise, sub-total}
 use Rattle.queue.specs.ReadLaws.{false-true}
 use Rattle.queue.specs.Order.{same-is, same-self, same-sym, below-not-same, or-false, or-true}
-use Rattle.queue.specs.ListLaws.{and-false, one-le, all-every, all-with, pairwise-with, filter-sub, filter-total, total-le, total-with, total-eq, find-all, map-all, map-pairwise, map-total, map-total-le, sort-all, sort-total, sort-apart}
+use Rattle.queue.specs.ListLaws.{one-le, all-every, all-with, pairwise-with, filter-sub, filter-total, total-eq, find-all, map-all, map-pairwise, map-total, map-total-le, sort-all, sort-total, sort-apart}
 use Rattle.queue.specs.Sounds.{InRange, Right, Before, Distinct, Apart, Sound, Fields, Fit}
 use Rattle.queue.specs.Forget.{Core, core-sound, forget-sub, forget-sound}
-use Rattle.queue.specs.Keeps.{Kept, Leaves, Tells, moved-fit, committed-kept, pending-mined, pending-held, unmined-place, unmined-mark, no-place, no-mark, in-range, right-later, finish-le, finished-fields, apart-finished, finished-apart, Alike, alike-rising, alike-distinct, alike-apart, alike-total, mined-weight}
-use Rattle.queue.specs.declared.Kind.the-variants.{Memory, Whole, Cursor}
-use Rattle.queue.specs.paper.Records.{Bytes, Id, Limits, Terms, Held, Rec, Queue, queued, mined, conflicted, cancelled, expired}
-use Rattle.queue.specs.paper.Lists.{isSome, one, all?, any?, total, count, filter, find, sort, map}
-use Rattle.queue.specs.paper.Ids.{below?, same?}
-use Rattle.queue.specs.paper.Sound.{holder?, pending?, mined?, inputs, outputs, content, among?, holders, heldBytes, minedHolders, minedBytes, tombstones, heldRight?, reasonRight?, placeRight?, markRight?, finishRight?}
-use Rattle.queue.specs.paper.Changing.{Out, refused, done, top, topHeight, committed, moved, finished, forget, Applied, Reconciling, confirmed?, confirm, judged, judge, touchFound, touch, orElse, heightOf, minedHeight, newer?, releases, released, onePast, placeIn, releaseOne, trimmed, someReleased?, reconcileTo, reconcileOn, queuedOutputs, reconcile}
+use Rattle.queue.specs.Keeps.{Leaves, Tells, moved-fit, committed-kept, pending-mined, pending-held, unmined-place, unmined-mark, no-place, no-mark, in-range, right-later, finish-le, finished-fields, apart-finished, finished-apart, Alike, alike-rising, alike-distinct, alike-apart, alike-total, mined-weight}
+use Rattle.queue.specs.declared.Kind.the-variants.{Nothing, Memory, Whole, Cursor}
+use Rattle.queue.specs.paper.Records.{Id, Limits, Held, Rec, Queue, queued, mined, conflicted, cancelled, expired}
+use Rattle.queue.specs.paper.Lists.{isSome, one, all?, any?, total, filter, find, sort, map}
+use Rattle.queue.specs.paper.Ids.{same?}
+use Rattle.queue.specs.paper.Sound.{holder?, pending?, mined?, inputs, content, among?, holders, heldBytes, tombstones, heldRight?, reasonRight?, placeRight?, markRight?}
+use Rattle.queue.specs.paper.Changing.{Out, refused, done, top, topHeight, moved, finished, Applied, Reconciling, confirmed?, confirm, judged, judge, touchFound, touch, orElse, minedHeight, newer?, releases, released, onePast, placeIn, releaseOne, trimmed, someReleased?, reconcileTo, reconcileOn, queuedOutputs, reconcile}
 
 abbrev pub AppliedOk : Applied → Type 0
 AppliedOk a = (a .height < 256 ^ 4) × idC .ok (a .block)
@@ -201,7 +201,6 @@ module _ (m : Limits) (height window : ℕ) where
   unfolding releases
   walk-few n b [] h = omega arith
   walk-few n b (r ∷ l) h =
-      let w = length (content (r .body)) in
       let i = walk-few (n + 1) (b + length (content (r .body))) l (h .1) in
       let ids = releases m height window (n + 1) (b + length (content (r .body))) l in
       let k = walk-other (r .id) (n + 1) (b + length (content (r .body))) l (h .0) in
@@ -468,3 +467,29 @@ reconcile-tells P c q ok h = go (any? (λ r. isSome (touch c own r)) (q .recs)) 
         (λ u. cases (leb (min (q .persisted + 32) topHeight) (c .height))
         (λ v. rw (t, u, v) (tt, omega arith))
         (λ v. rw (t, u, v) (tt, omega arith))))
+
+-- ---- the cursor stays near the persisted height
+
+-- a cursor that only memory has is less than 32 above the persisted height
+abbrev pub Near : {A : Type 0} → Out A → Type 0
+Near (refused n) = Unit {0}
+Near (done Nothing q a) = Unit {0}
+Near (done Memory q a) = q .cursor < q .persisted + 32
+Near (done Whole q a) = Unit {0}
+Near (done Cursor q a) = Unit {0}
+
+pub reconcile-near : (c : Reconciling) (q : Queue) → Near (reconcile c q)
+unfolding reconcile moved
+reconcile-near c q = on (c .available ++ queuedOutputs (q .recs))
+  where
+    go : (changed : Bool) (l : List Rec) (ids : List Id) → Near (reconcileTo c q changed l ids)
+    go changed l ids = cases (ltb top (q .counter + length ids))
+        (λ t. rw t tt)
+        (λ t. cases (changed || someReleased? ids)
+        (λ u. rw (t, u) tt)
+        (λ u. cases (leb (min (q .persisted + 32) topHeight) (c .height))
+        (λ v. rw (t, u, v) tt)
+        (λ v. let z = leb-false (min (q .persisted + 32) topHeight) (c .height) v in rw (t, u, v) (omega arith))))
+
+    on : (own : List Id) → Near (reconcileOn c q own)
+    on own = go (any? (λ r. isSome (touch c own r)) (q .recs)) (map (λ r. orElse r (touch c own r)) (q .recs)) (released c (q .limits) (map (λ r. orElse r (touch c own r)) (q .recs)))

@@ -1,23 +1,22 @@
 -- A sound queue as a record with named parts, and the numbers that fit their fields.
-use mathlib.Core.Path.{_≡_, refl, ap, sym, _∙_}
-use mathlib.Core.Bool.{Bool, true, false, cond, not, _&&_, _||_}
-use mathlib.Core.Option.{Option, none, some}
+use mathlib.Core.Path.{_≡_, refl, sym, _∙_}
+use mathlib.Core.Bool.{Bool, true, false, not, _||_}
 use mathlib.Core.List.{List, [], _∷_}
-use Prim.Native.Nat.{ℕ, zero, suc, _+_, _*_, _-_, _^_, _≤_, _<_}
+use Prim.Native.Nat.{ℕ, _+_, _*_, _^_, _≤_, _<_}
 use native.Mathlib.Omega.{arith}
-use lib.Dec.{ltb, leb, eqb}
+use lib.Dec.{eqb}
 use lib.ListN.{length}
-use borrow.Author.Tests.{ltb-true, ltb-false, leb-true, le-leb, eqb-true, eqb-false, eq-eqb, ne-eqb, not-true}
-use Rattle.queue.specs.Codec.{cases, All, Codec, beC, pairC, mapC, optC}
+use borrow.Author.Tests.{leb-true, le-leb, eqb-true, eqb-false, eq-eqb, ne-eqb, not-true}
+use Rattle.queue.specs.Codec.{cases, All, beC, pairC, mapC, optC}
 use Rattle.queue.specs.Lists.{Pairwise, and-true, and-both, all-of, of-all, all-map}
 use Rattle.queue.specs.ReadLaws.{false-true}
 use Rattle.queue.specs.Frames.{tagC, idC, termsC, placeC, bodyC, recC, limitsC, headC}
-use Rattle.queue.specs.Forms.{headFor, storeOf, queueC, store-ok, ok-store, queue-ok, ok-queue}
+use Rattle.queue.specs.Forms.{storeOf, queueC, store-ok, ok-store, queue-ok, ok-queue}
 use Rattle.queue.specs.Order.{same-is, same-self, below-trans, or-false, or-true}
-use Rattle.queue.specs.paper.Records.{Bytes, Id, Limits, Terms, Held, Rec, Queue}
-use Rattle.queue.specs.paper.Lists.{isSome, one, all?, any?, total, count}
+use Rattle.queue.specs.paper.Records.{Id, Limits, Rec, Queue}
+use Rattle.queue.specs.paper.Lists.{isSome, one, all?, count}
 use Rattle.queue.specs.paper.Ids.{below?, same?}
-use Rattle.queue.specs.paper.Sound.{inRange, holder?, inputs, outputs, content, labelLen, rising?, holders, heldBytes, minedHolders, minedBytes, tombstones, heldRight?, among?, used?, clash?, apart?, reasonRight?, placeRight?, markRight?, finishRight?, stamped?, distinct?, sizesRight?, right?, counts?, sound?}
+use Rattle.queue.specs.paper.Sound.{inRange, holder?, inputs, outputs, content, labelLen, rising?, holders, heldBytes, minedHolders, minedBytes, tombstones, heldRight?, among?, used?, clash?, apart?, reasonRight?, placeRight?, markRight?, finishRight?, stamped?, distinct?, right?, counts?, sound?}
 
 -- the rules of one record
 pub record Right (K counter : ℕ) (r : Rec) : Type 0 where
