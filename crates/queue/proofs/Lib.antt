@@ -4,3 +4,4 @@ pub mod PutLaws
 pub mod Turns
 pub mod ScanLaws
 pub mod OpenLaws
+pub mod ByteLaws

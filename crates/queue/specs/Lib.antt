@@ -13,3 +13,14 @@ pub mod Areas
 pub mod Facts
 pub mod Rules
 pub mod Opens
+pub mod Plain
+pub mod Order
+pub mod Sounds
+pub mod Bound
+pub mod ListLaws
+pub mod Forget
+pub mod Keeps
+pub mod Admits
+pub mod Cards
+pub mod Reconciles
+pub mod Arguments

@@ -2,10 +2,10 @@
 use super::view::fetch;
 ghost use mathlib.Core.Path.{_≡_};
 ghost use mathlib.Core.List.{[], _∷_};
-ghost use Prim.Native.Nat.{_+_, _-_, _≤_};
+ghost use Prim.Native.Nat.{_+_, _-_, _*_, _≤_, _<_};
 ghost use lib.ListN.{length, take, drop, replicate};
-ghost use Rattle.queue.specs.Ids.{part};
-ghost use Rattle.queue.specs.Splice.{splice, be, Put};
+ghost use Rattle.queue.specs.Hex.{digOf, textOf};
+ghost use Rattle.queue.specs.Splice.{be, Put};
 ghost use Rattle.queue.specs.View.{view};
 
 pub fn put_u8(dst: &mut [u8], at: usize, x: u8) -> usize
@@ -80,4 +80,29 @@ pub fn fill_zero(dst: &mut [u8], from: usize, to: usize) -> usize
         i += 1;
     }
     to
+}
+
+// The digit of a number below 16.
+pub fn dig(d: u8) -> u8
+    requires { ⌜ d < 16 ⌝ }
+    ensures { λ r. ⌜ r ≡ digOf d ⌝ }
+{
+    if d < 10 { 48 + d } else { 87 + d }
+}
+
+// The digits of n bytes of src from `from` on.
+pub fn put_text(src: &[u8], from: usize, n: usize, dst: &mut [u8], at: usize) -> usize
+    requires { ⌜ (from + n ≤ length (now src)) × (at + 2 * n ≤ length (now dst)) ⌝ }
+    ensures { λ r. ⌜ Put (now (dst .entry)) at (textOf (take n (drop from (now (src .entry))))) (2 * n) r (now (dst .exit)) ⌝ }
+{
+    let mut j: usize = 0;
+    let mut o = at;
+    while j < n {
+        let b = src[from + j];
+        dst[o] = dig(b / 16);
+        dst[o + 1] = dig(b % 16);
+        o += 2;
+        j += 1;
+    }
+    o
 }

@@ -1,0 +1,185 @@
+-- Document 01's bench cards, its worked image and docs/AREA.md's worked areas, as one table of tests.
+use mathlib.Core.Path.{_≡_, refl}
+use mathlib.Core.Bool.{Bool, true, false, _&&_}
+use mathlib.Core.Option.{Option, none, some}
+use mathlib.Core.List.{List, [], _∷_, _++_}
+use Prim.Native.Nat.{ℕ, _+_}
+use lib.Dec.{eqb}
+use lib.ListN.{length, replicate}
+use Rattle.queue.specs.Hex.{textOf, digOf}
+use Rattle.queue.specs.Bound.{imageLines}
+use Rattle.queue.specs.paper.Records.{Id, Limits, Rec, Queue}
+use Rattle.queue.specs.paper.Lists.{all?, find}
+use Rattle.queue.specs.paper.Ids.{cmpL, same?}
+use Rattle.queue.specs.paper.Sound.{need, sound?, inRange, counts?, right?, rising?, distinct?, apart?, used?, clash?}
+use Rattle.queue.specs.paper.Area.{termsBytes, placeBytes, heldBytes, recBytes, headBytes, queueBytes, areaBytes}
+use Rattle.queue.specs.paper.Changing.{Out, refused, done, named?, committed, moved, newRec, admit, finished, finishThose, forget, cancel, due?, expire, Applied, confirm, judged, touch, releases, released, reconcile, reopened, reopen, setCursor}
+use Rattle.queue.specs.paper.Calls.{kindNumber, fresh}
+
+-- the number that a call gives back: a refusal's own, or 100 and the kind
+abbrev gives : {A : Type 0} → Out A → ℕ
+gives (refused n) = n
+gives (done k q a) = 100 + kindNumber k
+
+-- the queue after it
+abbrev after : {A : Type 0} → (Queue → Out A) → Queue → Queue
+after {A = A} f q = left (f q)
+  where
+    left : Out A → Queue
+    left (refused n) = q
+    left (done k q′ a) = q′
+
+-- state and reason of an id
+abbrev is? : ℕ → ℕ → Id → Queue → Bool
+is? state reason i q = shown (find (named? i) (q .recs))
+  where
+    shown : Option Rec → Bool
+    shown none = false
+    shown (some r) = eqb (r .state) state && eqb (r .reason) reason
+
+abbrev absent? : Id → Queue → Bool
+absent? i q = shown (find (named? i) (q .recs))
+  where
+    shown : Option Rec → Bool
+    shown none = true
+    shown (some r) = false
+
+-- how many were released
+abbrev releasedIn : Out (Bool × List Id) → ℕ
+releasedIn (refused n) = 100
+releasedIn (done k q a) = length (a .1)
+
+abbrev limits : ℕ → ℕ → ℕ → ℕ → Limits
+limits P B T K = record { P = P; B = B; T = T; K = K }
+
+-- an id of one byte, inputs, n signed bytes, time deadline and height deadline
+abbrev enterWith : List Id → ℕ → ℕ → ℕ → Option ℕ → Option ℕ → Queue → Out Rec
+enterWith ins i n now due dueHeight q = admit (record {
+  id = i ∷ [];
+  now = now;
+  due = due;
+  dueHeight = dueHeight;
+  priority = 0;
+  label = none;
+  fee = 0;
+  cost = 0;
+  held = record { ins = ins; outs = []; bytes = replicate n 7 };
+  tipHeight = 9;
+  tip = none;
+}) q
+
+abbrev enter : ℕ → ℕ → ℕ → Option ℕ → Option ℕ → Queue → Out Rec
+enter = enterWith []
+
+abbrev watch : ℕ → ℕ → List Applied → Queue → Out (Bool × List Id)
+watch height window applied q = reconcile (record { height = height; tip = []; applied = applied; caughtUp = false; available = []; window = window }) q
+
+abbrev mined50 : ℕ → List Applied
+mined50 i = record { id = i ∷ []; height = 50; block = [] } ∷ []
+
+abbrev small : Queue
+small = fresh (limits 2 10 1 1)
+
+-- two Mined holders under P 2, the first with an input
+abbrev twoMined : Queue
+twoMined =
+    after (watch 50 100 (mined50 1 ++ mined50 2)) (after (enter 2 3 0 none none) (after (enterWith ((9 ∷ []) ∷ []) 1 3 0 none none) small))
+
+-- one record Mined at 50, kept by a window of 100
+abbrev confirmed : Queue
+confirmed = after (watch 50 100 (mined50 1)) (after (enter 1 3 0 none none) small)
+
+-- its persisted height is 100
+abbrev at100 : Queue
+at100 = after (watch 100 100 []) confirmed
+
+abbrev topRevision : Queue
+topRevision = record { persisted = 0; limits = limits 2 10 1 1; revision = 18446744073709551615; cursor = 0; tip = none; counter = 0; recs = [] }
+
+-- the worked area's queue with one cancelled record
+abbrev worked : Queue
+worked = record {
+  persisted = 6;
+  limits = limits 2 10 1 1;
+  revision = 2;
+  cursor = 6;
+  tip = none;
+  counter = 1;
+  recs = record {
+    id = replicate 32 17;
+    state = 4;
+    reason = 1;
+    terms = record { created = 5; due = none; dueHeight = none; priority = 4294967295; label = none; fee = 7; size = 3; cost = 9 };
+    place = none;
+    mark = 0;
+    finish = 1;
+    body = none;
+  } ∷ [];
+}
+
+abbrev cards : List Bool
+cards =
+    -- "Deadline 6 at 5 enters, 5 doesn't."
+    eqb (gives (enter 1 3 5 (some 6) none small)) 102
+    ∷ eqb (gives (enter 1 3 5 (some 5) none small)) 7
+    -- the same of heights: "9 at 9"
+    ∷ eqb (gives (enter 1 3 5 none (some 10) small)) 102
+    ∷ eqb (gives (enter 1 3 5 none (some 9) small)) 8
+    -- "B 10: 6 + 4 enters, 6 + 5 doesn't."
+    ∷ eqb (gives (enter 2 4 0 none none (after (enter 1 6 0 none none) small))) 102
+    ∷ eqb (gives (enter 2 5 0 none none (after (enter 1 6 0 none none) small))) 11
+    -- "Mined at 50, height 50: window 0 releases, window 1 keeps; at 51 it releases."
+    ∷ eqb (releasedIn (watch 50 0 [] confirmed)) 1
+    ∷ eqb (releasedIn (watch 50 1 [] confirmed)) 0
+    ∷ eqb (releasedIn (watch 51 1 [] confirmed)) 1
+    -- "Persisted 100, no record changed: 131 kind 1, 132 kind 3."
+    ∷ eqb (at100 .persisted) 100
+    ∷ eqb (gives (watch 131 100 [] at100)) 101
+    ∷ eqb (gives (watch 132 100 [] at100)) 103
+    -- "Cancelled, confirmed, reopened: Cancelled."
+    ∷ is? 4 1 (1 ∷ []) (after (reopen ((1 ∷ []) ∷ [])) (after (watch 50 1 (mined50 1)) (after (cancel (1 ∷ [])) (after (enter 1 3 0 none none) small))))
+    -- "Released, reopened: 5, reason 3."
+    ∷ is? 5 3 (1 ∷ []) (after (reopen ((1 ∷ []) ∷ [])) (after (watch 50 0 []) confirmed))
+    -- "T 1, two cancelled: the second remains."
+    ∷ is? 4 1 (1 ∷ []) (after (cancel (1 ∷ [])) (after (cancel (2 ∷ [])) (after (enter 2 3 0 none none) (after (enter 1 3 0 none none) small))))
+    ∷ absent? (2 ∷ []) (after (cancel (1 ∷ [])) (after (cancel (2 ∷ [])) (after (enter 2 3 0 none none) (after (enter 1 3 0 none none) small))))
+    -- "Revision at top: 0."
+    ∷ eqb (after (enter 1 3 0 none none) topRevision .revision) 0
+    -- "Errors near to hand: counting Mined in refusal 10; dropping inputs at confirmation; taking zero bytes for a tombstone"
+    ∷ eqb (gives (enter 3 3 0 none none twoMined)) 102
+    ∷ eqb (gives (enterWith ((9 ∷ []) ∷ []) 3 3 0 none none twoMined)) 12
+    ∷ eqb (gives (cancel (1 ∷ []) (after (enter 1 0 0 none none) small))) 102
+    -- "Fresh with P 2, B 10, T 1, K 1, whole, 85 bytes": each digit's byte, and the end byte
+    ∷ same? (imageLines small)
+    ((48 ∷ 49 ∷ [])
+    ++ ((48 ∷ 48 ∷ 48 ∷ 48 ∷ 48 ∷ 48 ∷ 48 ∷ 50 ∷ [])
+    ++ ((48 ∷ 48 ∷ 48 ∷ 48 ∷ 48 ∷ 48 ∷ 48 ∷ 97 ∷ [])
+    ++ ((48 ∷ 48 ∷ 48 ∷ 48 ∷ 48 ∷ 48 ∷ 48 ∷ 49 ∷ [])
+    ++ ((48 ∷ 48 ∷ 48 ∷ 48 ∷ 48 ∷ 48 ∷ 48 ∷ 49 ∷ [])
+    ++ (replicate 16 48 ++ (replicate 8 48 ++ (replicate 2 48 ++ (replicate 16 48 ++ (replicate 8 48 ++ (10 ∷ [])))))))))))
+    ∷ eqb (length (imageLines small)) 85
+    -- docs/AREA.md: "A fresh queue under P 2, B 10, T 1, K 1 needs 3,348 bytes. They start with these 46, and the rest are zeros"
+    ∷ eqb (need (limits 2 10 1 1)) 3348
+    ∷ same? (areaBytes small)
+    ((0 ∷ 0 ∷ 0 ∷ 0 ∷ [])
+    ++ ((1 ∷ 0 ∷ 0 ∷ 0 ∷ 2 ∷ 0 ∷ 0 ∷ 0 ∷ 10 ∷ 0 ∷ 0 ∷ 0 ∷ 1 ∷ 0 ∷ 0 ∷ 0 ∷ 1 ∷ [])
+    ++ (replicate 8 0 ++ (replicate 4 0 ++ (replicate 1 0 ++ (replicate 8 0 ++ (replicate 4 0 ++ replicate 3302 0)))))))
+    -- "The same queue with one cancelled record .. starts with"
+    ∷ sound? worked
+    ∷ same? (queueBytes worked)
+    ((0 ∷ 0 ∷ 0 ∷ 6 ∷ [])
+    ++ ((1 ∷ 0 ∷ 0 ∷ 0 ∷ 2 ∷ 0 ∷ 0 ∷ 0 ∷ 10 ∷ 0 ∷ 0 ∷ 0 ∷ 1 ∷ 0 ∷ 0 ∷ 0 ∷ 1 ∷ [])
+    ++ ((0 ∷ 0 ∷ 0 ∷ 0 ∷ 0 ∷ 0 ∷ 0 ∷ 2 ∷ [])
+    ++ ((0 ∷ 0 ∷ 0 ∷ 6 ∷ 0 ∷ [])
+    ++ ((0 ∷ 0 ∷ 0 ∷ 0 ∷ 0 ∷ 0 ∷ 0 ∷ 1 ∷ 0 ∷ 0 ∷ 0 ∷ 1 ∷ [])
+    ++ ((2 ∷ [])
+    ++ (replicate 32 17
+    ++ ((4 ∷ 1 ∷ [])
+    ++ ((0 ∷ 0 ∷ 0 ∷ 0 ∷ 0 ∷ 0 ∷ 0 ∷ 5 ∷ 0 ∷ 0 ∷ 255 ∷ 255 ∷ 255 ∷ 255 ∷ 0 ∷ [])
+    ++ ((0 ∷ 0 ∷ 0 ∷ 0 ∷ 0 ∷ 0 ∷ 0 ∷ 7 ∷ 0 ∷ 0 ∷ 0 ∷ 3 ∷ 0 ∷ 0 ∷ 0 ∷ 0 ∷ 0 ∷ 0 ∷ 0 ∷ 9 ∷ [])
+    ++ (0 ∷ 0 ∷ 0 ∷ 0 ∷ 0 ∷ 0 ∷ 0 ∷ 0 ∷ 0 ∷ 1 ∷ 0 ∷ [])))))))))))
+    ∷ []
+
+pub all-cards : all? (λ b. b) cards ≡ true
+unfolding cmpL need sound? inRange counts? right? rising? distinct? apart? used? clash? termsBytes placeBytes heldBytes recBytes headBytes queueBytes areaBytes committed moved newRec admit finished finishThose forget cancel due? expire confirm judged touch releases released reconcile reopened reopen setCursor textOf digOf
+all-cards = refl

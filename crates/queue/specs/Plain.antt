@@ -1,0 +1,100 @@
+-- The encoding that document 01 and docs/AREA.md say in plain words is that of the codecs.
+use mathlib.Core.Path.{_≡_, refl, ap, _∙_}
+use mathlib.Core.Bool.{true}
+use mathlib.Core.Option.{Option, none, some}
+use mathlib.Core.List.{List, [], _∷_, _++_}
+use Prim.Native.Nat.{ℕ}
+use lib.ListN.{length}
+use Rattle.queue.specs.Codec.{Codec, be, byteC, beC, pairC, mapC, optC, optEnc, vecC, countedC, encs}
+use Rattle.queue.specs.Frames.{tagC, idC, labelC, termsC, heldC, bodyC, placeC, recC, limitsC, headC}
+use Rattle.queue.specs.Hex.{textOf}
+use Rattle.queue.specs.Forms.{headFor, storeOf, formC, lineEnc, queueC, queue-enc, image-enc}
+use Rattle.queue.specs.Areas.{layout, image}
+use Rattle.queue.specs.paper.Records.{Bytes, Id, Terms, Held, Rec, Queue}
+use Rattle.queue.specs.paper.Lists.{map, concat}
+use Rattle.queue.specs.paper.Area.{flagged, termsBytes, placeBytes, heldBytes, recBytes, headBytes, queueBytes, areaBytes}
+
+pub bytes-plain : (s : Bytes) → encs byteC s ≡ s
+unfolding encs byteC
+bytes-plain [] = refl
+bytes-plain (b ∷ s) = ap (λ x. b ∷ x) (bytes-plain s)
+
+pub id-plain : (i : Id) → idC .enc i ≡ i
+unfolding idC vecC
+id-plain i = bytes-plain i
+
+pub ids-plain : (l : List Id) → encs idC l ≡ concat l
+unfolding encs
+ids-plain [] = refl
+ids-plain (i ∷ l) = rw (id-plain i, ids-plain l)
+
+pub opt-plain : {A : Type 0} (𝓐 : Codec A) (f : A → Bytes) → ((a : A) → 𝓐 .enc a ≡ f a) → (o : Option A) → optC 𝓐 .enc o ≡ flagged f o
+unfolding optC optEnc
+opt-plain 𝓐 f h none = refl
+opt-plain 𝓐 f h (some a) = ap (λ x. 1 ∷ x) (h a)
+
+label-plain : (l : Bytes) → countedC byteC 1 .enc l ≡ be 1 (length l) ++ l
+unfolding countedC
+label-plain l = rw (bytes-plain l)
+
+be-plain : (n v : ℕ) → beC n .enc v ≡ be n v
+unfolding beC
+be-plain n v = refl
+
+pub terms-plain : (t : Terms) → termsC .enc t ≡ termsBytes t
+unfolding termsC mapC pairC labelC termsBytes
+terms-plain t = rw (
+  opt-plain (beC 8) (be 8) (be-plain 8) (t .due),
+  opt-plain (beC 4) (be 4) (be-plain 4) (t .dueHeight),
+  opt-plain (countedC byteC 1) (λ l. be 1 (length l) ++ l) label-plain (t .label),
+  be-plain 8 (t .created),
+  be-plain 4 (t .priority),
+  be-plain 8 (t .fee),
+  be-plain 4 (t .size),
+  be-plain 8 (t .cost),
+)
+
+pub place-plain : (o : Option (ℕ × Id)) → placeC .enc o ≡ placeBytes o
+unfolding placeC placeBytes pairC beC
+place-plain o = opt-plain (pairC (beC 4) idC) (λ p. be 4 (p .0) ++ p .1) (λ p. rw (id-plain (p .1))) o
+
+pub held-plain : (h : Held) → heldC .enc h ≡ heldBytes h
+unfolding heldC heldBytes mapC pairC countedC
+held-plain h = rw (ids-plain (h .ins), ids-plain (h .outs), bytes-plain (h .bytes))
+
+pub body-plain : (o : Option Held) → bodyC .enc o ≡ flagged heldBytes o
+unfolding bodyC
+body-plain o = opt-plain heldC heldBytes held-plain o
+
+pub rec-plain : (r : Rec) → recC .enc r ≡ recBytes r
+unfolding recC recBytes mapC pairC tagC beC
+rec-plain r = rw (id-plain (r .id), terms-plain (r .terms), place-plain (r .place), body-plain (r .body))
+
+pub recs-plain : (l : List Rec) → encs recC l ≡ concat (map recBytes l)
+unfolding encs
+recs-plain [] = refl
+recs-plain (r ∷ l) = rw (rec-plain r, recs-plain l)
+
+pub head-plain : (q : Queue) → headC .enc (headFor (storeOf q)) ≡ headBytes q
+unfolding headC headBytes limitsC mapC pairC tagC beC
+head-plain q = rw (opt-plain idC (λ i. i) id-plain (q .tip))
+
+pub queue-plain : (q : Queue) → queueC .enc q ≡ queueBytes q
+unfolding queueBytes
+queue-plain q = queue-enc q ∙ rw (head-plain q, recs-plain (q .recs))
+
+pub area-plain : (q : Queue) → layout q ≡ areaBytes q
+unfolding layout areaBytes
+area-plain q = rw (queue-plain q)
+
+abbrev pub line : Bytes → Bytes
+line f = textOf f ++ (10 ∷ [])
+
+lines-plain : (l : List Rec) → encs (formC true recC) l ≡ concat (map (λ r. line (recBytes r)) l)
+unfolding encs formC lineEnc
+lines-plain [] = refl
+lines-plain (r ∷ l) = rw (rec-plain r, lines-plain l)
+
+pub image-plain : (q : Queue) → image q ≡ line (headBytes q) ++ concat (map (λ r. line (recBytes r)) (q .recs))
+unfolding image lineEnc
+image-plain q = image-enc (storeOf q) ∙ rw (head-plain q, lines-plain (q .recs))
