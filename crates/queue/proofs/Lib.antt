@@ -5,3 +5,5 @@ pub mod Turns
 pub mod ScanLaws
 pub mod OpenLaws
 pub mod ByteLaws
+pub mod FinishLaws
+pub mod FrontLaws

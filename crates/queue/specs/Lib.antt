@@ -24,3 +24,5 @@ pub mod Admits
 pub mod Cards
 pub mod Reconciles
 pub mod Arguments
+pub mod Fronts
+pub mod Finishing

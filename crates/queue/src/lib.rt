@@ -1,8 +1,10 @@
 // The private transaction queue in a lent area.
 
 pub mod area;
+pub mod finish;
 pub mod forms;
 pub mod frame;
+pub mod head;
 pub mod limits;
 pub mod logic;
 pub mod put;

@@ -1,0 +1,36 @@
+use mathlib.Core.Path.{_≡_, refl, sym, ap, _∙_}
+use native.Mathlib.Omega.{arith}
+use mathlib.Core.Bool.{Bool, true, false, _&&_}
+use Prim.Native.Nat.{ℕ, _≤_, _+_, _-_, _*_, _<_}
+use Rattle.queue.specs.Finishing.{pickedS}
+use borrow.Author.Needs.{needs}
+use Rattle.queue.proofs.finish.picks.Statement.{statement}
+use Rattle.queue.proofs.finish.picks.Tie as tie
+use Rattle.queue.proofs.finish.picks.Reads as reads
+use Rattle.queue.proofs.finish.picks.Lts as lts
+use Rattle.queue.proofs.rules.due.Reads as due-reads
+use Rattle.queue.proofs.view.cmp_id.Reads as cmp-id-reads
+
+enum-told : tie.Need-enum-told
+enum-told c = search needs
+
+cmp-id-requires : tie.Need-cmp-id-requires
+cmp-id-requires c κs = search needs
+
+enum-known-c : tie.Need-enum-known-c
+enum-known-c c = search needs
+
+due-requires : tie.Need-due-requires
+due-requires c κs = search needs
+
+returns : tie.Need-returns
+unfolding pickedS
+returns c = rw (c .before .before .enum-told .given .1, ← c .cmp-id .ensures)
+
+returns-2 : tie.Need-returns-2
+unfolding pickedS
+returns-2 c = rw (c .before .before .before .c .given .1) (c .due .ensures)
+
+pub picks-spec : {M : Type 1} → statement M
+picks-spec =
+    tie.close (tie.spec enum-told cmp-id-requires enum-known-c due-requires returns returns-2)

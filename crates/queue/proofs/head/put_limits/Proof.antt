@@ -1,0 +1,40 @@
+use mathlib.Core.Path.{_≡_, refl, sym, ap, _∙_}
+use native.Mathlib.Omega.{arith}
+use mathlib.Core.Bool.{Bool, true, false, _&&_}
+use Prim.Native.Nat.{ℕ, _≤_, _+_, _-_, _*_, _<_}
+use Rattle.queue.proofs.FrontLaws.{limits-put}
+use borrow.Author.Needs.{needs}
+use Rattle.queue.proofs.head.put_limits.Statement.{statement}
+use Rattle.queue.proofs.head.put_limits.Tie as tie
+use Rattle.queue.proofs.head.put_limits.Reads as reads
+use Rattle.queue.proofs.head.put_limits.Lts as lts
+use Rattle.queue.proofs.put.put_be.Reads as put-be-reads
+
+put-be-requires : tie.Need-put-be-requires
+put-be-requires c κs = search needs
+
+put-be-requires-2 : tie.Need-put-be-requires-2
+put-be-requires-2 c κs = search needs
+
+put-be-requires-3 : tie.Need-put-be-requires-3
+put-be-requires-3 c κs = search needs
+
+put-be-requires-4 : tie.Need-put-be-requires-4
+put-be-requires-4 c κs = search needs
+
+same-length : tie.Need-same-length
+same-length c = search needs
+
+returns : tie.Need-returns
+returns c = limits-put (c .before .before .before .before .before .before .before .before .before .before .before .before .before .before .before .before .before .pre .1) (c .before .before .before .before .before .before .before .before .before .before .before .before .before .before .before .before .before .pre .2) (c .before .before .before .before .before .before .before .before .before .before .before .before .before .before .before .before .before .pre .3) (c .before .before .before .before .before .before .before .before .before .before .before .before .before .before .before .before .before .pre .4) (c .before .before .before .before .before .before .before .before .before .before .before .before .before .before .put-be .ensures) (c .before .before .before .before .before .before .before .before .before .before .put-be2 .ensures) (c .before .before .before .before .before .before .put-be3 .ensures) (c .before .before .put-be4 .ensures)
+
+pub put-limits-spec : {M : Type 1} → statement M
+put-limits-spec =
+    tie.close
+    (tie.spec
+    put-be-requires
+    put-be-requires-2
+    put-be-requires-3
+    put-be-requires-4
+    same-length
+    returns)

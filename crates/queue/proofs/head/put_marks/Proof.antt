@@ -1,0 +1,43 @@
+use mathlib.Core.Path.{_≡_, refl, sym, ap, _∙_}
+use native.Mathlib.Omega.{arith}
+use mathlib.Core.Bool.{Bool, true, false, _&&_}
+use Prim.Native.Nat.{ℕ, _≤_, _+_, _-_, _*_, _<_}
+use Rattle.queue.specs.Fronts.{marksBytes}
+use Rattle.queue.proofs.PutLaws.{then, recast}
+use borrow.Author.Needs.{needs}
+use Rattle.queue.proofs.head.put_marks.Statement.{statement}
+use Rattle.queue.proofs.head.put_marks.Tie as tie
+use Rattle.queue.proofs.head.put_marks.Reads as reads
+use Rattle.queue.proofs.head.put_marks.Lts as lts
+use Rattle.queue.proofs.head.put_tip.Reads as put-tip-reads
+use Rattle.queue.proofs.put.put_be.Reads as put-be-reads
+
+put-be-requires : tie.Need-put-be-requires
+put-be-requires c κs = search needs
+
+put-tip-requires : tie.Need-put-tip-requires
+put-tip-requires c κs = search needs
+
+put-be-requires-2 : tie.Need-put-be-requires-2
+put-be-requires-2 c κs = search needs
+
+put-be-requires-3 : tie.Need-put-be-requires-3
+put-be-requires-3 c κs = search needs
+
+same-length : tie.Need-same-length
+same-length c = search needs
+
+returns : tie.Need-returns
+unfolding marksBytes
+returns c = recast (then (then (then (c .before .before .before .before .before .before .before .before .before .before .before .before .before .before .put-be .ensures) (c .before .before .before .before .before .before .before .before .before .before .put-tip .ensures)) (c .before .before .before .before .before .before .put-be2 .ensures)) (c .before .before .put-be3 .ensures)) refl (omega arith) refl
+
+pub put-marks-spec : {M : Type 1} → statement M
+put-marks-spec =
+    tie.close
+    (tie.spec
+    put-be-requires
+    put-tip-requires
+    put-be-requires-2
+    put-be-requires-3
+    same-length
+    returns)

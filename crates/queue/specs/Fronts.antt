@@ -1,0 +1,49 @@
+-- The front of an area as it is written: the persisted height and the header.
+use mathlib.Core.Bool.{Bool, true, false, cond}
+use mathlib.Core.Option.{Option, none, some}
+use mathlib.Core.List.{List, [], _∷_, _++_}
+use Prim.Native.Nat.{ℕ, _<_}
+use Rattle.queue.specs.Splice as split
+use Rattle.queue.specs.Codec.{Codec, be, optC}
+use Rattle.queue.specs.Frames.{Head, idC, limitsC, headC}
+use Rattle.queue.specs.paper.Records.{Bytes, Id, Limits, Rec, Queue}
+use Rattle.queue.specs.declared.head.Marks.{Marks}
+
+abbrev pub tipOf : Bool → Id → Option Id
+tipOf has id = cond has (some id) none
+
+abbrev pub tipSize : Bool → ℕ
+tipSize has = cond has 33 1
+
+abbrev pub headWith : Limits → Marks → Id → Head
+headWith l m tip = record { limits = l; revision = m .revision; cursor = m .cursor .0; tip = tipOf (m .tip) tip; counter = m .counter .0; count = m .count }
+
+unfoldable pub frontBytes : Limits → Marks → Id → Bytes
+frontBytes l m tip = be 4 (m .persisted .0) ++ headC .enc (headWith l m tip)
+
+-- its numbers fit their fields
+pub record Small (m : Marks) : Type 0 where
+  pub persisted : m .persisted .0 < 4294967296
+  pub revision : m .revision < 18446744073709551616
+  pub cursor : m .cursor .0 < 4294967296
+  pub counter : m .counter .0 < 18446744073709551616
+  pub count : m .count < 4294967296
+
+-- the same in two pieces, as they are written
+unfoldable pub startBytes : Limits → ℕ → ℕ → Bytes
+startBytes l persisted revision = ((split.be 4 persisted ++ (1 ∷ [])) ++ limitsC .enc l) ++ split.be 8 revision
+
+unfoldable pub marksBytes : Marks → Id → Bytes
+marksBytes m tip = ((split.be 4 (m .cursor .0) ++ optC idC .enc (tipOf (m .tip) tip)) ++ split.be 8 (m .counter .0)) ++ split.be 4 (m .count)
+
+-- the queue with that front and those records
+abbrev pub queueOf : Limits → Marks → Id → List Rec → Queue
+queueOf l m tip recs = record {
+  persisted = m .persisted .0;
+  limits = l;
+  revision = m .revision;
+  cursor = m .cursor .0;
+  tip = tipOf (m .tip) tip;
+  counter = m .counter .0;
+  recs = recs;
+}
