@@ -1,16 +1,14 @@
 -- Laws of the image: a text that is read, frames in the other form, and each exit of the two calls. Assumes nothing.
 use mathlib.Core.Path.{_≡_, refl, ap, sym, _∙_}
-use mathlib.Core.Bool.{Bool, true, false, cond, not, _&&_}
-use mathlib.Core.Option.{Option, none, some}
-use mathlib.Core.List.{List, [], _∷_, _++_, append-assoc}
-use Prim.Native.Nat.{ℕ, zero, suc, _+_, _-_, _*_, _^_, _≤_, _<_}
+use mathlib.Core.Bool.{Bool, true, false, not}
+use mathlib.Core.Option.{some}
+use mathlib.Core.List.{List, [], _∷_, _++_}
+use Prim.Native.Nat.{ℕ, _+_, _-_, _*_, _≤_, _<_}
 use native.Mathlib.Omega.{arith}
 use native.Mathlib.Nat.{zero-add}
-use lib.Dec.{ltb, eqb}
 use lib.ListN.{length, drop, take, replicate, length-append, length-drop}
 use borrow.Author.Tests.{lt-ltb, le-ltb, eq-eqb, ne-eqb}
 use Rattle.queue.specs.declared.Kind.the-variants.{Nothing}
-use Rattle.queue.specs.declared.Answer.{Answer}
 use Rattle.queue.specs.declared.Answer.the-variants.{Refused, Done}
 use Rattle.queue.specs.declared.frame.Seen.{Seen}
 use Rattle.queue.specs.declared.area.Open.{Open}
@@ -20,25 +18,24 @@ use Rattle.queue.specs.Codec.{Got, fail, got, Codec, beC, pairC, mapC, encs, de
 use Rattle.queue.specs.Frames.{headC, recC}
 use Rattle.queue.specs.Reads.{Reads, whole, listAt, behind, isGot, valOf, restOf}
 use Rattle.queue.specs.ReadLaws.{false-true, Turn, none-left}
-use Rattle.queue.specs.View.{view, view-raw}
+use Rattle.queue.specs.View.{view}
 use Rattle.queue.specs.Hex.{textOf, text-length}
 use Rattle.queue.specs.Splice.{splice, be, Put}
-use Rattle.queue.specs.Facts.{SeenAs}
 use Rattle.queue.specs.Forms.{formC, lineEnc, afterIn, Framed, turn-in, Store, headFor, storeC, framesC, framesEnc, store-length, storeOf, queueWith, queueC, form-raw, ok-queue}
-use Rattle.queue.specs.Areas.{readArea, readImage, layout, image, image-found, image-none}
+use Rattle.queue.specs.Areas.{readImage, layout, image, image-found, image-none}
 use Rattle.queue.specs.Opens.{limits, StoreAs, soundL, sound-list, AreaAs, AreaIs}
 use Rattle.queue.specs.Plain.{area-plain, image-plain}
 use Rattle.queue.specs.Bound.{fits-need, area-size, reads-image}
-use Rattle.queue.specs.paper.Records.{Bytes, Limits, Rec, Queue}
+use Rattle.queue.specs.paper.Records.{Bytes, Limits, Queue}
 use Rattle.queue.specs.paper.Sound.{need, sound?}
 use Rattle.queue.specs.paper.Area.{areaBytes, over}
-use Rattle.queue.specs.paper.Calls.{Written, written}
+use Rattle.queue.specs.paper.Calls.{written}
 use Rattle.queue.proofs.PutLaws.{splice-is, then, kept, recast, sized, Left, begun, onward, done}
 use Rattle.queue.proofs.ByteLaws.{be-same}
 use Rattle.queue.proofs.Turns.{SeenIn, ReadsRec}
 use Rattle.image.specs.declared.text.Text.{Text}
 use Rattle.image.specs.Texts.{turned, turnedLen, TextAs, TextIs, StoreRoom, StorePut, AreaHeld, ImageLen, AreaRoom, AreaPut}
-use Rattle.image.specs.paper.Image.{line, imageBytes, Imaged, imaged, imageOf, openOf}
+use Rattle.image.specs.paper.Image.{imageBytes, imaged, imageOf, openOf}
 
 -- ---- a text
 same-limits : (m : Limits) {p b t k : ℕ} → m .P ≡ p → m .B ≡ b → m .T ≡ t → m .K ≡ k → m ≡ limits p b t k
@@ -82,14 +79,18 @@ module _ {s : Bytes} {y : Open} (r : Reads (storeC true) s 0 (y .ok) (y .next) (
       let rd : readImage s ≡ some (queueWith (u .0 .cursor) (u .0)) = u .2 ∙ rw (eq-eqb (y .next) (length s) n, the-rules (u .0) (u .1), ← k, t) in
       let w = reads-image s (queueWith (u .0 .cursor) (u .0)) rd in
       record {
-        good = λ z. (queueWith (u .0 .cursor) (u .0), rd, record {
-          store = rw e2 (u .1);
-          need = e3 ∙ g ∙ ap need (sym (the-limits (u .0) (u .1)));
-          small = rw e3 l;
-          sound = w .0;
-          range = w .1 .0;
-          level = refl;
-        });
+        good = λ z. (
+          queueWith (u .0 .cursor) (u .0),
+          rd,
+          record {
+            store = rw e2 (u .1);
+            need = e3 ∙ g ∙ ap need (sym (the-limits (u .0) (u .1)));
+            small = rw e3 l;
+            sound = w .0;
+            range = w .1 .0;
+            level = refl;
+          },
+        );
         bad = λ z. false-true (sym z ∙ e1);
       }
 

@@ -6,7 +6,7 @@ use queue::put::copy_view;
 use queue::put::put_text;
 use queue::put::put_u8;
 ghost use mathlib.Core.Path.{_≡_};
-ghost use mathlib.Core.Bool.{true, false, not};
+ghost use mathlib.Core.Bool.{true, not};
 ghost use Prim.Native.Nat.{_+_, _≤_};
 ghost use lib.ListN.{length, take};
 ghost use Rattle.queue.specs.Codec.{encs};

@@ -1,8 +1,3 @@
-use mathlib.Core.Path.{_≡_, refl, sym, ap, _∙_}
-use mathlib.Core.Bool.{Bool, true, false, not}
-use Prim.Native.Nat.{ℕ, _≤_, _+_, _-_, _*_, _<_}
-use native.Mathlib.Omega.{arith}
-use lib.ListN.{length}
 use borrow.Author.Tests.{not-true, not-false}
 use Rattle.image.proofs.ImageLaws.{write-unsound, write-held, write-short, write-room, write-done}
 use borrow.Author.Needs.{needs}

@@ -1,10 +1,5 @@
-use mathlib.Core.Path.{_≡_, refl, sym, ap, _∙_}
-use mathlib.Core.Bool.{Bool, true, false, not}
-use Prim.Native.Nat.{ℕ, _≤_, _+_, _-_, _*_, _<_}
 use native.Mathlib.Omega.{arith}
-use lib.ListN.{length}
-use borrow.Author.Tests.{not-true, not-false}
-use Rattle.queue.specs.View.{view, view-raw}
+use Rattle.queue.specs.View.{view-raw}
 use Rattle.queue.proofs.PutLaws.{kept}
 use Rattle.image.proofs.ImageLaws.{turned-copy, turned-line, room-copy, room-line}
 use borrow.Author.Needs.{needs}

@@ -1,9 +1,4 @@
-use mathlib.Core.Path.{_≡_, refl, sym, ap, _∙_}
-use mathlib.Core.Bool.{Bool, true, false, not}
-use Prim.Native.Nat.{ℕ, _≤_, _+_, _-_, _*_, _<_}
 use native.Mathlib.Omega.{arith}
-use lib.ListN.{length}
-use borrow.Author.Tests.{not-true, not-false}
 use Rattle.image.proofs.ImageLaws.{Turning, turning, turn-within, turn-room, turn-on, turn-end}
 use borrow.Author.Needs.{needs}
 use Rattle.image.proofs.frames.put_frames.Statement.{statement}
