@@ -1,4 +1,74 @@
 // The stored image of a queue: lines of hexadecimal, one frame a line.
-pub fn both(a: bool, b: bool) -> bool {
-    if a { b } else { false }
+use frames::put_store;
+use queue::Answer;
+use queue::Kind;
+use queue::area::Area;
+use queue::area::area_at;
+use queue::put::fill_zero;
+use queue::put::put_be;
+use text::Text;
+use text::text_at;
+ghost use mathlib.Core.Path.{_≡_};
+ghost use lib.ListN.{length};
+ghost use Rattle.queue.specs.paper.Calls.{written};
+ghost use Rattle.image.specs.Texts.{AreaHeld, ImageLen, AreaRoom, AreaPut};
+ghost use Rattle.image.specs.paper.Image.{imaged, imageOf, openOf};
+
+pub mod frames;
+pub mod text;
+
+// How long the image of the queue is that was read from an area: two digits a byte of its frames, and an end for each.
+pub fn image_len(a: Area) -> usize
+    requires { ⌜ AreaHeld a ⌝ }
+    ensures { λ r. ⌜ ImageLen a r ⌝ }
+{
+    let x = a.open;
+    let h = x.head;
+    2 * (x.next - 4) + 1 + (h.count as usize)
+}
+
+// The image writer. All that can refuse comes before the first byte is written.
+pub fn write(area: &[u8], out: &mut [u8], size: &mut u64) -> Answer
+    ensures { λ r. ⌜ imaged r (now (out .exit)) (now (size .exit)) ≡ imageOf (now (area .entry)) (now (out .entry)) (now (size .entry)) ⌝ }
+{
+    let a = area_at(area);
+    if !a.ok {
+        return Answer::Refused(3);
+    }
+    let n = image_len(a);
+    if out.len() < n {
+        return Answer::Refused(4);
+    }
+    let x = a.open;
+    put_store(area, false, 4, x, out, 0);
+    *size = n as u64;
+    Answer::Done(Kind::Nothing)
+}
+
+// The area of the queue that was read from a text; its persisted height is its cursor's.
+fn put_area(s: &[u8], t: Text, dst: &mut [u8]) -> usize
+    requires { ⌜ AreaRoom (now s) t (length (now dst)) ⌝ }
+    ensures { λ r. ⌜ AreaPut (now (s .entry)) t (now (dst .entry)) r (now (dst .exit)) ⌝ }
+{
+    let x = t.open;
+    let h = x.head;
+    let c = h.cursor;
+    let a = put_be(dst, 0, 4, c.0);
+    let e = put_store(s, true, 0, x, dst, a);
+    fill_zero(dst, e, t.need)
+}
+
+// Opening. All that can refuse comes before the first byte is written.
+pub fn open(text: &[u8], area: &mut [u8]) -> Answer
+    ensures { λ r. ⌜ written r (now (area .exit)) ≡ openOf (now (text .entry)) (now (area .entry)) ⌝ }
+{
+    let t = text_at(text);
+    if !t.ok {
+        return Answer::Refused(16);
+    }
+    if area.len() < t.need {
+        return Answer::Refused(2);
+    }
+    put_area(text, t, area);
+    Answer::Done(Kind::Nothing)
 }
