@@ -216,6 +216,10 @@ unfoldable pub setCursorOf : Bytes → Bytes → ℕ → ℕ → Bytes → Outco
 setCursorOf cur next height flag tip =
     changing cur next [] λ q. cond (givenId? flag tip) (told nothingBytes next [] (setCursor height (given flag tip) q)) (refuse 5 next [])
 
+-- the same beside an output that the call isn't lent
+abbrev pub withOut : Bytes → Outcome → Outcome
+withOut out o = outcome (o .answer) (o .next) out
+
 -- ---- fresh queues and settling
 
 -- what a call that writes one area gives back, and leaves there

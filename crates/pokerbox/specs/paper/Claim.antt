@@ -1,0 +1,123 @@
+-- Demand 3, as a single claim about the whole list.
+use mathlib.Core.Path.{_≡_}
+use mathlib.Core.Bool.{Bool, true, false, cond, _&&_}
+use mathlib.Core.Option.{Option, none, some}
+use mathlib.Core.List.{List, [], _∷_, _++_}
+use Prim.Native.Nat.{ℕ, _+_, _*_, _≤_, _<_}
+use lib.ListN.{length}
+use Rattle.queue.specs.declared.Kind.the-variants.{Nothing, Memory, Whole, Cursor}
+use Rattle.queue.specs.declared.Answer.{Answer}
+use Rattle.queue.specs.declared.Answer.the-variants.{Refused, Done}
+use Rattle.queue.specs.Codec.{All}
+use Rattle.queue.specs.paper.Records.{Bytes, Id, Limits, Rec, Queue}
+use Rattle.queue.specs.paper.Sound.{inRange, need, holders, heldBytes, tombstones, apart?}
+use Rattle.queue.specs.paper.Area.{areaBytes}
+use Rattle.queue.specs.paper.Calls.{AdmitArgs, ReconcileArgs, freshOf}
+use Rattle.image.specs.paper.Image.{imageBytes}
+use Rattle.pokerbox.specs.paper.Machine.{Call, admitting, cancelling, expiring, reconciling, reopening, settingCursor, Fate, kept, failed, cutBefore, cutAfter, Lent, Step, call, cut, Told, Worked, work, Plain, plainStep, plainRun, World, worldRun, restart, opened}
+
+-- ---- which lists: any, as far as numbers fit their widths and bytes are bytes (a caller can lend nothing else), and "all
+-- other areas, and the output lent to the image writer, are long enough"
+
+abbrev pub Small : Bytes → Type 0
+Small s = All (λ b. b < 256) s
+
+abbrev pub CallOk : Call → Type 0
+CallOk (admitting a) =
+    (Small (a .id) × (Small (a .inputs) × (Small (a .outputs) × (Small (a .bytes) × (Small (a .label) × Small (a .tip))))))
+    × ((a .now < 18446744073709551616) × ((a .time < 18446744073709551616) × ((a .height < 4294967296) × ((a .priority < 4294967296) × ((a .fee < 18446744073709551616) × ((a .cost < 18446744073709551616) × (a .tipHeight < 4294967296)))))))
+CallOk (cancelling i) = Small i
+CallOk (expiring now height) = Unit {0}
+CallOk (reconciling a) =
+    (Small (a .tip) × (Small (a .applied) × Small (a .available))) × ((a .height < 4294967296) × (a .window < 4294967296))
+CallOk (reopening ids) = Small ids
+CallOk (settingCursor height flag tip) = Small tip × (height < 4294967296)
+
+-- an image is at most so long: two digits a byte of the area, and a line end for each frame
+abbrev pub imageRoom : Limits → ℕ
+imageRoom m = 2 * need m + (2 * m .P + m .T + 1)
+
+pub record LentOk (m : Limits) (l : Lent) : Type 0 where
+  pub text : imageRoom m ≤ length (l .text)
+  pub other : need m ≤ length (l .other)
+
+abbrev pub StepOk : Limits → Step → Type 0
+StepOk m (call c l fate) = CallOk c × LentOk m l
+StepOk m (cut l) = LentOk m l
+
+-- ---- who moved the cursor last: "A reconciliation is successful with kind 1, or when its write is kept, or cut after its
+-- rename. So nothing is claimed of a cursor that a cursor setting or a failed kind 3 moved last." The cursor is moved "by
+-- opening or a fresh queue" too; "a call refused by another number than 17, or a failed kind 2, doesn't move it".
+
+abbrev pub byWrite : Bool → Bool → Bool → Fate → Bool
+byWrite old new afterFailed kept = new
+byWrite old new afterFailed failed = afterFailed
+byWrite old new afterFailed cutBefore = false
+byWrite old new afterFailed cutAfter = false
+
+abbrev pub byAnswer : Bool → Bool → Fate → Answer → Bool
+byAnswer old new fate (Refused n) = old
+byAnswer old new fate (Done Nothing) = old
+byAnswer old new fate (Done Memory) = new
+byAnswer old new fate (Done Whole) = byWrite old new old fate
+byAnswer old new fate (Done Cursor) = byWrite old new false fate
+
+-- an admission into no records moves it
+abbrev pub noneYet? : List Rec → Bool
+noneYet? [] = true
+noneYet? (r ∷ l) = false
+
+abbrev pub mover : Call → Queue → Bool → Bool
+mover (admitting a) q old = cond (noneYet? (q .recs)) false old
+mover (cancelling i) q old = old
+mover (expiring now height) q old = old
+mover (reconciling a) q old = true
+mover (reopening ids) q old = old
+mover (settingCursor height flag tip) q old = false
+
+-- whether a successful reconciliation moved it last
+abbrev pub movedBy : Plain → Bool → Step → Bool
+movedBy p old (call c l fate) = byAnswer old (mover c (p .queue) old) fate (work c (p .queue) (length (l .next)) (length (l .out)) .answer)
+movedBy p old (cut l) = false
+
+abbrev pub movedLast : Limits → Plain → Bool → List Step → Bool
+movedLast m p old [] = old
+movedLast m p old (x ∷ xs) = movedLast m (plainStep m p x .1) (movedBy p old x) xs
+
+-- "With nothing stored, the image's cursor counts as 0."
+abbrev pub imageCursor : Option Queue → ℕ
+imageCursor none = 0
+imageCursor (some q) = q .cursor
+
+abbrev pub images : Option Queue → Option Bytes
+images none = none
+images (some q) = some (imageBytes q)
+
+-- ---- the claim
+
+-- After a list of steps: "All answers and the queue equal those of document 01's plain machine, fed the same"; the first file is
+-- "byte for byte the image of the machine's stored queue, or absent"; and the bounds.
+pub record Holds (m : Limits) (xs : List Step) (told : List Told) (w : World) (p : List Told × Plain) : Type 0 where
+  pub answers : told ≡ p .0
+  pub later : Bytes
+  pub queue : w .area ≡ areaBytes (p .1 .queue) ++ later
+  pub file : w .file ≡ images (p .1 .stored)
+  -- "Opening what is stored, or starting fresh where nothing is, gives exactly the records of that machine's queue"
+  pub opening : (other : Bytes) → need m ≤ length other → (rest : Bytes) × (opened m (w .file) other ≡ areaBytes (restart m (p .1 .stored) .queue) ++ rest)
+  pub records : restart m (p .1 .stored) .queue .recs ≡ p .1 .queue .recs
+  -- "No input id is in two records. Holders number at most 2P with at most 2B signed bytes, tombstones at most T. A cursor last
+  -- moved by a successful reconciliation is at most 31 blocks above the image's."
+  pub limits : p .1 .queue .limits ≡ m
+  pub apart : apart? (p .1 .queue .recs) ≡ true
+  pub holders : holders (p .1 .queue .recs) ≤ 2 * m .P
+  pub bytes : heldBytes (p .1 .queue .recs) ≤ 2 * m .B
+  pub tombstones : tombstones (p .1 .queue .recs) ≤ m .T
+  pub cursor : movedLast m (restart m none) false xs ≡ true → p .1 .queue .cursor ≤ imageCursor (p .1 .stored) + 31
+
+-- "The queue starts fresh, under any limits in range, with nothing stored. For every list .." (every list, so every first part
+-- of one: the claim holds after each call and each cut)
+pub Claim : Type 0
+Claim =
+    (m : Limits) (first : Bytes) (xs : List Step) → inRange m ≡ true → need m ≤ length first → All (StepOk m) xs
+    → Holds m xs (worldRun m (record { area = freshOf m first .area; file = none }) xs .0) (worldRun m (record { area = freshOf m first .area; file = none }) xs .1)
+    (plainRun m (restart m none) xs)
