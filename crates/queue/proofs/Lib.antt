@@ -5,3 +5,4 @@ pub mod Turns
 pub mod ScanLaws
 pub mod OpenLaws
 pub mod ByteLaws
+pub mod ReadingLaws

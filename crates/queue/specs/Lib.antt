@@ -24,3 +24,4 @@ pub mod Admits
 pub mod Cards
 pub mod Reconciles
 pub mod Arguments
+pub mod ReadingAs

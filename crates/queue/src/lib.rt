@@ -6,6 +6,7 @@ pub mod frame;
 pub mod limits;
 pub mod logic;
 pub mod put;
+pub mod reading;
 pub mod rules;
 pub mod scan;
 pub mod view;
