@@ -7,3 +7,4 @@ pub mod OpenLaws
 pub mod ByteLaws
 pub mod FinishLaws
 pub mod FrontLaws
+pub mod ReadingLaws

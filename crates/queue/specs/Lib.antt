@@ -26,3 +26,4 @@ pub mod Reconciles
 pub mod Arguments
 pub mod Fronts
 pub mod Finishing
+pub mod ReadingAs

@@ -8,6 +8,7 @@ pub mod head;
 pub mod limits;
 pub mod logic;
 pub mod put;
+pub mod reading;
 pub mod rules;
 pub mod scan;
 pub mod view;

@@ -1,0 +1,352 @@
+-- The reading calls: a search by id, what was looked up, and each exit. Assumes nothing.
+use mathlib.Core.Path.{_≡_, refl, ap, sym, _∙_}
+use mathlib.Core.Bool.{Bool, true, false, cond, not, _&&_}
+use mathlib.Core.Option.{Option, none, some}
+use mathlib.Core.List.{List, [], _∷_, _++_, append-assoc}
+use Prim.Native.Nat.{ℕ, zero, suc, _+_, _-_, _*_, _^_, _≤_, _<_}
+use native.Mathlib.Omega.{arith}
+use lib.Dec.{ltb, leb, eqb}
+use lib.ListN.{length, drop, take, length-append, length-drop}
+use lib.Seq.{drop-drop, take-all, take-at, drop-at, length-take-le}
+use borrow.Author.Tests.{eq-eqb, ne-eqb, lt-ltb, le-ltb}
+use Rattle.queue.specs.Codec as codec
+use Rattle.queue.specs.Codec.{All, Got, fail, got, Codec, decs, encs, byteC, beC, be-length, pairC, mapC, optC, vecC, countedC, vecMost, vec-bwd}
+use Rattle.queue.specs.Splice.{Put, be}
+use Rattle.queue.specs.Plain.{terms-plain, place-plain, ids-plain, id-plain, rec-plain, body-plain}
+use Rattle.queue.specs.Frames.{tagC, recC, idC, termsC, labelC, placeC, bodyC}
+use Rattle.queue.specs.Reads.{Reads, isGot, valOf, whole, listAt}
+use Rattle.queue.specs.ReadLaws.{Turn, turn, false-true, Spans, spans-id, spans-vec}
+use Rattle.queue.specs.View.{view}
+use Rattle.queue.specs.Forms.{formC, afterIn, Framed, turn-in}
+use Rattle.queue.specs.Areas.{readArea}
+use Rattle.queue.specs.Facts.{factsOf, SeenAs}
+use Rattle.queue.specs.Opens.{AreaAs, AreaIs}
+use Rattle.queue.specs.Ids.{part}
+use Rattle.queue.specs.ReadingAs.{Here, FoundAs, Look, off, hit, lookRec, lookIn, lookOf, LookAs, PlaceAs, EntryIn, entryAt, entryLen}
+use Rattle.queue.specs.paper.Records.{Bytes, Id, Terms, Held, Rec, Queue}
+use Rattle.queue.specs.paper.Lists.{isSome, find, concat}
+use Rattle.queue.specs.paper.Ids.{cmpL}
+use Rattle.queue.specs.paper.Sound.{inputs, content, labelLen}
+use Rattle.queue.specs.paper.Area.{over, termsBytes, placeBytes, recBytes, flagged, heldBytes}
+use Rattle.queue.specs.paper.Changing.{named?}
+use Rattle.queue.specs.paper.Reading as reading
+use Rattle.queue.specs.paper.Reading.{signedOf, signedBytes}
+use Rattle.queue.specs.paper.Calls.{Written, written, id?, entryBytes, toldOut, toldEntry, readQueue, entryOf, toldPart, partOf, signedBytesOf}
+use Rattle.queue.specs.declared.Kind.the-variants.{Nothing}
+use Rattle.queue.specs.declared.Answer.{Answer}
+use Rattle.queue.specs.declared.Answer.the-variants.{Refused, Done}
+use Rattle.queue.specs.declared.frame.Seen.{Seen}
+use Rattle.queue.specs.declared.area.Area.{Area}
+use Rattle.queue.specs.declared.reading.Found.{Found}
+use Rattle.queue.specs.declared.reading.Looked.{Looked}
+use Rattle.queue.specs.declared.reading.Place.{Place}
+use Rattle.queue.proofs.PutLaws.{length-be, then, recast, put-over}
+use Rattle.queue.proofs.ByteLaws.{be-same, between}
+use Rattle.queue.proofs.Turns.{Scan, start, on, stop, end, SeenIn, ReadsRec, seen, see}
+
+-- ---- finding
+unfoldable pub findF : Id → Unit {0} → List Rec → Option Rec
+findF z u l = find (named? z) l
+
+one-here : (s : Bytes) (i next : ℕ) (r : Rec) → formC false recC .dec (drop i s) ≡ got r (drop next s) → (whole (formC false recC) 1 s i ≡ true) × (listAt (formC false recC) 1 s i ≡ r ∷ [])
+unfolding whole listAt decs
+one-here s i next r e = rw e (refl, refl)
+
+module _ (z : Id) {s : Bytes} {n at i left : ℕ} (x : Scan (formC false recC) (findF z) s n at tt i left tt) where
+  pub find-go : {m j : ℕ} {ok : Bool} {y : Seen} → 0 < left → ReadsRec false s i ok m y → j ≡ afterIn false s i m → (cmpL z (y .id) ≡ 1 → ⊥) → Scan (formC false recC) (findF z) s n at tt j (left - 1) tt
+  unfolding findF
+  find-go h r g e = let t = see false x h r g in on x tt h t (rw (← (t .is .0 .id), ne-eqb _ _ e))
+
+  pub find-stop : {m : ℕ} {ok : Bool} {y : Seen} → 0 < left → ReadsRec false s i ok m y → cmpL z (y .id) ≡ 1 → FoundAs s (record { found = true; at = i }) (find (named? z) (listAt (formC false recC) n s at))
+  unfolding findF
+  find-stop {m} h r e = let t = seen false x h r in
+      let f : some (t .item) ≡ find (named? z) (listAt (formC false recC) n s at) = stop x t (rw (← (t .is .0 .id), eq-eqb _ _ e)) in
+      let o = one-here s i (afterIn false s i m) (t .item) (t .here) in
+      record { good = λ _. (t .item, sym f, (x .within, o .0, o .1)); bad = λ e. false-true (sym e) }
+
+  pub find-end : left ≡ 0 → FoundAs s (record { found = false; at = 0 }) (find (named? z) (listAt (formC false recC) n s at))
+  unfolding findF
+  find-end e = record { good = λ z. false-true z; bad = λ _. sym (end x e) }
+
+-- the record that stands there is what a reader finds there
+pub met : {s : Bytes} {at m : ℕ} {ok : Bool} {y : Seen} {r : Rec} → Here s at r → ReadsRec false s at ok m y → SeenIn false s at ok m y r
+met {s} {at} {m} {ok} {y} {r} h x =
+    let t = turn-in false 1 (h .0) (h .1) (omega arith) x in
+    let e : t .item ≡ r = let z : _≡_ {A = List Rec} (t .item ∷ listAt (formC false recC) (1 - 1) s (afterIn false s at m)) (r ∷ []) = sym (t .list) ∙ h .2 in cc in
+    rw (← e) (t .is)
+
+-- ---- looking up
+key : {k id : Id} → length id ≡ 32 → k ≡ part 32 (view false id 0) 0 → k ≡ id
+unfolding part view
+key {k} {id} h e = e ∙ take-all 32 id (omega arith)
+
+bad-look : (s id : Bytes) (n : ℕ) → 0 < n → lookOf s id ≡ off n → LookAs s id (record { refusal = n; at = 0 })
+bad-look s id n h e = record { good = λ z. absurd (let y : ⊥ = omega arith in y); bad = λ _. e }
+
+pub look-3 : (s id : Bytes) {x : Area} → AreaIs s x → x .ok ≡ false → LookAs s id (record { refusal = 3; at = 0 })
+unfolding lookOf
+look-3 s id a f = bad-look s id 3 (omega arith) (rw (a .bad f))
+
+module _ (s id : Bytes) {x : Area} (a : AreaIs s x) (t : x .ok ≡ true) where
+  pub look-5 : (length id ≡ 32 → ⊥) → LookAs s id (record { refusal = 5; at = 0 })
+  unfolding lookOf
+  look-5 h = let q = a .good t in bad-look s id 5 (omega arith) (rw (q .1, ne-eqb _ _ h))
+
+  module _ (h : length id ≡ 32) (k : Id) (e : k ≡ part 32 (view false id 0) 0) {y : Found} (f : FoundAs s y (find (named? k) (listAt (formC false recC) (x .open .head .count) s (x .open .start)))) where
+    look-is : lookOf s id ≡ lookRec (find (named? k) (listAt (formC false recC) (x .open .head .count) s (x .open .start)))
+    unfolding lookOf
+    look-is = let q = a .good t in rw (q .1, eq-eqb _ _ h, ← (key h e)) (ap (λ l. lookRec (find (named? k) l)) (sym (q .2 .store .list)))
+
+    pub look-13 : y .found ≡ false → LookAs s id (record { refusal = 13; at = 0 })
+    look-13 z = bad-look s id 13 (omega arith) (look-is ∙ ap lookRec (f .bad z))
+
+    pub look-0 : y .found ≡ true → LookAs s id (record { refusal = 0; at = y .at })
+    look-0 z = let u = f .good z in record { good = λ _. (u .0, look-is ∙ ap lookRec (u .1), u .2); bad = λ g. absurd (g refl) }
+
+-- ---- signed bytes
+abbrev partLook : Look → Answer × Bytes
+partLook (off n) = (Refused n, [])
+partLook (hit r) = toldPart (signedOf (some r))
+
+signed-look : (s id : Bytes) → signedBytesOf s id ≡ partLook (lookOf s id)
+unfolding signedBytesOf signedBytes lookOf
+signed-look s id = go (readArea s)
+  where
+    rec : (o : Option Rec) → toldPart (signedOf o) ≡ partLook (lookRec o)
+    rec none = refl
+    rec (some r) = refl
+
+    test : (q : Queue) (b : Bool) → cond b (toldPart (signedOf (find (named? id) (q .recs)))) (Refused 5, []) ≡ partLook (cond b (lookRec (find (named? id) (q .recs))) (off 5))
+    test q true = rec (find (named? id) (q .recs))
+    test q false = refl
+
+    go : (o : Option Queue) → partOf id o ≡ partLook (lookIn id o)
+    go none = refl
+    go (some q) = test q (id? id)
+
+with-body : Rec → Option Held → Rec
+with-body r o = record { id = r .id; state = r .state; reason = r .reason; terms = r .terms; place = r .place; mark = r .mark; finish = r .finish; body = o }
+
+signed-body : (r : Rec) (o : Option Held) → (isSome o ≡ true → signedOf (some (with-body r o)) ≡ some (content o)) × (isSome o ≡ false → signedOf (some (with-body r o)) ≡ none)
+unfolding with-body
+signed-body r none = (λ e. false-true e, λ e. refl)
+signed-body r (some h) = (λ e. refl, λ e. false-true (sym e))
+
+signed-held : (r : Rec) → (isSome (r .body) ≡ true → signedOf (some r) ≡ some (content (r .body))) × (isSome (r .body) ≡ false → signedOf (some r) ≡ none)
+unfolding with-body
+signed-held r = signed-body r (r .body)
+
+holder-is : {v : Bytes} {y : Seen} {r : Rec} → SeenAs v y r → isSome (r .body) ≡ y .facts .holder
+unfolding factsOf
+holder-is x = sym (ap (λ f. f .holder) (x .facts))
+
+module _ (s id : Bytes) {x : Looked} (f : LookAs s id x) where
+  pub place-off : (x .refusal ≡ 0 → ⊥) → PlaceAs s id (record { answer = Refused (x .refusal); start = 0; len = 0 })
+  place-off h = record { is = sym (signed-look s id ∙ ap partLook (f .bad h)); within = omega arith }
+
+  module _ (z : x .refusal ≡ 0) {m : ℕ} {ok : Bool} {y : Seen} (rd : ReadsRec false s (x .at) ok m y) where
+    pub place-tomb : y .facts .holder ≡ false → PlaceAs s id (record { answer = Refused 13; start = 0; len = 0 })
+    place-tomb t =
+        let u = f .good z in
+        let w = met (u .2) rd .0 in
+        record { is = sym (signed-look s id ∙ ap partLook (u .1) ∙ ap toldPart (signed-held (u .0) .1 (holder-is w ∙ t))); within = omega arith }
+
+    pub place-within : (x .at ≤ length s) × (y .content + y .facts .bytes ≤ length s - x .at) × (y .facts .bytes < 4294967296)
+    unfolding view
+    place-within = let u = f .good z in let w = met (u .2) rd .0 in (u .2 .0, omega (arith, w .signedIn, length-drop (x .at) s), w .small .bytes)
+
+    pub place-held : y .facts .holder ≡ true → PlaceAs s id (record { answer = Done Nothing; start = x .at + y .content; len = y .facts .bytes })
+    unfolding view
+    place-held t =
+        let u = f .good z in
+        let w = met (u .2) rd .0 in
+        let c : take (y .facts .bytes) (drop (x .at + y .content) s) ≡ content (u .0 .body) = ap (take (y .facts .bytes)) (sym (drop-drop (y .content) (x .at) s)) ∙ w .signed in
+        record {
+          is = rw c (sym (signed-look s id ∙ ap partLook (u .1) ∙ ap toldPart (signed-held (u .0) .0 (holder-is w ∙ t))));
+          within = omega (arith, place-within .0, place-within .1);
+        }
+
+pub place-part : {s id : Bytes} {x : Place} → PlaceAs s id x → take (x .start + x .len - x .start) (drop (x .start) s) ≡ signedBytesOf s id .1
+place-part {s} {id} {x} p = let e : x .start + x .len - x .start ≡ x .len = omega arith in rw e (ap (λ y. y .1) (p .is))
+
+-- ---- an entry
+bytes-most : (s : Bytes) → vecMost byteC s ≡ length s
+unfolding byteC
+bytes-most [] = refl
+bytes-most (b ∷ s) = let k = bytes-most s in omega arith
+
+number-most : (n : ℕ) (o : Option ℕ) → optC (beC n) .most o ≤ n + 1
+unfolding optC beC
+number-most n none = omega arith
+number-most n (some a) = omega arith
+
+label-most : (o : Option Bytes) → labelLen o < 256 → labelC .most o ≤ 257
+unfolding labelC optC countedC
+label-most none h = omega arith
+label-most (some s) h = let e = bytes-most s in omega arith
+
+terms-most : (t : Terms) → labelLen (t .label) < 256 → termsC .most t ≤ 303
+unfolding termsC mapC pairC beC
+terms-most t h =
+    let a = number-most 8 (t .due) in
+    let b = number-most 4 (t .dueHeight) in
+    let c = label-most (t .label) h in
+    omega arith
+
+place-most : (o : Option (ℕ × Id)) → placeC .ok o → placeC .most o ≤ 37
+unfolding placeC optC pairC beC idC vecC
+place-most none h = omega arith
+place-most (some x) h = let e = bytes-most (x .1) in let k = h .1 .1 in omega arith
+
+pub record Parts (r : Rec) : Type 0 where
+  pub id : length (r .id) ≡ 32
+  pub state : r .state < 256 ^ 1
+  pub reason : r .reason < 256 ^ 1
+  pub terms : termsC .ok (r .terms)
+  pub place : placeC .ok (r .place)
+
+pub rec-parts : (r : Rec) → recC .ok r → Parts r
+unfolding recC mapC pairC beC idC vecC
+rec-parts r h = record { id = h .1 .0 .1; state = h .1 .1 .0; reason = h .1 .1 .1 .0; terms = h .1 .1 .1 .1 .0; place = h .1 .1 .1 .1 .1 .0 }
+
+-- the ids of a list stand one behind the other
+pub ids-here : (v : Bytes) (n at : ℕ) → whole idC n v at ≡ true → (take (n * 32) (drop at v) ≡ concat (listAt idC n v at)) × (n * 32 ≤ length (drop at v)) × (length (listAt idC n v at) ≡ n)
+unfolding whole listAt vecC
+ids-here v n at w = go (decs idC n (drop at v)) refl w
+  where
+    go : (o : Got (List Id)) → decs idC n (drop at v) ≡ o → isGot o ≡ true → (take (n * 32) (drop at v) ≡ concat (valOf o)) × (n * 32 ≤ length (drop at v)) × (length (valOf o) ≡ n)
+    go fail p w = false-true w
+    go (got l r) p w =
+        let u = vec-bwd idC n (drop at v) l r p in
+        let z : length (encs idC l) ≡ n * 32 = spans-vec spans-id n .size l (u .1) in
+        let k = ap length (u .0) ∙ length-append (encs idC l) r in
+        (ap (take (n * 32)) (u .0) ∙ take-at (encs idC l) r (n * 32) z ∙ ids-plain l, omega arith, u .1 .1)
+
+glue : {a a′ b b′ c c′ : Bytes} → a ≡ a′ → b ≡ b′ → c ≡ c′ → a ++ (b ++ c) ≡ a′ ++ (b′ ++ c′)
+glue p q r = cc
+
+regroup : (i a b t p n c : Bytes) → ((i ++ (a ++ b)) ++ (t ++ p)) ++ (n ++ c) ≡ i ++ (a ++ (b ++ (t ++ (p ++ (n ++ c)))))
+regroup i a b t p n c = simp append-assoc
+
+front-of : Rec → Bytes
+front-of r = r .id ++ (codec.be 1 (r .state) ++ codec.be 1 (r .reason))
+
+rest-of : Rec → Bytes
+rest-of r = termsBytes (r .terms) ++ (placeBytes (r .place) ++ (codec.be 1 (r .mark) ++ (codec.be 8 (r .finish) ++ flagged heldBytes (r .body))))
+
+rec-front : (r : Rec) (t : Bytes) → recBytes r ++ t ≡ 2 ∷ (front-of r ++ (rest-of r ++ t))
+unfolding recBytes front-of rest-of
+rec-front r t = simp append-assoc
+
+module _ {s : Bytes} {base m : ℕ} {ok : Bool} {y : Seen} {r : Rec} (h : base ≤ length s) (x : SeenIn false s base ok m y r) where
+  -- the frame's front, up to the terms
+  front-size : length (front-of r) ≡ 34
+  unfolding front-of
+  front-size = let p = rec-parts r (x .1 .fine) in rw length-append (omega (arith, p .id))
+
+  from-id : drop 1 (view false s base) ≡ front-of r ++ drop 35 (view false s base)
+  from-id =
+      let v = view false s base in
+      let e : v ≡ 2 ∷ (front-of r ++ (rest-of r ++ drop m v)) = recC .bwd v r (drop m v) (x .1 .here) .0 ∙ ap (λ (b : Bytes). b ++ drop m v) (rec-plain r) ∙ rec-front r (drop m v) in
+      let a : drop 1 v ≡ front-of r ++ (rest-of r ++ drop m v) = ap (drop 1) e in
+      let b : drop 35 v ≡ rest-of r ++ drop m v = sym (drop-drop 34 1 v) ∙ ap (drop 34) a ∙ drop-at (front-of r) (rest-of r ++ drop m v) 34 front-size in
+      a ∙ ap (λ (b : Bytes). front-of r ++ b) (sym b)
+
+  head-of : Bytes
+  head-of = front-of r ++ (termsBytes (r .terms) ++ placeBytes (r .place))
+
+  to-place : drop 1 (view false s base) ≡ head-of ++ drop (y .mark) (view false s base)
+  unfolding head-of
+  to-place = from-id ∙ rw (x .0 .terms, x .0 .place, terms-plain (r .terms), place-plain (r .place)) (simp append-assoc)
+
+  view-is : view false s base ≡ drop base s
+  unfolding view
+  view-is = refl
+
+  pub entry-in : EntryIn s base y
+  unfolding factsOf
+  entry-in =
+      let w = x .0 in
+      let v = view false s base in
+      let l : length v ≡ length s - base = ap length view-is ∙ length-drop base s in
+      let p = rec-parts r (x .1 .fine) in
+      let a = between v (termsC .enc (r .terms)) 35 (y .after) (w .terms) (w .up) (omega (arith, w .upPlace, w .upBody, w .end)) .1 in
+      let b = between v (placeC .enc (r .place)) (y .after) (y .mark) (w .place) (w .upPlace) (omega (arith, w .upBody, w .end)) .1 in
+      let c : labelLen (r .terms .label) < 256 = rw (ap (λ f. f .label) (w .facts)) at (w .small .label) in
+      let d = termsC .fits (r .terms) (p .terms) in
+      let e = terms-most (r .terms) c in
+      let f = placeC .fits (r .place) (p .place) in
+      let g = place-most (r .place) (p .place) in
+      let i = ids-here v (y .facts .ins) (y .at) (w .insAll) .1 in
+      let j = length-drop (y .at) v in
+      record {
+        up = omega (arith, w .up, w .upPlace);
+        most = omega (arith, w .up, w .upPlace);
+        within = omega (arith, w .upBody, w .end);
+        ins = omega (arith, w .insIn);
+        few = w .small .ins;
+      }
+
+  pub entry-is : entryAt s base y ≡ entryBytes r
+  unfolding entryAt entryBytes head-of front-of
+  entry-is =
+      let w = x .0 in
+      let v = view false s base in
+      let a = between v head-of 1 (y .mark) to-place (omega (arith, w .up, w .upPlace)) (omega (arith, w .upBody, w .end)) .0 in
+      let a′ : take (y .mark - 1) (drop (base + 1) s) ≡ head-of = ap (take (y .mark - 1)) (sym (drop-drop 1 base s) ∙ ap (drop 1) (sym view-is)) ∙ a in
+      let b = ids-here v (y .facts .ins) (y .at) (w .insAll) in
+      let b′ : take (y .facts .ins * 32) (drop (base + y .at) s) ≡ concat (inputs (r .body)) = ap (take (y .facts .ins * 32)) (sym (drop-drop (y .at) base s) ∙ ap (drop (y .at)) (sym view-is)) ∙ b .0 ∙ ap concat (w .insList) in
+      let k : length (inputs (r .body)) ≡ y .facts .ins = ap length (sym (w .insList)) ∙ b .2 in
+      glue a′ (be-same 2 (y .facts .ins) (w .small .ins) ∙ ap (codec.be 2) (sym k)) b′
+      ∙ regroup (r .id) (codec.be 1 (r .state)) (codec.be 1 (r .reason)) (termsBytes (r .terms)) (placeBytes (r .place)) (codec.be 2 (length (inputs (r .body)))) (concat (inputs (r .body)))
+
+  pub entry-size : length (entryBytes r) ≡ entryLen y
+  unfolding entryAt
+  entry-size =
+      let i = entry-in in
+      let a : length (take (y .mark - 1) (drop (base + 1) s)) ≡ y .mark - 1 = length-take-le _ _ (omega (arith, length-drop (base + 1) s, i .within, i .up)) in
+      let b : length (take (y .facts .ins * 32) (drop (base + y .at) s)) ≡ y .facts .ins * 32 = length-take-le _ _ (omega (arith, length-drop (base + y .at) s, i .ins)) in
+      ap length (sym entry-is) ∙ rw (length-append, length-append, length-be 2 (y .facts .ins), a, b)
+
+-- ---- an output: too short, or written
+pub told-4 : (bs out : Bytes) → length out < length bs → toldOut bs out ≡ written (Refused 4) out
+told-4 bs out h = rw (lt-ltb (length out) (length bs) h)
+
+pub told-100 : {bs out out′ : Bytes} {n r : ℕ} → Put out 0 bs n r out′ → n ≤ length out → toldOut bs out ≡ written (Done Nothing) out′
+told-100 {bs} {out} {out′} {n} {r} p h = rw (le-ltb (length out) (length bs) (omega (arith, p .size)), put-over p h)
+
+abbrev toldLook : Bytes → Look → Written
+toldLook out (off n) = written (Refused n) out
+toldLook out (hit r) = toldOut (entryBytes r) out
+
+entry-look : (s id out : Bytes) → entryOf s id out ≡ toldLook out (lookOf s id)
+unfolding entryOf reading.entry lookOf
+entry-look s id out = go (readArea s)
+  where
+    rec : (o : Option Rec) → toldEntry out o ≡ toldLook out (lookRec o)
+    rec none = refl
+    rec (some r) = refl
+
+    test : (q : Queue) (b : Bool) → cond b (toldEntry out (find (named? id) (q .recs))) (written (Refused 5) out) ≡ toldLook out (cond b (lookRec (find (named? id) (q .recs))) (off 5))
+    test q true = rec (find (named? id) (q .recs))
+    test q false = refl
+
+    go : (o : Option Queue) → readQueue out (λ q. cond (id? id) (toldEntry out (reading.entry id q)) (written (Refused 5) out)) o ≡ toldLook out (lookIn id o)
+    go none = refl
+    go (some q) = test q (id? id)
+
+module _ (s id out : Bytes) {x : Looked} (f : LookAs s id x) where
+  pub entry-off : (x .refusal ≡ 0 → ⊥) → written (Refused (x .refusal)) out ≡ entryOf s id out
+  entry-off h = sym (entry-look s id out ∙ ap (toldLook out) (f .bad h))
+
+  module _ (z : x .refusal ≡ 0) {m : ℕ} {ok : Bool} {y : Seen} (rd : ReadsRec false s (x .at) ok m y) where
+    pub entry-fits : EntryIn s (x .at) y
+    entry-fits = let u = f .good z in entry-in (u .2 .0) (met (u .2) rd)
+
+    pub entry-4 : length out < entryLen y → written (Refused 4) out ≡ entryOf s id out
+    entry-4 h = let u = f .good z in
+        sym (entry-look s id out ∙ ap (toldLook out) (u .1) ∙ told-4 (entryBytes (u .0)) out (omega (arith, entry-size (u .2 .0) (met (u .2) rd))))
+
+    pub entry-100 : {out′ : Bytes} {r : ℕ} → Put out 0 (entryAt s (x .at) y) (entryLen y) r out′ → entryLen y ≤ length out → written (Done Nothing) out′ ≡ entryOf s id out
+    entry-100 p h = let u = f .good z in
+        sym (entry-look s id out ∙ ap (toldLook out) (u .1) ∙ told-100 (recast p (entry-is (u .2 .0) (met (u .2) rd)) refl refl) h)

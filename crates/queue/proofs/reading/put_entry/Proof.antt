@@ -1,0 +1,56 @@
+use mathlib.Core.Path.{_≡_, refl, sym, ap, _∙_}
+use native.Mathlib.Omega.{arith}
+use mathlib.Core.Bool.{Bool, true, false, _&&_}
+use Prim.Native.Nat.{ℕ, _≤_, _+_, _-_, _*_, _<_}
+use lib.ListN.{length, take, drop}
+use Rattle.queue.proofs.PutLaws.{then, kept, recast}
+use Rattle.queue.specs.ReadingAs.{entryAt}
+use borrow.Author.Needs.{needs}
+use Rattle.queue.proofs.reading.put_entry.Statement.{statement}
+use Rattle.queue.proofs.reading.put_entry.Tie as tie
+use Rattle.queue.proofs.reading.put_entry.Reads as reads
+use Rattle.queue.proofs.reading.put_entry.Lts as lts
+use Rattle.queue.proofs.put.copy_part.Reads as copy-part-reads
+use Rattle.queue.proofs.put.put_be.Reads as put-be-reads
+
+mul-n : tie.Need-mul-n
+mul-n c = search needs
+
+add-i : tie.Need-add-i
+add-i c = search needs
+
+add-copy-part : tie.Need-add-copy-part
+add-copy-part c = search needs
+
+sub-copy-part : tie.Need-sub-copy-part
+sub-copy-part c = search needs
+
+copy-part-requires : tie.Need-copy-part-requires
+copy-part-requires c κs = search needs
+
+put-be-requires : tie.Need-put-be-requires
+put-be-requires c κs = search needs
+
+copy-part-requires-2 : tie.Need-copy-part-requires-2
+copy-part-requires-2 c κs = (omega (arith, c .before .before .before .before .before .before .before .before .before .before .before .before .before .before .before .pre .0 .ins), omega (arith, kept (c .before .before .before .before .before .before .before .copy-part .ensures), kept (c .before .before .before .put-be .ensures), c .before .before .before .before .before .before .before .copy-part .ensures .next, c .before .before .before .put-be .ensures .next, c .before .before .before .before .before .before .before .before .before .before .before .before .before .before .before .pre .1))
+
+same-length : tie.Need-same-length
+same-length c = search needs
+
+returns : tie.Need-returns
+unfolding entryAt
+returns c = then (c .before .before .before .before .before .before .before .before .before .before .copy-part .ensures) (then (c .before .before .before .before .before .before .put-be .ensures) (c .before .before .copy-part2 .ensures))
+
+pub put-entry-spec : {M : Type 1} → statement M
+put-entry-spec =
+    tie.close
+    (tie.spec
+    mul-n
+    add-i
+    add-copy-part
+    sub-copy-part
+    copy-part-requires
+    put-be-requires
+    copy-part-requires-2
+    same-length
+    returns)

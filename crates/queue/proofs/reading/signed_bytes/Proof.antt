@@ -1,0 +1,35 @@
+use mathlib.Core.Path.{_≡_, refl, sym, ap, _∙_}
+use native.Mathlib.Omega.{arith}
+use mathlib.Core.Bool.{Bool, true, false, _&&_}
+use Prim.Native.Nat.{ℕ, _≤_, _+_, _-_, _*_, _<_}
+use lib.ListN.{length, take, drop}
+use borrow.Author.Needs.{needs}
+use Rattle.queue.proofs.ReadingLaws.{place-part}
+use Rattle.queue.proofs.reading.signed_bytes.Statement.{statement}
+use Rattle.queue.proofs.reading.signed_bytes.Tie as tie
+use Rattle.queue.proofs.reading.signed_bytes.Reads as reads
+use Rattle.queue.proofs.reading.signed_bytes.Lts as lts
+use Rattle.queue.proofs.reading.signed_place.Reads as signed-place-reads
+
+signed-place-requires : tie.Need-signed-place-requires
+signed-place-requires c κs = search needs
+
+add-e : tie.Need-add-e
+add-e c = search needs
+
+sub-result : tie.Need-sub-result
+sub-result c = search needs
+
+part-result-start : tie.Need-part-result-start
+part-result-start c = search needs
+
+part-result-end : tie.Need-part-result-end
+part-result-end c = search needs
+
+returns : tie.Need-returns
+returns c = place-part (c .before .before .signed-place .ensures)
+
+pub signed-bytes-spec : {M : Type 1} → statement M
+signed-bytes-spec =
+    tie.close
+    (tie.spec signed-place-requires add-e sub-result part-result-start part-result-end returns)

@@ -1,0 +1,36 @@
+use mathlib.Core.Path.{_≡_, refl, sym, ap, _∙_}
+use native.Mathlib.Omega.{arith}
+use mathlib.Core.Bool.{Bool, true, false, _&&_}
+use Prim.Native.Nat.{ℕ, _≤_, _+_, _-_, _*_, _<_}
+use lib.ListN.{length, take, drop}
+use borrow.Author.Tests.{not-true, not-false}
+use Rattle.queue.proofs.ReadingLaws.{place-off, place-tomb, place-within, place-held}
+use borrow.Author.Needs.{needs}
+use Rattle.queue.proofs.reading.signed_place.Statement.{statement}
+use Rattle.queue.proofs.reading.signed_place.Tie as tie
+use Rattle.queue.proofs.reading.signed_place.Reads as reads
+use Rattle.queue.proofs.reading.signed_place.Lts as lts
+use Rattle.queue.proofs.frame.rec_at.Reads as rec-at-reads
+use Rattle.queue.proofs.reading.look.Reads as look-reads
+
+look-requires : tie.Need-look-requires
+look-requires c κs = search needs
+
+returns : tie.Need-returns
+returns c = place-off (c .before .before .before .before .before .args .area .now) (c .before .before .before .before .before .args .id .now) (c .before .before .look .ensures) (c .if1 .taken)
+
+rec-at-requires : tie.Need-rec-at-requires
+rec-at-requires c κs = search needs
+
+returns-2 : tie.Need-returns-2
+returns-2 c = place-tomb (c .before .before .before .before .before .before .before .before .before .args .area .now) (c .before .before .before .before .before .before .before .before .before .args .id .now) (c .before .before .before .before .before .before .look .ensures) (c .before .before .before .before .if1 .left) (c .before .before .before .rec-at .ensures) (not-true _ (c .if2 .taken))
+
+add-t12 : tie.Need-add-t12
+add-t12 c = let w = place-within (c .before .before .before .before .before .before .before .before .before .before .args .area .now) (c .before .before .before .before .before .before .before .before .before .before .args .id .now) (c .before .before .before .before .before .before .before .look .ensures) (c .before .before .before .before .before .if1 .left) (c .before .before .before .before .rec-at .ensures) in omega (arith, w .0, w .1)
+
+returns-3 : tie.Need-returns-3
+returns-3 c = place-held (c .before .before .before .before .before .before .before .before .before .before .args .area .now) (c .before .before .before .before .before .before .before .before .before .before .args .id .now) (c .before .before .before .before .before .before .before .look .ensures) (c .before .before .before .before .before .if1 .left) (c .before .before .before .before .rec-at .ensures) (not-false _ (c .before .if2 .left))
+
+pub signed-place-spec : {M : Type 1} → statement M
+signed-place-spec =
+    tie.close (tie.spec look-requires returns rec-at-requires returns-2 add-t12 returns-3)

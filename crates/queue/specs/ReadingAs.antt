@@ -1,0 +1,71 @@
+-- What the reading calls' functions ensure.
+use mathlib.Core.Path.{_≡_}
+use mathlib.Core.Bool.{Bool, true, false, cond}
+use mathlib.Core.Option.{Option, none, some}
+use mathlib.Core.List.{List, [], _∷_, _++_}
+use Prim.Native.Nat.{ℕ, _+_, _-_, _*_, _≤_, _<_}
+use lib.ListN.{length, take, drop}
+use Rattle.queue.specs.Splice.{be}
+use Rattle.queue.specs.Frames.{recC}
+use Rattle.queue.specs.Reads.{whole, listAt}
+use Rattle.queue.specs.Forms.{formC}
+use Rattle.queue.specs.Areas.{readArea}
+use Rattle.queue.specs.paper.Records.{Bytes, Id, Rec, Queue}
+use Rattle.queue.specs.paper.Lists.{find}
+use Rattle.queue.specs.paper.Changing.{named?}
+use Rattle.queue.specs.paper.Calls.{id?, signedBytesOf}
+use Rattle.queue.specs.declared.frame.Seen.{Seen}
+use Rattle.queue.specs.declared.reading.Found.{Found}
+use Rattle.queue.specs.declared.reading.Looked.{Looked}
+use Rattle.queue.specs.declared.reading.Place.{Place}
+
+-- the record r stands at `at` of an area
+abbrev pub Here : Bytes → ℕ → Rec → Type 0
+Here s at r = (at ≤ length s) × (whole (formC false recC) 1 s at ≡ true) × (listAt (formC false recC) 1 s at ≡ r ∷ [])
+
+-- what was found of o, in s
+pub record FoundAs (s : Bytes) (x : Found) (o : Option Rec) : Type 0 where
+  pub good : x .found ≡ true → (r : Rec) × (o ≡ some r) × Here s (x .at) r
+  pub bad : x .found ≡ false → o ≡ none
+
+-- a record looked up by its id: a refusal, or the record
+pub data Look : Type 0 where
+  off : ℕ → Look
+  hit : Rec → Look
+
+abbrev pub lookRec : Option Rec → Look
+lookRec none = off 13
+lookRec (some r) = hit r
+
+abbrev pub lookIn : Bytes → Option Queue → Look
+lookIn id none = off 3
+lookIn id (some q) = cond (id? id) (lookRec (find (named? id) (q .recs))) (off 5)
+
+unfoldable pub lookOf : Bytes → Bytes → Look
+lookOf s id = lookIn id (readArea s)
+
+-- the refusal's number; or 0, and the record stands at x .at
+pub record LookAs (s id : Bytes) (x : Looked) : Type 0 where
+  pub good : x .refusal ≡ 0 → (r : Rec) × (lookOf s id ≡ hit r) × Here s (x .at) r
+  pub bad : (x .refusal ≡ 0 → ⊥) → lookOf s id ≡ off (x .refusal)
+
+-- where a record's signed bytes stand
+pub record PlaceAs (s id : Bytes) (x : Place) : Type 0 where
+  pub is : (x .answer, take (x .len) (drop (x .start) s)) ≡ signedBytesOf s id
+  pub within : x .start + x .len ≤ length s
+
+-- the entry of a record that was read at base
+unfoldable pub entryAt : Bytes → ℕ → Seen → Bytes
+entryAt s base x =
+    take (x .mark - 1) (drop (base + 1) s) ++ (be 2 (x .facts .ins) ++ take (x .facts .ins * 32) (drop (base + x .at) s))
+
+abbrev pub entryLen : Seen → ℕ
+entryLen x = x .mark - 1 + (2 + x .facts .ins * 32)
+
+-- what the entry is made of stands in s
+pub record EntryIn (s : Bytes) (base : ℕ) (x : Seen) : Type 0 where
+  pub up : 1 ≤ x .mark
+  pub most : x .mark ≤ 400
+  pub within : base + x .mark ≤ length s
+  pub ins : base + x .at + x .facts .ins * 32 ≤ length s
+  pub few : x .facts .ins < 65536

@@ -1,0 +1,165 @@
+// Reading calls: what each answers of the queue in a lent area.
+use super::Answer;
+use super::Kind;
+use super::area::area_at;
+use super::forms::after_in;
+use super::frame::Seen;
+use super::frame::rec_at;
+use super::put::copy_part;
+use super::put::put_be;
+use super::view::cmp_id;
+use super::view::id_at;
+ghost use mathlib.Core.Path.{_≡_};
+ghost use mathlib.Core.Bool.{true, false};
+ghost use Prim.Native.Nat.{_+_, _≤_, _<_};
+ghost use lib.ListN.{length};
+ghost use Rattle.queue.specs.Frames.{recC};
+ghost use Rattle.queue.specs.Forms.{formC};
+ghost use Rattle.queue.specs.Splice.{Put};
+ghost use Rattle.queue.specs.Reads.{whole, listAt};
+ghost use Rattle.queue.specs.ReadingAs.{FoundAs, LookAs, PlaceAs, EntryIn, entryAt, entryLen};
+ghost use Rattle.queue.specs.paper.Lists.{find};
+ghost use Rattle.queue.specs.paper.Changing.{named?};
+ghost use Rattle.queue.specs.paper.Calls.{written, entryOf, signedBytesOf};
+
+pub struct Found {
+    pub found: bool,
+    pub at: usize,
+}
+
+// The record with this id, of the n records at `at` of an area.
+pub fn find_id(s: &[u8], at: usize, n: u64, id: [u8; 32]) -> Found
+    requires { ⌜ (at ≤ length (now s)) × (whole (formC false recC) n (now s) at ≡ true) ⌝ }
+    ensures { λ r. ⌜ FoundAs (now (s .entry)) r (find (named? id) (listAt (formC false recC) n (now (s .entry)) at)) ⌝ }
+{
+    let mut i = at;
+    let mut left = n;
+    while 0 < left {
+        let x = rec_at(s, false, i);
+        let y = x.id;
+        if cmp_id(id, y) == 1 {
+            return Found { found: true, at: i };
+        }
+        i = after_in(s, false, i, x.size);
+        left = left - 1;
+    }
+    Found {
+        found: false,
+        at: 0,
+    }
+}
+
+// A record looked up: the refusal's number, or 0 and where the record stands.
+pub struct Looked {
+    pub refusal: u64,
+    pub at: usize,
+}
+
+// Refusals 3, 5 and 13.
+pub fn look(area: &[u8], id: &[u8]) -> Looked
+    ensures { λ r. ⌜ LookAs (now (area .entry)) (now (id .entry)) r ⌝ }
+{
+    let a = area_at(area);
+    if !a.ok {
+        return Looked { refusal: 3, at: 0 };
+    }
+    if id.len() != 32 {
+        return Looked { refusal: 5, at: 0 };
+    }
+    let k = id_at(id, false, 0, 0);
+    let o = a.open;
+    let h = o.head;
+    let f = find_id(area, o.start, h.count, k);
+    if !f.found {
+        return Looked { refusal: 13, at: 0 };
+    }
+    Looked {
+        refusal: 0,
+        at: f.at,
+    }
+}
+
+// Where signed bytes stand: start and len are 0 with a refusal.
+pub struct Place {
+    pub answer: Answer,
+    pub start: usize,
+    pub len: usize,
+}
+
+pub fn signed_place(area: &[u8], id: &[u8]) -> Place
+    ensures { λ r. ⌜ PlaceAs (now (area .entry)) (now (id .entry)) r ⌝ }
+{
+    let l = look(area, id);
+    if l.refusal != 0 {
+        return Place {
+            answer: Answer::Refused(l.refusal),
+            start: 0,
+            len: 0,
+        };
+    }
+    let at = l.at;
+    let x = rec_at(area, false, at);
+    let f = x.facts;
+    if !f.holder {
+        return Place {
+            answer: Answer::Refused(13),
+            start: 0,
+            len: 0,
+        };
+    }
+    Place {
+        answer: Answer::Done(Kind::Nothing),
+        start: at + x.content,
+        len: f.bytes as usize,
+    }
+}
+
+// The part of the area that holds a record's signed bytes; empty with a refusal.
+pub fn signed_bytes<'a>(area: &'a [u8], id: &[u8]) -> &'a [u8]
+    ensures { λ r. ⌜ now r ≡ signedBytesOf (now (area .entry)) (now (id .entry)) .1 ⌝ }
+{
+    let p = signed_place(area, id);
+    let a = p.start;
+    let e = a + p.len;
+    &area[a..e]
+}
+
+// How long the entry of a record is.
+pub fn entry_len(x: Seen) -> usize
+    requires { ⌜ (1 ≤ x .mark) × (x .mark ≤ 400) × (x .facts .ins < 65536) ⌝ }
+    ensures { λ r. ⌜ (r ≡ entryLen x) × (r < 4294967296) ⌝ }
+{
+    let f = x.facts;
+    let n = f.ins * 32;
+    x.mark - 1 + (2 + n as usize)
+}
+
+// The entry of the record read at base: the frame from its id to its place, and the inputs.
+pub fn put_entry(src: &[u8], base: usize, x: Seen, dst: &mut [u8], at: usize) -> usize
+    requires { ⌜ EntryIn (now src) base x × (at + entryLen x ≤ length (now dst)) ⌝ }
+    ensures { λ r. ⌜ Put (now (dst .entry)) at (entryAt (now (src .entry)) base x) (entryLen x) r (now (dst .exit)) ⌝ }
+{
+    let f = x.facts;
+    let n = f.ins * 32;
+    let i = base + x.at;
+    let a = copy_part(src, base + 1, x.mark - 1, dst, at);
+    let b = put_be(dst, a, 2, f.ins);
+    copy_part(src, i, n as usize, dst, b)
+}
+
+pub fn entry(area: &[u8], id: &[u8], out: &mut [u8]) -> Answer
+    ensures { λ r. ⌜ written r (now (out .exit)) ≡ entryOf (now (area .entry)) (now (id .entry)) (now (out .entry)) ⌝ }
+{
+    let l = look(area, id);
+    if l.refusal != 0 {
+        return Answer::Refused(l.refusal);
+    }
+    let at = l.at;
+    let x = rec_at(area, false, at);
+    let n = entry_len(x);
+    if out.len() < n {
+        return Answer::Refused(4);
+    }
+    put_entry(area, at, x, out, 0);
+    Answer::Done(Kind::Nothing)
+}
