@@ -5,7 +5,6 @@ use mathlib.Core.Option.{Option, none, some}
 use mathlib.Core.List.{List, [], _∷_, _++_, append-assoc, append-nil}
 use Prim.Native.Nat.{ℕ, zero, suc, _+_, _-_, _*_, _^_, _≤_, _<_}
 use native.Mathlib.Omega.{arith}
-use native.Mathlib.Nat.{zero-add}
 use lib.ListN.{length, drop, take, replicate, length-append, length-replicate}
 use Rattle.queue.specs.Codec as codec
 use Rattle.queue.specs.Codec.{Codec, beC, pairC, mapC, optC, optEnc, vecC, byteC, encs}
@@ -21,10 +20,10 @@ use Rattle.queue.specs.paper.Records.{Bytes, Id, Limits, Rec, Queue}
 use Rattle.queue.specs.paper.Sound.{need}
 use Rattle.queue.specs.paper.Area.{areaBytes, over}
 use Rattle.queue.specs.declared.head.Marks.{Marks}
-use Rattle.queue.proofs.PutLaws.{then, front, recast, kept, length-be, splice-is}
+use Rattle.queue.proofs.PutLaws.{then, front, recast, kept, over-splice}
 use Rattle.queue.proofs.ByteLaws.{be-same}
 
-limits-enc : (p b t k : ℕ) → limitsC .enc (limits p b t k) ≡ codec.be 4 p ++ (codec.be 4 b ++ (codec.be 4 t ++ codec.be 4 k))
+pub limits-enc : (p b t k : ℕ) → limitsC .enc (limits p b t k) ≡ codec.be 4 p ++ (codec.be 4 b ++ (codec.be 4 t ++ codec.be 4 k))
 unfolding limitsC mapC pairC beC
 limits-enc p b t k = refl
 
@@ -44,7 +43,7 @@ pub tip-none : {d d₁ : Bytes} {at r : ℕ} {has : Bool} (id : Id) → has ≡ 
 unfolding optC optEnc
 tip-none id e x = rw e x
 
-head-enc : (h : Head) → headC .enc h ≡ (1 ∷ []) ++ (limitsC .enc (h .limits) ++ (codec.be 8 (h .revision) ++ (codec.be 4 (h .cursor) ++ (optC idC .enc (h .tip) ++ (codec.be 8 (h .counter) ++ codec.be 4 (h .count))))))
+pub head-enc : (h : Head) → headC .enc h ≡ (1 ∷ []) ++ (limitsC .enc (h .limits) ++ (codec.be 8 (h .revision) ++ (codec.be 4 (h .cursor) ++ (optC idC .enc (h .tip) ++ (codec.be 8 (h .counter) ++ codec.be 4 (h .count))))))
 unfolding headC mapC pairC beC tagC
 head-enc h = refl
 
@@ -70,12 +69,7 @@ pub front-put : {x x₁ x₂ : Bytes} {p r : ℕ} (l : Limits) (m : Marks) (tip 
     → Put x 0 (frontBytes l m tip) (45 + tipSize (m .tip)) r x₂
 front-put l m tip h a b = recast (then a b) (split-front l m tip h) (omega arith) refl
 
--- bytes over the start of others
-pub over-splice : (bs d : Bytes) → length bs ≤ length d → splice d 0 bs ≡ over bs d
-unfolding over
-over-splice bs d h = splice-is d 0 bs (omega arith) ∙ rw zero-add
-
-front-enc : (l : Limits) (m : Marks) (tip : Id) (recs : List Rec) → m .count ≡ length recs → frontBytes l m tip ++ encs recC recs ≡ queueC .enc (queueOf l m tip recs)
+pub front-enc : (l : Limits) (m : Marks) (tip : Id) (recs : List Rec) → m .count ≡ length recs → frontBytes l m tip ++ encs recC recs ≡ queueC .enc (queueOf l m tip recs)
 unfolding frontBytes
 front-enc l m tip recs e =
     append-assoc (codec.be 4 (m .persisted .0)) (headC .enc (headWith l m tip)) (encs recC recs)
@@ -95,4 +89,4 @@ area-done {d} {d₁} {d₂} {d₃} {to} {o} {r} {r′} {k} l m tip recs e f g h 
     let o-is : o ≡ length (queueC .enc (queueOf l m tip recs)) = omega (arith, w .next, w .size, ap length qe) in
     let bs : (frontBytes l m tip ++ encs recC recs) ++ replicate (k - o) 0 ≡ layout (queueOf l m tip recs) = ap (λ y. y ++ replicate (k - o) 0) qe ∙ ap (λ n. queueC .enc (queueOf l m tip recs) ++ replicate n 0) (let y : k - o ≡ need l - length (queueC .enc (queueOf l m tip recs)) = omega arith in y) in
     let long : length (layout (queueOf l m tip recs)) ≤ length d = omega (arith, z .size, ap length bs, w .next, w .size) in
-    z .is ∙ ap (splice d 0) bs ∙ over-splice (layout (queueOf l m tip recs)) d long ∙ ap (λ y. over y d) (area-plain (queueOf l m tip recs))
+    z .is ∙ ap (splice d 0) bs ∙ sym (over-splice d (layout (queueOf l m tip recs)) long) ∙ ap (λ y. over y d) (area-plain (queueOf l m tip recs))

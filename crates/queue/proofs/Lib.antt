@@ -8,3 +8,4 @@ pub mod ByteLaws
 pub mod FinishLaws
 pub mod FrontLaws
 pub mod ReadingLaws
+pub mod WriteLaws

@@ -208,7 +208,7 @@ filled-parts s from m c l e =
     let d = and-true (leb from (need m)) _ (b .1) in
     (leb-true _ _ (b .0), leb-true _ _ (d .0))
 
-same-limits : (m : Limits) {p b t k : ℕ} → m .P ≡ p → m .B ≡ b → m .T ≡ t → m .K ≡ k → m ≡ limits p b t k
+pub same-limits : (m : Limits) {p b t k : ℕ} → m .P ≡ p → m .B ≡ b → m .T ≡ t → m .K ≡ k → m ≡ limits p b t k
 same-limits m e f g h = rw (← e, ← f, ← g, ← h)
 
 module _ {s : Bytes} {v next : ℕ} {ok : Bool} {y : Open} (a : Reads (beC 4) (view false s 0) 0 ok next (λ x. x ≡ v)) (t : ok ≡ true) (r : Reads (storeC false) s 4 (y .ok) (y .next) (StoreAs false s 4 y)) where

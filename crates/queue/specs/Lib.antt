@@ -27,3 +27,4 @@ pub mod Arguments
 pub mod Fronts
 pub mod Finishing
 pub mod ReadingAs
+pub mod Writes

@@ -152,7 +152,7 @@ fn new_above(num: u64, m: u64, x: u64) -> u64
 }
 
 // The lowest finish number that stays once m records are finished after num: those below it are beyond t.
-fn floor(s: &[u8], at: usize, n: u64, num: u64, m: u64, t: u64) -> u64
+pub fn floor(s: &[u8], at: usize, n: u64, num: u64, m: u64, t: u64) -> u64
     requires { ⌜ (at ≤ length (now s)) × (whole (formC false recC) n (now s) at ≡ true) × (n < 4294967296) × (m ≤ n) × (num + m < 18446744073709551616) × (0 < t) × (t < 4294967296) × All (λ y. holder? y ≡ false → y .finish ≤ num) (listAt (formC false recC) n (now s) at) ⌝ }
     ensures { λ r. ⌜ ((sum Query.Tombstones (listAt (formC false recC) n (now (s .entry)) at) + m ≤ t) × (r ≡ 0)) ⊎ ((x : ℕ) → ltb (above num m (listAt (formC false recC) n (now (s .entry)) at) x) t ≡ leb r x) ⌝ }
 {
@@ -174,7 +174,7 @@ fn floor(s: &[u8], at: usize, n: u64, num: u64, m: u64, t: u64) -> u64
 }
 
 // n records from `at` of src, those picked finished with the numbers after num, those forgotten left out, to place `to` of dst.
-fn rewrite(src: &[u8], at: usize, n: u64, c: Change, id: [u8; 32], state: u8, reason: u8, num: Finish, floor: Finish, dst: &mut [u8], to: usize) -> Done
+pub fn rewrite(src: &[u8], at: usize, n: u64, c: Change, id: [u8; 32], state: u8, reason: u8, num: Finish, floor: Finish, dst: &mut [u8], to: usize) -> Done
     requires { ⌜ (at ≤ length (now src)) × (whole (formC false recC) n (now src) at ≡ true) × (n < 4294967296) × (num .0 + count (picked c id) (listAt (formC false recC) n (now src) at) < 18446744073709551616) × (to + length (encs recC (walkL (picked c id) state reason (floor .0) (num .0) (listAt (formC false recC) n (now src) at))) ≤ length (now dst)) ⌝ }
     ensures { λ r. ⌜ Put (now (dst .entry)) to (encs recC (walkL (picked c id) state reason (floor .0) (num .0) (listAt (formC false recC) n (now (src .entry)) at))) (length (encs recC (walkL (picked c id) state reason (floor .0) (num .0) (listAt (formC false recC) n (now (src .entry)) at)))) (r .at) (now (dst .exit)) × (r .kept ≡ length (walkL (picked c id) state reason (floor .0) (num .0) (listAt (formC false recC) n (now (src .entry)) at))) ⌝ }
 {

@@ -12,6 +12,7 @@ pub mod reading;
 pub mod rules;
 pub mod scan;
 pub mod view;
+pub mod write;
 
 // What a changing call leaves to do: nothing, a queue in memory only, a whole write, a write of the cursor.
 pub enum Kind {
