@@ -6,3 +6,4 @@ pub mod ScanLaws
 pub mod OpenLaws
 pub mod ByteLaws
 pub mod ReadingLaws
+pub mod SelectLaws

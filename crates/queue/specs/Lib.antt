@@ -25,3 +25,4 @@ pub mod Cards
 pub mod Reconciles
 pub mod Arguments
 pub mod ReadingAs
+pub mod SelectAs

@@ -9,6 +9,7 @@ pub mod put;
 pub mod reading;
 pub mod rules;
 pub mod scan;
+pub mod select;
 pub mod view;
 
 // What a changing call leaves to do: nothing, a queue in memory only, a whole write, a write of the cursor.
