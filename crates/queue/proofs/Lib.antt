@@ -9,3 +9,4 @@ pub mod FinishLaws
 pub mod FrontLaws
 pub mod ReadingLaws
 pub mod WriteLaws
+pub mod SelectLaws

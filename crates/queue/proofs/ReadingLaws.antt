@@ -252,6 +252,14 @@ module _ {s : Bytes} {base m : ℕ} {ok : Bool} {y : Seen} {r : Rec} (h : base �
       let b : drop 35 v ≡ rest-of r ++ drop m v = sym (drop-drop 34 1 v) ∙ ap (drop 34) a ∙ drop-at (front-of r) (rest-of r ++ drop m v) 34 front-size in
       a ∙ ap (λ (b : Bytes). front-of r ++ b) (sym b)
 
+  -- the id stands behind the kind
+  pub id-here : (take 32 (drop (base + 1) s) ≡ r .id) × (base + 45 ≤ length s)
+  unfolding view front-of
+  id-here =
+      let w = x .0 in
+      let p = rec-parts r (x .1 .fine) in
+      (ap (take 32) (sym (drop-drop 1 base s) ∙ from-id ∙ append-assoc (r .id) _ _) ∙ take-at (r .id) _ 32 (p .id), omega (arith, w .up, w .upPlace, w .upBody, w .end, length-drop base s))
+
   head-of : Bytes
   head-of = front-of r ++ (termsBytes (r .terms) ++ placeBytes (r .place))
 

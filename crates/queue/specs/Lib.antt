@@ -28,3 +28,4 @@ pub mod Fronts
 pub mod Finishing
 pub mod ReadingAs
 pub mod Writes
+pub mod SelectAs

@@ -11,6 +11,7 @@ pub mod put;
 pub mod reading;
 pub mod rules;
 pub mod scan;
+pub mod select;
 pub mod view;
 pub mod write;
 

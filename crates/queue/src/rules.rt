@@ -87,13 +87,13 @@ pub fn right(k: u64, counter: Finish, f: Facts) -> bool
 }
 
 // Deadlines are compared only with their own kind.
-fn time_reached(timed: bool, due: Time, now: Time) -> bool
+pub fn time_reached(timed: bool, due: Time, now: Time) -> bool
     ensures { λ r. ⌜ r ≡ (timed && leb (due .0) (now .0)) ⌝ }
 {
     both(timed, due.0 <= now.0)
 }
 
-fn height_reached(heighted: bool, due: Height, height: Height) -> bool
+pub fn height_reached(heighted: bool, due: Height, height: Height) -> bool
     ensures { λ r. ⌜ r ≡ (heighted && leb (due .0) (height .0)) ⌝ }
 {
     both(heighted, due.0 <= height.0)
