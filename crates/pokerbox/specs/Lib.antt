@@ -1,1 +1,2 @@
 pub mod paper
+pub mod Answers
