@@ -1,2 +1,4 @@
 pub mod paper
 pub mod Answers
+pub mod Runs
+pub mod Theorem
