@@ -2,3 +2,4 @@ pub mod paper
 pub mod Answers
 pub mod Runs
 pub mod Theorem
+pub mod Examples

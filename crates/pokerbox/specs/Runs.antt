@@ -25,7 +25,7 @@ use Rattle.queue.specs.paper.Area.{areaBytes, over}
 use Rattle.queue.specs.paper.Changing.{moved}
 use Rattle.queue.specs.paper.Calls.{Written, written, fresh, freshOf, settleOf}
 use Rattle.image.specs.paper.Image.{imageBytes, imageOf, openOf}
-use Rattle.pokerbox.specs.paper.Machine.{Call, Fate, kept, failed, cutBefore, cutAfter, Lent, Step, call, cut, Told, Worked, work, Plain, restart, settling, silent, plainCall, plainStep, plainRun, World, onBytes, imageText, opened, settlingBytes, worldCall, worldStep, worldRun}
+use Rattle.pokerbox.specs.paper.Machine.{Call, Fate, kept, failed, cutBefore, cutAfter, Lent, Step, call, cut, Told, Worked, work, Plain, restart, settling, silent, plainCall, plainStep, plainRun, World, onBytes, imageText, starts, opened, settlingBytes, worldCall, worldStep, worldRun}
 use Rattle.pokerbox.specs.paper.Claim.{byAnswer, mover, movedBy, movedLast, imageCursor, images, TextOk, WorkOk, StepOk, StepsOk, CallOk}
 use Rattle.pokerbox.specs.Answers.{onLent, nextFor, Good, call-is, work-good}
 
@@ -60,11 +60,11 @@ open-is : (q : Queue) (other : Bytes) → Fit q → q .persisted ≡ q .cursor �
 unfolding openOf imageBytes
 open-is q other f e h = rw (fit-image q f e, le-ltb (length other) (need (q .limits)) h)
 
-pub opened-is : (m : Limits) (o : Option Queue) (other : Bytes) → inRange m ≡ true → StoredOk m o → need m ≤ length other
-    → opened m (images o) other ≡ over (areaBytes (restart m o .queue)) other
-unfolding opened
-opened-is m none other r s h = ap (λ z. z .area) (fresh-is m other r h)
-opened-is m (some q) other r s h = let e = ap need (s .1 .1) in ap (λ z. z .area) (open-is q other (s .0) (s .1 .0) (omega arith))
+pub starts-is : (m : Limits) (o : Option Queue) (other : Bytes) → inRange m ≡ true → StoredOk m o → need m ≤ length other
+    → starts m (images o) other ≡ written (Done Nothing) (over (areaBytes (restart m o .queue)) other)
+unfolding starts
+starts-is m none other r s h = fresh-is m other r h
+starts-is m (some q) other r s h = let e = ap need (s .1 .1) in open-is q other (s .0) (s .1 .0) (omega arith)
 
 module _ (cur next : Bytes) (q x : Queue) (e : readArea cur ≡ some q) (d : readArea next ≡ some x) where
   settle-kept2 : settleOf cur next 2 0 ≡ written (Done Nothing) next
@@ -126,7 +126,7 @@ module _ (m : Limits) (range : inRange m ≡ true) (old : Bool) (p : Plain) (w :
   unfolding over
   cut-rep = record {
     later = drop (length (areaBytes (restart m (p .stored) .queue))) (l .other);
-    area = ap (λ f. opened m f (l .other)) (rep .file) ∙ opened-is m (p .stored) (l .other) range (inv .stored) room;
+    area = ap (λ f. opened m f (l .other)) (rep .file) ∙ ap (λ z. z .area) (starts-is m (p .stored) (l .other) range (inv .stored) room);
     file = rep .file ∙ restart-stored m (p .stored);
   }
 
@@ -160,7 +160,7 @@ module _ (m : Limits) (range : inRange m ≡ true) (old : Bool) (p : Plain) (w :
       inv = restart-inv m new (some x) range (fit, (level, limits));
       rep = record {
         later = drop (length (areaBytes x)) (l .other);
-        area = ap (λ f. opened m (some f) (l .other)) image-is ∙ opened-is m (some x) (l .other) range (fit, (level, limits)) room;
+        area = ap (λ f. opened m (some f) (l .other)) image-is ∙ ap (λ z. z .area) (starts-is m (some x) (l .other) range (fit, (level, limits)) room);
         file = ap some image-is;
       };
     }
@@ -227,7 +227,7 @@ module _ (m : Limits) (range : inRange m ≡ true) (old : Bool) (p : Plain) (w :
           let s = settle-same (mover c (p .queue) old) (k .answer) (k .next) fate g t in
           record { told = ap (λ z. record { answer = k .answer; out = over (k .bytes) (l .out); settled = z }) (s .told); inv = s .inv; rep = s .rep }
 
-step-same : (m : Limits) → inRange m ≡ true → (old : Bool) (p : Plain) (w : World) (x : Step) → Inv m old p → Rep p w → StepOk m p x
+pub step-same : (m : Limits) → inRange m ≡ true → (old : Bool) (p : Plain) (w : World) (x : Step) → Inv m old p → Rep p w → StepOk m p x
     → Same m (movedBy p old x) (plainStep m p x) (worldStep m w x)
 unfolding plainStep worldStep
 step-same m range old p w (call c l fate) inv rep o = call-same m range old p w l inv rep (o .1 .1) c fate (o .0) (o .1 .0)

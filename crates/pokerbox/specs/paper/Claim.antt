@@ -12,9 +12,9 @@ use Rattle.queue.specs.Codec.{All}
 use Rattle.queue.specs.paper.Records.{Bytes, Id, Limits, Rec, Queue}
 use Rattle.queue.specs.paper.Sound.{inRange, need, holders, heldBytes, tombstones, apart?}
 use Rattle.queue.specs.paper.Area.{areaBytes}
-use Rattle.queue.specs.paper.Calls.{AdmitArgs, ReconcileArgs, freshOf}
+use Rattle.queue.specs.paper.Calls.{AdmitArgs, ReconcileArgs, written, freshOf}
 use Rattle.image.specs.paper.Image.{imageBytes}
-use Rattle.pokerbox.specs.paper.Machine.{Call, admitting, cancelling, expiring, reconciling, reopening, settingCursor, Fate, kept, failed, cutBefore, cutAfter, Lent, Step, call, cut, Told, Worked, work, Plain, plainStep, plainRun, World, worldRun, restart, opened}
+use Rattle.pokerbox.specs.paper.Machine.{Call, admitting, cancelling, expiring, reconciling, reopening, settingCursor, Fate, kept, failed, cutBefore, cutAfter, Lent, Step, call, cut, Told, Worked, work, Plain, plainStep, plainRun, World, worldRun, restart, starts}
 
 -- ---- which lists: any, as far as numbers fit their widths and bytes are bytes (a caller can lend nothing else), and "all
 -- other areas, and the output lent to the image writer, are long enough"
@@ -112,7 +112,7 @@ pub record Holds (m : Limits) (xs : List Step) (told : List Told) (w : World) (p
   pub queue : w .area ≡ areaBytes (p .1 .queue) ++ later
   pub file : w .file ≡ images (p .1 .stored)
   -- "Opening what is stored, or starting fresh where nothing is, gives exactly the records of that machine's queue"
-  pub opening : (other : Bytes) → need m ≤ length other → (rest : Bytes) × (opened m (w .file) other ≡ areaBytes (restart m (p .1 .stored) .queue) ++ rest)
+  pub opening : (other : Bytes) → need m ≤ length other → (rest : Bytes) × (starts m (w .file) other ≡ written (Done Nothing) (areaBytes (restart m (p .1 .stored) .queue) ++ rest))
   pub records : restart m (p .1 .stored) .queue .recs ≡ p .1 .queue .recs
   -- "No input id is in two records. Holders number at most 2P with at most 2B signed bytes, tombstones at most T. A cursor last
   -- moved by a successful reconciliation is at most 31 blocks above the image's."
