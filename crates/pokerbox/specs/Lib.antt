@@ -1,1 +1,5 @@
 pub mod paper
+pub mod Answers
+pub mod Runs
+pub mod Theorem
+pub mod Examples

@@ -12,9 +12,9 @@ use Rattle.queue.specs.Codec.{All}
 use Rattle.queue.specs.paper.Records.{Bytes, Id, Limits, Rec, Queue}
 use Rattle.queue.specs.paper.Sound.{inRange, need, holders, heldBytes, tombstones, apart?}
 use Rattle.queue.specs.paper.Area.{areaBytes}
-use Rattle.queue.specs.paper.Calls.{AdmitArgs, ReconcileArgs, freshOf}
+use Rattle.queue.specs.paper.Calls.{AdmitArgs, ReconcileArgs, written, freshOf}
 use Rattle.image.specs.paper.Image.{imageBytes}
-use Rattle.pokerbox.specs.paper.Machine.{Call, admitting, cancelling, expiring, reconciling, reopening, settingCursor, Fate, kept, failed, cutBefore, cutAfter, Lent, Step, call, cut, Told, Worked, work, Plain, plainStep, plainRun, World, worldRun, restart, opened}
+use Rattle.pokerbox.specs.paper.Machine.{Call, admitting, cancelling, expiring, reconciling, reopening, settingCursor, Fate, kept, failed, cutBefore, cutAfter, Lent, Step, call, cut, Told, Worked, work, Plain, plainStep, plainRun, World, worldRun, restart, starts}
 
 -- ---- which lists: any, as far as numbers fit their widths and bytes are bytes (a caller can lend nothing else), and "all
 -- other areas, and the output lent to the image writer, are long enough"
@@ -33,27 +33,36 @@ CallOk (reconciling a) =
 CallOk (reopening ids) = Small ids
 CallOk (settingCursor height flag tip) = Small tip × (height < 4294967296)
 
--- an image is at most so long: two digits a byte of the area, and a line end for each frame
-abbrev pub imageRoom : Limits → ℕ
-imageRoom m = 2 * need m + (2 * m .P + m .T + 1)
+-- the output to the image writer, should a write be due
+abbrev pub TextOk : Answer → Queue → Bytes → Type 0
+TextOk (Refused n) next text = Unit {0}
+TextOk (Done Nothing) next text = Unit {0}
+TextOk (Done Memory) next text = Unit {0}
+TextOk (Done Whole) next text = length (imageBytes next) ≤ length text
+TextOk (Done Cursor) next text = length (imageBytes next) ≤ length text
 
-pub record LentOk (m : Limits) (l : Lent) : Type 0 where
-  pub text : imageRoom m ≤ length (l .text)
-  pub other : need m ≤ length (l .other)
+abbrev pub WorkOk : Worked → Bytes → Type 0
+WorkOk w text = TextOk (w .answer) (w .next) text
 
-abbrev pub StepOk : Limits → Step → Type 0
-StepOk m (call c l fate) = CallOk c × LentOk m l
-StepOk m (cut l) = LentOk m l
+abbrev pub StepOk : Limits → Plain → Step → Type 0
+StepOk m p (call c l fate) = CallOk c × (WorkOk (work c (p .queue) (length (l .next)) (length (l .out))) (l .text) × (need m ≤ length (l .other)))
+StepOk m p (cut l) = need m ≤ length (l .other)
+
+-- each step, where the machine stands then
+abbrev pub StepsOk : Limits → Plain → List Step → Type 0
+StepsOk m p [] = Unit {0}
+StepsOk m p (x ∷ xs) = StepOk m p x × StepsOk m (plainStep m p x .1) xs
 
 -- ---- who moved the cursor last: "A reconciliation is successful with kind 1, or when its write is kept, or cut after its
 -- rename. So nothing is claimed of a cursor that a cursor setting or a failed kind 3 moved last." The cursor is moved "by
--- opening or a fresh queue" too; "a call refused by another number than 17, or a failed kind 2, doesn't move it".
+-- opening or a fresh queue" too; "a call refused by another number than 17, or a failed kind 2, doesn't move it". But "at a
+-- cut .. for next's if the rename had happened": next's cursor is also the one that opening then gives, so it is claimed on.
 
 abbrev pub byWrite : Bool → Bool → Bool → Fate → Bool
 byWrite old new afterFailed kept = new
 byWrite old new afterFailed failed = afterFailed
 byWrite old new afterFailed cutBefore = false
-byWrite old new afterFailed cutAfter = false
+byWrite old new afterFailed cutAfter = new
 
 abbrev pub byAnswer : Bool → Bool → Fate → Answer → Bool
 byAnswer old new fate (Refused n) = old
@@ -103,7 +112,7 @@ pub record Holds (m : Limits) (xs : List Step) (told : List Told) (w : World) (p
   pub queue : w .area ≡ areaBytes (p .1 .queue) ++ later
   pub file : w .file ≡ images (p .1 .stored)
   -- "Opening what is stored, or starting fresh where nothing is, gives exactly the records of that machine's queue"
-  pub opening : (other : Bytes) → need m ≤ length other → (rest : Bytes) × (opened m (w .file) other ≡ areaBytes (restart m (p .1 .stored) .queue) ++ rest)
+  pub opening : (other : Bytes) → need m ≤ length other → (rest : Bytes) × (starts m (w .file) other ≡ written (Done Nothing) (areaBytes (restart m (p .1 .stored) .queue) ++ rest))
   pub records : restart m (p .1 .stored) .queue .recs ≡ p .1 .queue .recs
   -- "No input id is in two records. Holders number at most 2P with at most 2B signed bytes, tombstones at most T. A cursor last
   -- moved by a successful reconciliation is at most 31 blocks above the image's."
@@ -116,8 +125,8 @@ pub record Holds (m : Limits) (xs : List Step) (told : List Told) (w : World) (p
 
 -- "The queue starts fresh, under any limits in range, with nothing stored. For every list .." (every list, so every first part
 -- of one: the claim holds after each call and each cut)
-pub Claim : Type 0
+unfoldable pub Claim : Type 0
 Claim =
-    (m : Limits) (first : Bytes) (xs : List Step) → inRange m ≡ true → need m ≤ length first → All (StepOk m) xs
+    (m : Limits) (first : Bytes) (xs : List Step) → inRange m ≡ true → need m ≤ length first → StepsOk m (restart m none) xs
     → Holds m xs (worldRun m (record { area = freshOf m first .area; file = none }) xs .0) (worldRun m (record { area = freshOf m first .area; file = none }) xs .1)
     (plainRun m (restart m none) xs)

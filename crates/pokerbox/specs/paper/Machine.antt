@@ -148,9 +148,12 @@ unfoldable pub imageText : Bytes → Bytes → Bytes
 imageText area text = written (imageOf area text 0)
 
 -- "Opening reads the first file alone, all of it."
-unfoldable pub opened : Limits → Option Bytes → Bytes → Bytes
-opened m none other = calls.freshOf m other .area
-opened m (some text) other = openOf text other .area
+unfoldable pub starts : Limits → Option Bytes → Bytes → Written
+starts m none other = calls.freshOf m other
+starts m (some text) other = openOf text other
+
+abbrev pub opened : Limits → Option Bytes → Bytes → Bytes
+opened m file other = starts m file other .area
 
 -- "Each call gets the queue that the last one left: in the same area after kind 0 or a refusal other than 17, in the next area
 -- after kind 1 or settling, after a cut in the area where opening or the fresh queue was written."

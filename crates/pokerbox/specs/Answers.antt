@@ -1,0 +1,185 @@
+-- Each call on lent bytes answers and leaves what the plain machine works out; and what it works out is kept.
+use mathlib.Core.Path.{_≡_, refl, sym, _∙_}
+use mathlib.Core.Bool.{Bool, true, false, cond, _||_}
+use mathlib.Core.Option.{Option, none, some}
+use mathlib.Core.List.{List, [], _∷_, _++_}
+use Prim.Native.Nat.{ℕ, _+_, _≤_, _<_, _^_, min}
+use native.Mathlib.Omega.{arith}
+use lib.Dec.{ltb, leb}
+use lib.ListN.{length}
+use Rattle.queue.specs.declared.Kind.{Kind}
+use Rattle.queue.specs.declared.Kind.the-variants.{Nothing, Memory, Whole, Cursor}
+use Rattle.queue.specs.declared.Answer.{Answer}
+use Rattle.queue.specs.declared.Answer.the-variants.{Refused, Done}
+use Rattle.queue.specs.Codec.{cases}
+use Rattle.queue.specs.ReadLaws.{false-true}
+use Rattle.queue.specs.Areas.{readArea}
+use Rattle.queue.specs.Sounds.{Fit}
+use Rattle.queue.specs.Keeps.{Level, Kept, Leaves, Wholly, setCursor-leaves, cancel-leaves, expire-leaves, reopen-leaves, cancel-wholly, expire-wholly, reopen-wholly}
+use Rattle.queue.specs.Admits.{admit-leaves, admit-wholly}
+use Rattle.queue.specs.Reconciles.{reconcile-leaves, Near, reconcile-near}
+use Rattle.queue.specs.Arguments.{AdmitLent, admission-ok, ReconcileLent, reconciling-ok, given-id}
+use Rattle.queue.specs.paper.Records.{Bytes, Id, Rec, Queue}
+use Rattle.queue.specs.paper.Lists.{isSome, any?, map}
+use Rattle.queue.specs.paper.Sound.{need}
+use Rattle.queue.specs.paper.Area.{over}
+use Rattle.queue.specs.paper.Changing.{Out, refused, done, top, topHeight, moved, Reconciling, touch, orElse, released, someReleased?, queuedOutputs, reconcileTo, reconcileOn, admit, cancel, expire, reconcile, reopen, setCursor}
+use Rattle.queue.specs.paper.Calls.{AdmitArgs, ReconcileArgs, Outcome, outcome, nextArea, told, withOut, entryBytes, idsBytes, releasedBytes, nothingBytes, id?, items, given, givenId?, idList?, admission, admitShape?, overK?, reconcileShape?, admitOf, cancelOf, expireOf, reconcileOf, reopenOf, setCursorOf}
+use Rattle.queue.specs.paper.Calls as calls
+use Rattle.pokerbox.specs.paper.Machine.{Call, admitting, cancelling, expiring, reconciling, reopening, settingCursor, Worked, worked, rules, work, onBytes}
+use Rattle.pokerbox.specs.paper.Claim.{CallOk, mover}
+
+-- ---- on lent bytes
+
+-- the next area after an answer
+abbrev pub nextFor : Answer → Queue → Bytes → Bytes
+nextFor (Refused n) x next = next
+nextFor (Done k) x next = nextArea k x next
+
+abbrev pub onLent : Bytes → Bytes → Worked → Outcome
+onLent next out w = outcome (w .answer) (nextFor (w .answer) (w .next) next) (over (w .bytes) out)
+
+told-is : {A : Type 0} (bytes : A → Bytes) (q : Queue) (next out : Bytes) (o : Out A) → told bytes next out o ≡ onLent next out (worked bytes q (length out) o)
+unfolding over
+told-is bytes q next out (refused n) = refl
+told-is bytes q next out (done k x a) = cases (ltb (length out) (length (bytes a))) (λ t. rw t) (λ t. rw t)
+
+-- a call that has no output
+untold-is : (q : Queue) (next out : Bytes) (o : Out (Unit {0})) → withOut out (told nothingBytes next [] o) ≡ onLent next out (worked nothingBytes q 0 o)
+unfolding over
+untold-is q next out (refused n) = refl
+untold-is q next out (done k x a) = refl
+
+pub call-is : (c : Call) (cur next out : Bytes) (q : Queue) → readArea cur ≡ some q → onBytes c cur next out ≡ onLent next out (work c q (length next) (length out))
+unfolding onBytes work admitOf cancelOf expireOf reconcileOf reopenOf setCursorOf over
+call-is (admitting a) cur next out q e = cases (ltb (length next) (need (q .limits)))
+    (λ t. rw (e, t))
+    (λ t. cases (admitShape? a)
+    (λ u. cases (overK? (q .limits .K) a) (λ v. rw (e, t, u, v)) (λ v. rw (e, t, u, v) (told-is entryBytes q next out (admit (admission a) q))))
+    (λ u. rw (e, t, u)))
+call-is (cancelling i) cur next out q e = cases (ltb (length next) (need (q .limits)))
+    (λ t. rw (e, t))
+    (λ t. cases (id? i) (λ u. rw (e, t, u) (told-is entryBytes q next out (cancel i q))) (λ u. rw (e, t, u)))
+call-is (expiring now height) cur next out q e = cases (ltb (length next) (need (q .limits)))
+    (λ t. rw (e, t))
+    (λ t. rw (e, t) (told-is idsBytes q next out (expire now height q)))
+call-is (reconciling a) cur next out q e = cases (ltb (length next) (need (q .limits)))
+    (λ t. rw (e, t))
+    (λ t. cases (reconcileShape? a) (λ u. rw (e, t, u) (told-is releasedBytes q next out (reconcile (calls.reconciling a) q))) (λ u. rw (e, t, u)))
+call-is (reopening ids) cur next out q e = cases (ltb (length next) (need (q .limits)))
+    (λ t. rw (e, t))
+    (λ t. cases (idList? ids) (λ u. rw (e, t, u) (untold-is q next out (reopen (items 32 ids) q))) (λ u. rw (e, t, u)))
+call-is (settingCursor height flag tip) cur next out q e = cases (ltb (length next) (need (q .limits)))
+    (λ t. rw (e, t))
+    (λ t. cases (givenId? flag tip) (λ u. rw (e, t, u) (untold-is q next out (setCursor height (given flag tip) q))) (λ u. rw (e, t, u)))
+
+-- ---- what is worked out
+
+-- Memory and Cursor keep the records; near: whether memory's cursor is claimed to be near the persisted height
+abbrev pub Moves : Bool → Kind → Queue → Queue → Type 0
+Moves near Nothing q x = Unit {0}
+Moves near Memory q x = (x .recs ≡ q .recs) × (near ≡ true → x .cursor < x .persisted + 32)
+Moves near Whole q x = Unit {0}
+Moves near Cursor q x = x .recs ≡ q .recs
+
+abbrev pub Good : Bool → Queue → Answer → Queue → Type 0
+Good near q (Refused n) x = Unit {0}
+Good near q (Done k) x = Kept k q x × Moves near k q x
+
+abbrev Goods : {A : Type 0} → Bool → Queue → Out A → Type 0
+Goods near q (refused n) = Unit {0}
+Goods near q (done k x a) = Kept k q x × Moves near k q x
+
+worked-good : {A : Type 0} (bytes : A → Bytes) (room : ℕ) (near : Bool) (q : Queue) (o : Out A) → Goods near q o
+    → Good near q (worked bytes q room o .answer) (worked bytes q room o .next)
+worked-good bytes room near q (refused n) h = tt
+worked-good bytes room near q (done k x a) h = cases (ltb room (length (bytes a))) (λ t. rw t tt) (λ t. rw t h)
+
+whole-goods : {A : Type 0} (near : Bool) (q : Queue) (o : Out A) → Leaves q o → Wholly o → Goods near q o
+whole-goods near q (refused n) h w = tt
+whole-goods near q (done Nothing x a) h w = (h, tt)
+whole-goods near q (done Memory x a) h w = absurd w
+whole-goods near q (done Whole x a) h w = (h, tt)
+whole-goods near q (done Cursor x a) h w = absurd w
+
+-- a reconciliation that changes no record
+abbrev SameRecs : {A : Type 0} → Queue → Out A → Type 0
+SameRecs q (refused n) = Unit {0}
+SameRecs q (done Nothing x a) = Unit {0}
+SameRecs q (done Memory x a) = x .recs ≡ q .recs
+SameRecs q (done Whole x a) = Unit {0}
+SameRecs q (done Cursor x a) = x .recs ≡ q .recs
+
+reconcile-recs : (c : Reconciling) (q : Queue) → SameRecs q (reconcile c q)
+unfolding reconcile moved
+reconcile-recs c q = on (c .available ++ queuedOutputs (q .recs))
+  where
+    go : (changed : Bool) (l : List Rec) (ids : List Id) → SameRecs q (reconcileTo c q changed l ids)
+    go changed l ids = cases (ltb top (q .counter + length ids))
+        (λ t. rw t tt)
+        (λ t. cases (changed || someReleased? ids)
+        (λ u. rw (t, u) tt)
+        (λ u. cases (leb (min (q .persisted + 32) topHeight) (c .height)) (λ v. rw (t, u, v)) (λ v. rw (t, u, v))))
+
+    on : (own : List Id) → SameRecs q (reconcileOn c q own)
+    on own = go (any? (λ r. isSome (touch c own r)) (q .recs)) (map (λ r. orElse r (touch c own r)) (q .recs)) (released c (q .limits) (map (λ r. orElse r (touch c own r)) (q .recs)))
+
+near-goods : {A : Type 0} (near : Bool) (q : Queue) (o : Out A) → Leaves q o → Near o → SameRecs q o → Goods near q o
+near-goods near q (refused n) h d e = tt
+near-goods near q (done Nothing x a) h d e = (h, tt)
+near-goods near q (done Memory x a) h d e = (h, (e, λ _. d))
+near-goods near q (done Whole x a) h d e = (h, tt)
+near-goods near q (done Cursor x a) h d e = (h, e)
+
+-- a cursor setting claims nothing of the cursor
+set-goods : (height : ℕ) (tip : Option Id) (q : Queue) → Leaves q (setCursor height tip q) → Goods false q (setCursor height tip q)
+unfolding setCursor moved
+set-goods height tip q h = (h, (refl, λ z. false-true z))
+
+rules-good : (c : Call) (q : Queue) (room : ℕ) (old : Bool) → CallOk c → Fit q → Good (mover c q old) q (rules c q room .answer) (rules c q room .next)
+rules-good (admitting a) q room old h f = cases (admitShape? a)
+    (λ u. cases (overK? (q .limits .K) a)
+    (λ v. rw (u, v) tt)
+    (λ v. rw (u, v) (worked-good entryBytes room (mover (admitting a) q old) q (admit (admission a) q)
+    (whole-goods (mover (admitting a) q old) q (admit (admission a) q) (admit-leaves (admission a) q f (admission-ok (q .limits .K) a lent u v)) (admit-wholly (admission a) q)))))
+    (λ u. rw u tt)
+  where
+    lent : AdmitLent a
+    lent = record {
+      id = h .0 .0;
+      inputs = h .0 .1 .0;
+      outputs = h .0 .1 .1 .0;
+      bytes = h .0 .1 .1 .1 .0;
+      now = h .1 .0;
+      time = h .1 .1 .0;
+      height = h .1 .1 .1 .0;
+      priority = h .1 .1 .1 .1 .0;
+      label = h .0 .1 .1 .1 .1 .0;
+      fee = h .1 .1 .1 .1 .1 .0;
+      cost = h .1 .1 .1 .1 .1 .1 .0;
+      tipHeight = h .1 .1 .1 .1 .1 .1 .1;
+      tip = h .0 .1 .1 .1 .1 .1;
+    }
+rules-good (cancelling i) q room old h f = cases (id? i)
+    (λ u. rw u (worked-good entryBytes room old q (cancel i q) (whole-goods old q (cancel i q) (cancel-leaves i q f) (cancel-wholly i q))))
+    (λ u. rw u tt)
+rules-good (expiring now height) q room old h f =
+    worked-good idsBytes room old q (expire now height q) (whole-goods old q (expire now height q) (expire-leaves now height q f) (expire-wholly now height q))
+rules-good (reconciling a) q room old h f = cases (reconcileShape? a)
+    (λ u. rw u (worked-good releasedBytes room true q (reconcile (calls.reconciling a) q)
+    (near-goods true q (reconcile (calls.reconciling a) q) (reconcile-leaves (calls.reconciling a) q f (reconciling-ok a lent u)) (reconcile-near (calls.reconciling a) q) (reconcile-recs (calls.reconciling a) q))))
+    (λ u. rw u tt)
+  where
+    lent : ReconcileLent a
+    lent = record { height = h .1 .0; tip = h .0 .0; applied = h .0 .1 .0 }
+rules-good (reopening ids) q room old h f = cases (idList? ids)
+    (λ u. rw u (worked-good nothingBytes 0 old q (reopen (items 32 ids) q) (whole-goods old q (reopen (items 32 ids) q) (reopen-leaves (items 32 ids) q f) (reopen-wholly (items 32 ids) q))))
+    (λ u. rw u tt)
+rules-good (settingCursor height flag tip) q room old h f = cases (givenId? flag tip)
+    (λ u. rw u (worked-good nothingBytes 0 false q (setCursor height (given flag tip) q)
+    (set-goods height (given flag tip) q (setCursor-leaves height (given flag tip) q f (h .1) (given-id flag tip u (h .0))))))
+    (λ u. rw u tt)
+
+pub work-good : (c : Call) (q : Queue) (lent room : ℕ) (old : Bool) → CallOk c → Fit q → Good (mover c q old) q (work c q lent room .answer) (work c q lent room .next)
+unfolding work
+work-good c q lent room old h f = cases (ltb lent (need (q .limits))) (λ t. rw t tt) (λ t. rw t (rules-good c q room old h f))

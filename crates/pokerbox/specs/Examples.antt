@@ -1,0 +1,154 @@
+-- A short list of steps, run on both machines: that the claim speaks of something.
+use mathlib.Core.Path.{_≡_, refl, ap, _∙_}
+use mathlib.Core.Bool.{Bool, true, false}
+use mathlib.Core.Option.{Option, none, some}
+use mathlib.Core.List.{List, [], _∷_}
+use Prim.Native.Nat.{ℕ, zero, suc, _<_, _≤_}
+use native.Mathlib.Omega.{arith}
+use lib.ListN.{length, take, replicate, length-replicate}
+use Rattle.queue.specs.declared.Answer.{Answer}
+use Rattle.queue.specs.Codec.{All}
+use Rattle.queue.specs.paper.Records.{Bytes, Limits, Rec, Queue}
+use Rattle.queue.specs.paper.Lists.{map}
+use Rattle.queue.specs.paper.Ids.{cmpL, same?}
+use Rattle.queue.specs.paper.Sound.{inRange, need, used?, clash?}
+use Rattle.queue.specs.paper.Area.{termsBytes, placeBytes, heldBytes, recBytes, headBytes, queueBytes, areaBytes, over}
+use Rattle.queue.specs.paper.Changing.{committed, moved, newRec, admit, finished, finishThose, forget, cancel, reconcile, touch, confirm, judged, releases, released}
+use Rattle.queue.specs.paper.Calls.{AdmitArgs, ReconcileArgs, number, items, rise?, entryBytes, idsBytes, releasedBytes, freshOf}
+use Rattle.pokerbox.specs.paper.Machine.{Call, admitting, cancelling, reconciling, Fate, kept, failed, cutBefore, cutAfter, Lent, Step, call, cut, Told, work, Plain, restart, plainStep, plainRun, World, worldRun}
+use Rattle.pokerbox.specs.paper.Claim.{Small, movedLast, imageCursor, Holds, Claim}
+use Rattle.pokerbox.specs.Theorem.{the-claim, RoomyOk, imageRoom, roomy}
+
+abbrev m : Limits
+m = record { P = 1; B = 4; T = 1; K = 1 }
+
+-- enough of each
+abbrev lent : Lent
+lent = record { next = replicate 2184 0; out = replicate 300 0; text = replicate 4372 0; other = replicate 2184 0 }
+
+abbrev id : ℕ → Bytes
+id n = replicate 32 n
+
+abbrev enters : ℕ → Call
+enters n = admitting (record {
+  id = id n;
+  inputs = id 9;
+  outputs = [];
+  bytes = 1 ∷ 2 ∷ 3 ∷ [];
+  now = 5;
+  timeFlag = 0;
+  time = 0;
+  heightFlag = 0;
+  height = 0;
+  priority = 0;
+  labelFlag = 0;
+  label = [];
+  fee = 0;
+  cost = 0;
+  tipHeight = 100;
+  tipFlag = 0;
+  tip = [];
+})
+
+abbrev seen : ℕ → Call
+seen height = reconciling (record { height = height; tip = id 8; applied = []; caughtUp = 0; available = []; window = 100 })
+
+-- an admission whose write fails, one that is kept, the same id again, a full queue; a reconciliation that is only seen; a
+-- cancellation cut before its rename, then cut after it; a cut between calls; a cursor write that is kept
+abbrev steps : List Step
+steps =
+    call (enters 1) lent failed
+    ∷ call (enters 1) lent kept
+    ∷ call (enters 1) lent kept
+    ∷ call (enters 2) lent kept
+    ∷ call (seen 131) lent kept
+    ∷ call (cancelling (id 1)) lent cutBefore
+    ∷ call (cancelling (id 1)) lent cutAfter
+    ∷ cut lent
+    ∷ call (seen 132) lent kept
+    ∷ []
+
+-- the number of a call's answer, and of settling's (0 where nothing was settled)
+abbrev settledNumber : Option Answer → ℕ
+settledNumber none = 0
+settledNumber (some a) = number a
+
+abbrev numbers : Told → ℕ × ℕ
+numbers t = (number (t .answer), settledNumber (t .settled))
+
+abbrev start : Plain
+start = restart m none
+
+abbrev wanted : List (ℕ × ℕ)
+wanted = (102, 17) ∷ (102, 100) ∷ (100, 0) ∷ (10, 0) ∷ (101, 0) ∷ (102, 0) ∷ (102, 0) ∷ (100, 0) ∷ (103, 100) ∷ []
+
+plain-says : map numbers (plainRun m start steps .0) ≡ wanted
+unfolding plainStep work admit cancel reconcile need clash? items used? entryBytes newRec termsBytes placeBytes committed cmpL rise? released releases touch releasedBytes idsBytes moved finished finishThose forget
+plain-says = refl
+
+-- after the cut, the cancelled record is stored and in the queue
+plain-ends : map (λ r. r .state) (plainRun m start steps .1 .queue .recs) ≡ 4 ∷ []
+unfolding plainStep work admit cancel reconcile need clash? items used? entryBytes newRec termsBytes placeBytes committed cmpL rise? released releases touch releasedBytes idsBytes moved finished finishThose forget
+plain-ends = refl
+
+-- the bound is reached: a reconciliation moved the cursor last, to 131, and the image's is 100
+abbrev reached : Bool × (ℕ × ℕ)
+reached = (movedLast m start false (take 5 steps), (plainRun m start (take 5 steps) .1 .queue .cursor, imageCursor (plainRun m start (take 5 steps) .1 .stored)))
+
+bound-reached : reached ≡ (true, (131, 100))
+unfolding plainStep work admit cancel reconcile need clash? items used? entryBytes newRec termsBytes placeBytes committed cmpL rise? released releases touch releasedBytes idsBytes moved finished finishThose forget
+bound-reached = refl
+
+-- ---- the claim of this list
+
+small : (n b : ℕ) → b < 256 → Small (replicate n b)
+small zero b h = tt
+small (suc n) b h = (h, small n b h)
+
+needs : need m ≡ 2184
+unfolding need
+needs = refl
+
+text-room : imageRoom m ≤ length (lent .text)
+text-room = let a = needs in let b = length-replicate {A = ℕ} 4372 0 in omega arith
+
+other-room : need m ≤ length (lent .other)
+other-room = let a = needs in let b = length-replicate {A = ℕ} 2184 0 in omega arith
+
+enters-ok : (n : ℕ) (fate : Fate) → n < 256 → RoomyOk m (call (enters n) lent fate)
+enters-ok n fate h = (
+  ((small 32 n h, (small 32 9 (omega arith), (tt, ((omega arith, (omega arith, (omega arith, tt))), (tt, tt))))),
+    (omega arith, (omega arith, (omega arith, (omega arith, (omega arith, (omega arith, omega arith))))))),
+  (text-room, other-room),
+)
+
+seen-ok : (height : ℕ) (fate : Fate) → height < 4294967296 → RoomyOk m (call (seen height) lent fate)
+seen-ok height fate h = (((small 32 8 (omega arith), (tt, tt)), (h, omega arith)), (text-room, other-room))
+
+cancels-ok : (n : ℕ) (fate : Fate) → n < 256 → RoomyOk m (call (cancelling (id n)) lent fate)
+cancels-ok n fate h = (small 32 n h, (text-room, other-room))
+
+steps-ok : All (RoomyOk m) steps
+steps-ok = (
+  enters-ok 1 failed (omega arith),
+  (enters-ok 1 kept (omega arith),
+  (enters-ok 1 kept (omega arith),
+  (enters-ok 2 kept (omega arith),
+  (seen-ok 131 kept (omega arith),
+  (cancels-ok 1 cutBefore (omega arith), (cancels-ok 1 cutAfter (omega arith), (other-room, (seen-ok 132 kept (omega arith), tt)))))))),
+)
+
+abbrev world : World
+world = record { area = freshOf m (replicate 2184 0) .area; file = none }
+
+range : inRange m ≡ true
+unfolding inRange
+range = refl
+
+pub holds : Holds m steps (worldRun m world steps .0) (worldRun m world steps .1) (plainRun m start steps)
+unfolding Claim
+holds = the-claim m (replicate 2184 0) steps range other-room (roomy m steps range steps-ok)
+
+-- so the run on bytes says the same
+pub bytes-say : map numbers (worldRun m world steps .0) ≡ wanted
+bytes-say = ap (map numbers) (holds .answers) ∙ plain-says

@@ -1,0 +1,244 @@
+-- One step of the plain machine and the same step on bytes and files; then every list of steps.
+use mathlib.Core.Path.{_≡_, refl, ap, sym, _∙_}
+use mathlib.Core.Bool.{Bool, true, false, cond}
+use mathlib.Core.Option.{Option, none, some}
+use mathlib.Core.List.{List, [], _∷_, _++_}
+use Prim.Native.Nat.{ℕ, _+_, _*_, _≤_, _<_}
+use native.Mathlib.Omega.{arith}
+use lib.ListN.{length, drop, length-append}
+use lib.Seq.{take-at}
+use borrow.Author.Tests.{le-ltb}
+use Rattle.queue.specs.declared.Kind.the-variants.{Nothing, Memory, Whole, Cursor}
+use Rattle.queue.specs.declared.Answer.{Answer}
+use Rattle.queue.specs.declared.Answer.the-variants.{Refused, Done}
+use Rattle.queue.specs.Codec.{be, mapC, pairC, beC}
+use Rattle.queue.specs.ReadLaws.{false-true}
+use Rattle.queue.specs.Forms.{storeC, storeOf, queueC, store-length}
+use Rattle.queue.specs.Areas.{readArea, readImage, image}
+use Rattle.queue.specs.Plain.{image-plain}
+use Rattle.queue.specs.Sounds.{Fit, fit-sound, fit-ok}
+use Rattle.queue.specs.Bound.{fits-need, reads-size, fit-stands, fit-over, fit-image}
+use Rattle.queue.specs.Keeps.{Kept, fresh-fit, settled-fit}
+use Rattle.queue.specs.paper.Records.{Bytes, Limits, Queue}
+use Rattle.queue.specs.paper.Sound.{inRange, need}
+use Rattle.queue.specs.paper.Area.{areaBytes, over}
+use Rattle.queue.specs.paper.Changing.{moved}
+use Rattle.queue.specs.paper.Calls.{Written, written, fresh, freshOf, settleOf}
+use Rattle.image.specs.paper.Image.{imageBytes, imageOf, openOf}
+use Rattle.pokerbox.specs.paper.Machine.{Call, Fate, kept, failed, cutBefore, cutAfter, Lent, Step, call, cut, Told, Worked, work, Plain, restart, settling, silent, plainCall, plainStep, plainRun, World, onBytes, imageText, starts, opened, settlingBytes, worldCall, worldStep, worldRun}
+use Rattle.pokerbox.specs.paper.Claim.{byAnswer, mover, movedBy, movedLast, imageCursor, images, TextOk, WorkOk, StepOk, StepsOk, CallOk}
+use Rattle.pokerbox.specs.Answers.{onLent, nextFor, Good, call-is, work-good}
+
+-- ---- the parts of a step
+
+-- how long an image can be: two digits a byte of the area, and a line end for each frame
+pub image-room : (q : Queue) → Fit q → length (imageBytes q) ≤ 2 * need (q .limits) + (2 * q .limits .P + q .limits .T + 1)
+unfolding imageBytes image queueC mapC pairC
+image-room q f =
+    let e : image q ≡ imageBytes q = image-plain q in
+    let s = store-length (storeOf q) in
+    let n = fits-need q (fit-sound q f) (fit-ok q f) in
+    let a = length-append (beC 4 .enc (q .persisted)) (storeC false .enc (storeOf q)) in
+    let c = f .sound .few in
+    omega (arith, ap length e)
+
+image-text : (area text : Bytes) (q : Queue) → readArea area ≡ some q → length (imageBytes q) ≤ length text → imageText area text ≡ imageBytes q
+unfolding imageText imageOf over
+image-text area text q e h =
+    rw (e, le-ltb (length text) (length (imageBytes q)) h) (take-at (imageBytes q) (drop (length (imageBytes q)) text) (length (imageBytes q)) refl)
+
+-- a stored queue fits, with the cursor's height as its persisted height, under the limits that the list began with
+abbrev pub StoredOk : Limits → Option Queue → Type 0
+StoredOk m none = Unit {0}
+StoredOk m (some q) = Fit q × ((q .persisted ≡ q .cursor) × (q .limits ≡ m))
+
+pub fresh-is : (m : Limits) (other : Bytes) → inRange m ≡ true → need m ≤ length other → freshOf m other ≡ written (Done Nothing) (over (areaBytes (fresh m)) other)
+unfolding freshOf
+fresh-is m other r h = rw (r, le-ltb (length other) (need m) h)
+
+open-is : (q : Queue) (other : Bytes) → Fit q → q .persisted ≡ q .cursor → need (q .limits) ≤ length other → openOf (imageBytes q) other ≡ written (Done Nothing) (over (areaBytes q) other)
+unfolding openOf imageBytes
+open-is q other f e h = rw (fit-image q f e, le-ltb (length other) (need (q .limits)) h)
+
+pub starts-is : (m : Limits) (o : Option Queue) (other : Bytes) → inRange m ≡ true → StoredOk m o → need m ≤ length other
+    → starts m (images o) other ≡ written (Done Nothing) (over (areaBytes (restart m o .queue)) other)
+unfolding starts
+starts-is m none other r s h = fresh-is m other r h
+starts-is m (some q) other r s h = let e = ap need (s .1 .1) in open-is q other (s .0) (s .1 .0) (omega arith)
+
+module _ (cur next : Bytes) (q x : Queue) (e : readArea cur ≡ some q) (d : readArea next ≡ some x) where
+  settle-kept2 : settleOf cur next 2 0 ≡ written (Done Nothing) next
+  unfolding settleOf
+  settle-kept2 = rw (e, d)
+
+  settle-kept3 : settleOf cur next 3 0 ≡ written (Done Nothing) next
+  unfolding settleOf
+  settle-kept3 = rw (e, d)
+
+  settle-failed2 : need (q .limits) ≤ length next → settleOf cur next 2 1 ≡ written (Refused 17) (over (areaBytes q) next)
+  unfolding settleOf
+  settle-failed2 h = rw (e, le-ltb (length next) (need (q .limits)) h)
+
+  settle-failed3 : settleOf cur next 3 1 ≡ written (Refused 17) (over (areaBytes (moved (q .persisted) (x .cursor) (x .tip) x)) next)
+  unfolding settleOf
+  settle-failed3 = rw (e, d)
+
+-- ---- what holds between steps
+
+-- of the plain machine alone; near: a successful reconciliation moved the cursor last
+pub record Inv (m : Limits) (near : Bool) (p : Plain) : Type 0 where
+  pub fit : Fit (p .queue)
+  pub limits : p .queue .limits ≡ m
+  pub stored : StoredOk m (p .stored)
+  pub tied : p .queue .persisted ≡ imageCursor (p .stored)
+  pub recs : restart m (p .stored) .queue .recs ≡ p .queue .recs
+  pub close : near ≡ true → p .queue .cursor < p .queue .persisted + 32
+
+-- of the area and the file beside it
+pub record Rep (p : Plain) (w : World) : Type 0 where
+  pub later : Bytes
+  pub area : w .area ≡ areaBytes (p .queue) ++ later
+  pub file : w .file ≡ images (p .stored)
+
+-- the same answer, and both again
+pub record Same {A : Type 0} (m : Limits) (near : Bool) (u : A × Plain) (v : A × World) : Type 0 where
+  pub told : v .0 ≡ u .0
+  pub inv : Inv m near (u .1)
+  pub rep : Rep (u .1) (v .1)
+
+pub restart-inv : (m : Limits) (near : Bool) (o : Option Queue) → inRange m ≡ true → StoredOk m o → Inv m near (restart m o)
+restart-inv m near none r s = record { fit = fresh-fit m r; limits = refl; stored = tt; tied = refl; recs = refl; close = λ _. omega arith }
+restart-inv m near (some q) r s =
+    let k = s .1 .0 in
+    record { fit = s .0; limits = s .1 .1; stored = s; tied = s .1 .0; recs = refl; close = λ _. omega arith }
+
+restart-stored : (m : Limits) (o : Option Queue) → images o ≡ images (restart m o .stored)
+restart-stored m none = refl
+restart-stored m (some q) = refl
+
+-- ---- a step
+
+module _ (m : Limits) (range : inRange m ≡ true) (old : Bool) (p : Plain) (w : World) (l : Lent) (inv : Inv m old p) (rep : Rep p w) (room : need m ≤ length (l .other)) where
+  cur-reads : readArea (w .area) ≡ some (p .queue)
+  cur-reads = ap readArea (rep .area) ∙ fit-stands (p .queue) (inv .fit) (rep .later)
+
+  cut-rep : Rep (restart m (p .stored)) (record { area = opened m (w .file) (l .other); file = w .file })
+  unfolding over
+  cut-rep = record {
+    later = drop (length (areaBytes (restart m (p .stored) .queue))) (l .other);
+    area = ap (λ f. opened m f (l .other)) (rep .file) ∙ ap (λ z. z .area) (starts-is m (p .stored) (l .other) range (inv .stored) room);
+    file = rep .file ∙ restart-stored m (p .stored);
+  }
+
+  cut-same : {A : Type 0} (a : A) (near : Bool) → Same m near (a, restart m (p .stored)) (a, record { area = opened m (w .file) (l .other); file = w .file })
+  cut-same a near = record { told = refl; inv = restart-inv m near (p .stored) range (inv .stored); rep = cut-rep }
+
+  -- a write of x that was due
+  module _ (new : Bool) (x : Queue) (fit : Fit x) (limits : x .limits ≡ m) (level : x .persisted ≡ x .cursor) (text : length (imageBytes x) ≤ length (l .text)) where
+    abbrev next : Bytes
+    next = over (areaBytes x) (l .next)
+
+    next-reads : readArea (over (areaBytes x) (l .next)) ≡ some x
+    next-reads = fit-over x fit (l .next)
+
+    image-is : imageText next (l .text) ≡ imageBytes x
+    image-is = image-text next (l .text) x next-reads text
+
+    kept-same : (s : Written) → s ≡ written (Done Nothing) next
+        → Same m new (some (Done Nothing), record { queue = x; stored = some x }) (some (s .answer), record { area = s .area; file = some (imageText next (l .text)) })
+    unfolding over
+    kept-same s e = record {
+      told = ap (λ z. some (z .answer)) e;
+      inv = restart-inv m new (some x) range (fit, (level, limits));
+      rep = record { later = drop (length (areaBytes x)) (l .next); area = ap (λ z. z .area) e; file = ap some image-is };
+    }
+
+    after-same : Same {A = Option Answer} m new (none, restart m (some x)) (none, record { area = opened m (some (imageText next (l .text))) (l .other); file = some (imageText next (l .text)) })
+    unfolding over
+    after-same = record {
+      told = refl;
+      inv = restart-inv m new (some x) range (fit, (level, limits));
+      rep = record {
+        later = drop (length (areaBytes x)) (l .other);
+        area = ap (λ f. opened m (some f) (l .other)) image-is ∙ ap (λ z. z .area) (starts-is m (some x) (l .other) range (fit, (level, limits)) room);
+        file = ap some image-is;
+      };
+    }
+
+    back-same : Same m old (some (Refused 17), record { queue = p .queue; stored = p .stored }) (some (settleOf (w .area) next 2 1 .answer), record { area = settleOf (w .area) next 2 1 .area; file = w .file })
+    unfolding over
+    back-same =
+        let n = reads-size next x next-reads in
+        let a = ap need limits in
+        let b = ap need (inv .limits) in
+        let e = settle-failed2 (w .area) next (p .queue) x cur-reads next-reads (omega arith) in
+        record {
+          told = ap (λ z. some (z .answer)) e;
+          inv = inv;
+          rep = record { later = drop (length (areaBytes (p .queue))) next; area = ap (λ z. z .area) e; file = rep .file };
+        }
+
+    lost-same : x .recs ≡ p .queue .recs
+        → Same m false (some (Refused 17), record { queue = moved (p .queue .persisted) (x .cursor) (x .tip) x; stored = p .stored }) (some (settleOf (w .area) next 3 1 .answer), record { area = settleOf (w .area) next 3 1 .area; file = w .file })
+    unfolding over moved
+    lost-same h =
+        let e = settle-failed3 (w .area) next (p .queue) x cur-reads next-reads in
+        record {
+          told = ap (λ z. some (z .answer)) e;
+          inv = record { fit = settled-fit (p .queue) x (inv .fit) fit; limits = limits; stored = inv .stored; tied = inv .tied; recs = inv .recs ∙ sym h; close = λ z. false-true z };
+          rep = record { later = drop (length (areaBytes (moved (p .queue .persisted) (x .cursor) (x .tip) x))) next; area = ap (λ z. z .area) e; file = rep .file };
+        }
+
+    whole-same : (fate : Fate) → Same m (byAnswer old new fate (Done Whole)) (settling m p x fate (Done Whole)) (settlingBytes m w l next fate (Done Whole))
+    whole-same kept = kept-same (settleOf (w .area) next 2 0) (settle-kept2 (w .area) next (p .queue) x cur-reads next-reads)
+    whole-same failed = back-same
+    whole-same cutBefore = cut-same none false
+    whole-same cutAfter = after-same
+
+    cursor-same : (fate : Fate) → x .recs ≡ p .queue .recs → Same m (byAnswer old new fate (Done Cursor)) (settling m p x fate (Done Cursor)) (settlingBytes m w l next fate (Done Cursor))
+    cursor-same kept h = kept-same (settleOf (w .area) next 3 0) (settle-kept3 (w .area) next (p .queue) x cur-reads next-reads)
+    cursor-same failed h = lost-same h
+    cursor-same cutBefore h = cut-same none false
+    cursor-same cutAfter h = after-same
+
+  settle-same : (new : Bool) (a : Answer) (x : Queue) (fate : Fate) → Good new (p .queue) a x → TextOk a x (l .text)
+      → Same m (byAnswer old new fate a) (settling m p x fate a) (settlingBytes m w l (nextFor a x (l .next)) fate a)
+  unfolding over
+  settle-same new (Refused n) x fate h t = record { told = refl; inv = inv; rep = rep }
+  settle-same new (Done Nothing) x fate h t = record { told = refl; inv = inv; rep = rep }
+  settle-same new (Done Memory) x fate h t = record {
+    told = refl;
+    inv = record { fit = h .0 .fit; limits = h .0 .limits ∙ inv .limits; stored = inv .stored; tied = h .0 .level ∙ inv .tied; recs = inv .recs ∙ sym (h .1 .0); close = h .1 .1 };
+    rep = record { later = drop (length (areaBytes x)) (l .next); area = refl; file = rep .file };
+  }
+  settle-same new (Done Whole) x fate h t = whole-same new x (h .0 .fit) (h .0 .limits ∙ inv .limits) (h .0 .level) t fate
+  settle-same new (Done Cursor) x fate h t = cursor-same new x (h .0 .fit) (h .0 .limits ∙ inv .limits) (h .0 .level) t fate (h .1)
+
+  call-same : (c : Call) (fate : Fate) → CallOk c → WorkOk (work c (p .queue) (length (l .next)) (length (l .out))) (l .text)
+      → Same m (movedBy p old (call c l fate)) (plainStep m p (call c l fate)) (worldStep m w (call c l fate))
+  unfolding plainStep worldStep
+  call-same c fate o t =
+      let g = work-good c (p .queue) (length (l .next)) (length (l .out)) old o (inv .fit) in
+      rw (call-is c (w .area) (l .next) (l .out) (p .queue) cur-reads) (tell (work c (p .queue) (length (l .next)) (length (l .out))) g t)
+    where
+      tell : (k : Worked) → Good (mover c (p .queue) old) (p .queue) (k .answer) (k .next) → WorkOk k (l .text)
+          → Same m (byAnswer old (mover c (p .queue) old) fate (k .answer)) (plainCall m p (l .out) fate k) (worldCall m w l fate (onLent (l .next) (l .out) k))
+      tell k g t =
+          let s = settle-same (mover c (p .queue) old) (k .answer) (k .next) fate g t in
+          record { told = ap (λ z. record { answer = k .answer; out = over (k .bytes) (l .out); settled = z }) (s .told); inv = s .inv; rep = s .rep }
+
+pub step-same : (m : Limits) → inRange m ≡ true → (old : Bool) (p : Plain) (w : World) (x : Step) → Inv m old p → Rep p w → StepOk m p x
+    → Same m (movedBy p old x) (plainStep m p x) (worldStep m w x)
+unfolding plainStep worldStep
+step-same m range old p w (call c l fate) inv rep o = call-same m range old p w l inv rep (o .1 .1) c fate (o .0) (o .1 .0)
+step-same m range old p w (cut l) inv rep o = cut-same m range old p w l inv rep o (silent l) false
+
+-- ---- every list
+
+pub run-same : (m : Limits) → inRange m ≡ true → (xs : List Step) (old : Bool) (p : Plain) (w : World) → Inv m old p → Rep p w → StepsOk m p xs
+    → Same m (movedLast m p old xs) (plainRun m p xs) (worldRun m w xs)
+run-same m range [] old p w inv rep o = record { told = refl; inv = inv; rep = rep }
+run-same m range (x ∷ xs) old p w inv rep o =
+    let s = step-same m range old p w x inv rep (o .0) in
+    let k = run-same m range xs (movedBy p old x) (plainStep m p x .1) (worldStep m w x .1) (s .inv) (s .rep) (o .1) in
+    record { told = cc (s .told, k .told); inv = k .inv; rep = k .rep }

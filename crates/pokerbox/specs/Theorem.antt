@@ -1,0 +1,94 @@
+-- Demand 3. A queue starts fresh with nothing stored. Whatever list of admissions, cancellations, expiries, reconciliations,
+-- reopenings and cursor settings follows, whichever writes fail and wherever power is cut: all answers, the bytes of the area
+-- and the first file are those of the plain machine fed the same; opening gives the records of its queue; no input id is in
+-- two records; the bounds hold.
+--
+-- It rests on the definitions of document 01's calls (queue, image) and not on code: that the exported functions do on bytes
+-- what `onBytes`, `settleOf`, `imageOf`, `openOf` and `freshOf` say is each function's contract. It takes from the node what
+-- `Machine` says of it: who lends what, what a write does to the first file, and that nobody else writes meanwhile.
+use mathlib.Core.Path.{_≡_, refl, ap, _∙_}
+use mathlib.Core.Bool.{Bool, true, false}
+use mathlib.Core.Option.{none}
+use mathlib.Core.List.{List, [], _∷_, _++_}
+use Prim.Native.Nat.{ℕ, _+_, _*_, _≤_}
+use native.Mathlib.Omega.{arith}
+use lib.ListN.{length, drop}
+use Rattle.queue.specs.declared.Kind.the-variants.{Nothing, Memory, Whole, Cursor}
+use Rattle.queue.specs.declared.Answer.{Answer}
+use Rattle.queue.specs.declared.Answer.the-variants.{Refused, Done}
+use Rattle.queue.specs.Codec.{All}
+use Rattle.queue.specs.Sounds.{of-apart}
+use Rattle.queue.specs.paper.Records.{Bytes, Limits, Queue}
+use Rattle.queue.specs.paper.Sound.{inRange, need}
+use Rattle.queue.specs.paper.Area.{areaBytes, over}
+use Rattle.queue.specs.paper.Calls.{fresh, freshOf}
+use Rattle.pokerbox.specs.paper.Machine.{Step, call, cut, Told, work, Plain, restart, plainStep, plainRun, World, worldRun, starts}
+use Rattle.pokerbox.specs.paper.Claim.{CallOk, TextOk, StepOk, StepsOk, mover, movedBy, movedLast, images, Holds, Claim}
+use Rattle.pokerbox.specs.Answers.{Good, work-good}
+use Rattle.pokerbox.specs.Runs.{image-room, fresh-is, starts-is, Inv, Rep, Same, restart-inv, step-same, run-same}
+
+-- what holds between steps is what is claimed
+same-holds : (m : Limits) (xs : List Step) (told : List Told) (w : World) (p : List Told × Plain) → inRange m ≡ true
+    → Same m (movedLast m (restart m none) false xs) p (told, w) → Holds m xs told w p
+unfolding over
+same-holds m xs told w p range s =
+    let i = s .inv in
+    let r = s .rep in
+    let n = ap (λ (k : Limits). 2 * k .P) (i .limits) in
+    let b = ap (λ (k : Limits). 2 * k .B) (i .limits) in
+    let t = ap (λ (k : Limits). k .T) (i .limits) in
+    let c = i .tied in
+    let f = i .fit .sound in
+    record {
+      answers = s .told;
+      later = r .later;
+      queue = r .area;
+      file = r .file;
+      opening = λ other h. (drop (length (areaBytes (restart m (p .1 .stored) .queue))) other, ap (λ z. starts m z other) (r .file) ∙ starts-is m (p .1 .stored) other range (i .stored) h);
+      records = i .recs;
+      limits = i .limits;
+      apart = of-apart (p .1 .queue .recs) (f .apart);
+      holders = let z = f .fewHolders in omega arith;
+      bytes = let z = f .fewBytes in omega arith;
+      tombstones = let z = f .fewTombs in omega arith;
+      cursor = λ e. let z = i .close e in omega arith;
+    }
+
+pub the-claim : Claim
+unfolding Claim over
+the-claim m first xs range room ok = same-holds m xs _ _ (plainRun m (restart m none) xs) range
+    (run-same m range xs false (restart m none) (record { area = freshOf m first .area; file = none }) (restart-inv m false none range tt)
+    (record { later = drop (length (areaBytes (fresh m))) first; area = ap (λ z. z .area) (fresh-is m first range room); file = refl }) ok)
+
+-- ---- the same for a node that always lends the image writer as much as any image takes
+
+abbrev pub imageRoom : Limits → ℕ
+imageRoom m = 2 * need m + (2 * m .P + m .T + 1)
+
+abbrev pub RoomyOk : Limits → Step → Type 0
+RoomyOk m (call c l fate) = CallOk c × ((imageRoom m ≤ length (l .text)) × (need m ≤ length (l .other)))
+RoomyOk m (cut l) = need m ≤ length (l .other)
+
+text-ok : (m : Limits) (near : Bool) (q : Queue) (a : Answer) (x : Queue) (text : Bytes) → q .limits ≡ m → imageRoom m ≤ length text → Good near q a x → TextOk a x text
+text-ok m near q (Refused n) x text e r h = tt
+text-ok m near q (Done Nothing) x text e r h = tt
+text-ok m near q (Done Memory) x text e r h = tt
+text-ok m near q (Done Whole) x text e r h = let z = image-room x (h .0 .fit) in let k = ap imageRoom (h .0 .limits ∙ e) in omega arith
+text-ok m near q (Done Cursor) x text e r h = let z = image-room x (h .0 .fit) in let k = ap imageRoom (h .0 .limits ∙ e) in omega arith
+
+roomy-step : (m : Limits) (old : Bool) (p : Plain) (x : Step) → Inv m old p → RoomyOk m x → StepOk m p x
+roomy-step m old p (call c l fate) i h =
+    let k = work c (p .queue) (length (l .next)) (length (l .out)) in
+    let g = work-good c (p .queue) (length (l .next)) (length (l .out)) old (h .0) (i .fit) in
+    (h .0, (text-ok m (mover c (p .queue) old) (p .queue) (k .answer) (k .next) (l .text) (i .limits) (h .1 .0) g, h .1 .1))
+roomy-step m old p (cut l) i h = h
+
+roomy-steps : (m : Limits) → inRange m ≡ true → (xs : List Step) (old : Bool) (p : Plain) → Inv m old p → All (RoomyOk m) xs → StepsOk m p xs
+roomy-steps m range [] old p i h = tt
+roomy-steps m range (x ∷ xs) old p i h =
+    let o = roomy-step m old p x i (h .0) in
+    let s = step-same m range old p (record { area = areaBytes (p .queue) ++ []; file = images (p .stored) }) x i (record { later = []; area = refl; file = refl }) o in
+    (o, roomy-steps m range xs (movedBy p old x) (plainStep m p x .1) (s .inv) (h .1))
+
+pub roomy : (m : Limits) (xs : List Step) → inRange m ≡ true → All (RoomyOk m) xs → StepsOk m (restart m none) xs
+roomy m xs range h = roomy-steps m range xs false (restart m none) (restart-inv m false none range tt) h
