@@ -117,8 +117,10 @@ other-room = let a = needs in let b = length-replicate {A = ℕ} 2184 0 in omega
 
 enters-ok : (n : ℕ) (fate : Fate) → n < 256 → RoomyOk m (call (enters n) lent fate)
 enters-ok n fate h = (
-  ((small 32 n h, (small 32 9 (omega arith), (tt, ((omega arith, (omega arith, (omega arith, tt))), (tt, tt))))),
-    (omega arith, (omega arith, (omega arith, (omega arith, (omega arith, (omega arith, omega arith))))))),
+  (
+    (small 32 n h, (small 32 9 (omega arith), (tt, ((omega arith, (omega arith, (omega arith, tt))), (tt, tt))))),
+    (omega arith, (omega arith, (omega arith, (omega arith, (omega arith, (omega arith, omega arith)))))),
+  ),
   (text-room, other-room),
 )
 
@@ -131,11 +133,19 @@ cancels-ok n fate h = (small 32 n h, (text-room, other-room))
 steps-ok : All (RoomyOk m) steps
 steps-ok = (
   enters-ok 1 failed (omega arith),
-  (enters-ok 1 kept (omega arith),
-  (enters-ok 1 kept (omega arith),
-  (enters-ok 2 kept (omega arith),
-  (seen-ok 131 kept (omega arith),
-  (cancels-ok 1 cutBefore (omega arith), (cancels-ok 1 cutAfter (omega arith), (other-room, (seen-ok 132 kept (omega arith), tt)))))))),
+  (
+    enters-ok 1 kept (omega arith),
+    (
+      enters-ok 1 kept (omega arith),
+      (
+        enters-ok 2 kept (omega arith),
+        (
+          seen-ok 131 kept (omega arith),
+          (cancels-ok 1 cutBefore (omega arith), (cancels-ok 1 cutAfter (omega arith), (other-room, (seen-ok 132 kept (omega arith), tt)))),
+        ),
+      ),
+    ),
+  ),
 )
 
 abbrev world : World

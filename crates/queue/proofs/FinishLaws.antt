@@ -134,9 +134,12 @@ own x (r ∷ l) =
   where
     rest : (k : List Rec) → All (λ y. y .finish ≡ x → holder? y ≡ false → higher x l < tombstones l) k → All (λ y. y .finish ≡ x → holder? y ≡ false → higher x (r ∷ l) < tombstones (r ∷ l)) k
     rest [] h = tt
-    rest (y ∷ k) h = (λ e b. let g = h .0 e b in cases (holder? r)
-        (λ t. rw t (omega arith))
-        (λ t. cases (ltb x (r .finish)) (λ u. rw (t, u) (omega arith)) (λ u. rw (t, u) (omega arith))), rest k (h .1))
+    rest (y ∷ k) h = (
+      λ e b. let g = h .0 e b in cases (holder? r)
+          (λ t. rw t (omega arith))
+          (λ t. cases (ltb x (r .finish)) (λ u. rw (t, u) (omega arith)) (λ u. rw (t, u) (omega arith))),
+      rest k (h .1),
+    )
 
 own-all : (l k : List Rec) → ((x : ℕ) → All (λ r. r .finish ≡ x → holder? r ≡ false → higher x l < tombstones l) k) → All (λ r. holder? r ≡ false → higher (r .finish) l < tombstones l) k
 own-all l [] h = tt
@@ -289,7 +292,7 @@ module _ {v : Bytes} {x : Seen} {r : Rec} (w : SeenAs v x r) where
       between v (termsC .enc (r .terms) ++ (placeC .enc (r .place) ++ beC 1 .enc (r .mark))) 35 (x .mark + 1) (e ∙ ap (λ y. (termsC .enc (r .terms) ++ (placeC .enc (r .place) ++ beC 1 .enc (r .mark))) ++ y) (sym k))
       (omega (arith, w .up, w .upPlace)) (omega (arith, w .upBody, w .end))
 
-byte-one : (v : ℕ) → codec.be 1 v ≡ v ∷ []
+pub byte-one : (v : ℕ) → codec.be 1 v ≡ v ∷ []
 byte-one v = ap (λ (z : ℕ). z ∷ []) (div-one v)
 
 glue : {a a′ b b′ t t′ p p′ m m′ : Bytes} (i n z : Bytes) → a ≡ a′ → b ≡ b′ → t ≡ t′ → p ≡ p′ → m ≡ m′
@@ -362,7 +365,7 @@ end-room s base x {t} {a} {b} {n} o k e i h l r = let z = end-long s base x a b 
 pub keep-room : (s : Bytes) (base : ℕ) (x : Seen) {t : Fate} (o k : ℕ) → t ≡ Keep → base + x .size ≤ length s → o + length (stepBytes s base x t) ≤ k → o + x .size ≤ k
 keep-room s base x o k e h r = let z = keep-long s base x h in let y = ap (λ v. length (stepBytes s base x v)) e in omega arith
 
-id-32 : (r : Rec) → recC .ok r → length (r .id) ≡ 32
+pub id-32 : (r : Rec) → recC .ok r → length (r .id) ≡ 32
 unfolding recC mapC pairC idC vecC
 id-32 r h = h .1 .0 .1
 

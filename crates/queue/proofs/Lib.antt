@@ -10,3 +10,6 @@ pub mod FrontLaws
 pub mod ReadingLaws
 pub mod WriteLaws
 pub mod SelectLaws
+pub mod CallLaws
+pub mod CancelLaws
+pub mod ExpireLaws

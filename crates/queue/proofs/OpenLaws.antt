@@ -146,18 +146,23 @@ module _ (hex : Bool) (s : Bytes) {base : ℕ} {h : HeadR} (b : base ≤ length 
       let m′ : Many (formC hex recC) s (afterIn hex s base (h .size)) (h .count) o n = rw g at m in
       let v = store-read hex w (λ _. m′) in
       record {
-        good = λ l y. let z = v .good l (rw k y) in let x = m .end y in
-            (z .0, z .1, z .2, z .3, record {
-              head = z .4 .0 .0;
-              frame = z .4 .0 .1;
-              start = g;
-              all = rw g (z .4 .1 .1 .0);
-              list = rw g (sym (z .4 .1 .0));
-              count = z .4 .1 .1 .1;
-              end = x .0;
-              up = x .1;
-              ends = x .2;
-            });
+        good = λ l y. let z = v .good l (rw k y) in let x = m .end y in (
+          z .0,
+          z .1,
+          z .2,
+          z .3,
+          record {
+            head = z .4 .0 .0;
+            frame = z .4 .0 .1;
+            start = g;
+            all = rw g (z .4 .1 .1 .0);
+            list = rw g (sym (z .4 .1 .0));
+            count = z .4 .1 .1 .1;
+            end = x .0;
+            up = x .1;
+            ends = x .2;
+          },
+        );
         bad = λ l y. v .bad l (rw k y);
       }
 
@@ -242,16 +247,19 @@ module _ {s : Bytes} {v next : ℕ} {ok : Bool} {y : Open} (a : Reads (beC 4) (v
             let sd = reads-stands s q rd in
             let n = w .next t₁ in
             let z = filled-parts s (y .next) (limits (y .head .p) (y .head .b) (y .head .t) (y .head .k)) (y .head .counter .0) (listAt (formC false recC) (y .head .count) s (y .start)) (sym (w .is) ∙ t₁) in
-            let need-is : x .need ≡ need (q .limits) = e4 ∙ n .0 ∙ ap need (sym m) in
-            (q, rd, record {
-              persisted = u .1 .0 ∙ sym e2;
-              store = rw e3 st;
-              need = need-is;
-              small = rw e4 (n .1);
-              fits = rw (e3, e4, n .0) (z .1);
-              long = rw (e4, n .0) (z .0);
-              sound = sd .sound;
-              range = sd .range;
-            });
+            let need-is : x .need ≡ need (q .limits) = e4 ∙ n .0 ∙ ap need (sym m) in (
+              q,
+              rd,
+              record {
+                persisted = u .1 .0 ∙ sym e2;
+                store = rw e3 st;
+                need = need-is;
+                small = rw e4 (n .1);
+                fits = rw (e3, e4, n .0) (z .1);
+                long = rw (e4, n .0) (z .0);
+                sound = sd .sound;
+                range = sd .range;
+              },
+            );
         bad = λ g. B ∙ rw (sym e1 ∙ g);
       }

@@ -76,7 +76,7 @@ met {s} {at} {m} {ok} {y} {r} h x =
     rw (← e) (t .is)
 
 -- ---- looking up
-key : {k id : Id} → length id ≡ 32 → k ≡ part 32 (view false id 0) 0 → k ≡ id
+pub key : {k id : Id} → length id ≡ 32 → k ≡ part 32 (view false id 0) 0 → k ≡ id
 unfolding part view
 key {k} {id} h e = e ∙ take-all 32 id (omega arith)
 

@@ -87,10 +87,11 @@ pub rise-first : (hex : Bool) {s : Bytes} (n : ℕ) {at m j : ℕ} {ok : Bool} {
     → Scan (formC hex recC) chain? s (n - 1) j (y .id) j (n - 1) (y .id) × (chain? (y .id) (listAt (formC hex recC) (n - 1) s j) ≡ rising? (listAt (formC hex recC) n s at)) × (m ≤ length (view hex s at))
 rise-first hex {s} n {at} {m} {j} {ok} {y} h w p r g =
     let x = start (formC hex recC) (λ (u : Unit {0}) (l : List Rec). u) s n at tt h w in
-    let t = see hex x p r g in
-    (start (formC hex recC) chain? s (n - 1) j (y .id) (t .within) (t .rest),
-    ap (λ i. chain? i (listAt (formC hex recC) (n - 1) s j)) (t .is .0 .id) ∙ sym (rising-chain (t .item) (listAt (formC hex recC) (n - 1) s j)) ∙ ap rising? (sym (t .list)),
-    t .is .1 .within)
+    let t = see hex x p r g in (
+      start (formC hex recC) chain? s (n - 1) j (y .id) (t .within) (t .rest),
+      ap (λ i. chain? i (listAt (formC hex recC) (n - 1) s j)) (t .is .0 .id) ∙ sym (rising-chain (t .item) (listAt (formC hex recC) (n - 1) s j)) ∙ ap rising? (sym (t .list)),
+      t .is .1 .within,
+    )
 
 module _ (hex : Bool) {s : Bytes} {n at i left : ℕ} {p₀ p : Id} (x : Scan (formC hex recC) chain? s n at p₀ i left p) where
   pub rise-go : {m j : ℕ} {ok : Bool} {y : Seen} → 0 < left → ReadsRec hex s i ok m y → j ≡ afterIn hex s i m → cmpL p (y .id) ≡ 0 → Scan (formC hex recC) chain? s n at p₀ j (left - 1) (y .id)

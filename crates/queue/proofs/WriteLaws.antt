@@ -108,7 +108,7 @@ module _ {s : Bytes} {a : Area} {q : Queue} (w : AreaAs s a q) where
   recs-here =
       let st = w .store in
       let e : drop (a .open .start) s ≡ encs recC (q .recs) ++ drop (a .open .next) s =
-          values (formC false recC) (a .open .head .count) s (a .open .start) (st .all) ∙ rw (st .list, ← (st .end), form-raw recC) in
+      values (formC false recC) (a .open .head .count) s (a .open .start) (st .all) ∙ rw (st .list, ← (st .end), form-raw recC) in
       between s (encs recC (q .recs)) (a .open .start) (a .open .next) e (st .up) (st .ends)
 
   pub the-limits : q .limits ≡ limits (a .open .head .p) (a .open .head .b) (a .open .head .t) (a .open .head .k)
@@ -160,7 +160,7 @@ queue p l r c t n f = record { persisted = p; limits = l; revision = r; cursor =
 same-queue : {p p′ r r′ c c′ n n′ : ℕ} {l l′ : Limits} {t t′ : Option Id} {f f′ : List Rec} → p ≡ p′ → l ≡ l′ → r ≡ r′ → c ≡ c′ → t ≡ t′ → n ≡ n′ → f ≡ f′ → queue p l r c t n f ≡ queue p′ l′ r′ c′ t′ n′ f′
 same-queue {p} {p′} {r} {r′} {c} {c′} {n} {n′} {l} {l′} {t} {t′} {f} {f′} e1 e2 e3 e4 e5 e6 e7 = rw (e1, e2, e3, e4, e5, e6, e7)
 
-one-queue : (s : Bytes) {q q′ : Queue} → readArea s ≡ some q → readArea s ≡ some q′ → q ≡ q′
+pub one-queue : (s : Bytes) {q q′ : Queue} → readArea s ≡ some q → readArea s ≡ some q′ → q ≡ q′
 one-queue s e f = cc
 
 module _ {s : Bytes} {a : Area} {q : Queue} (w : AreaAs s a q) (persisted cursor : Height) (has : Bool) (tip : Id) where
@@ -192,7 +192,7 @@ module _ {s : Bytes} {a : Area} {q : Queue} (w : AreaAs s a q) (persisted cursor
       let y′ = recast y refl (sym t) refl in
       let n : a .need ≡ need (limits (a .open .head .p) (a .open .head .b) (a .open .head .t) (a .open .head .k)) = w .need ∙ ap need (the-limits w) in
       let fit′ : length (queueC .enc (queueOf (limits (a .open .head .p) (a .open .head .b) (a .open .head .t) (a .open .head .k)) marksFor tip (q .recs))) ≤ need (limits (a .open .head .p) (a .open .head .b) (a .open .head .t) (a .open .head .k)) =
-          let u = ap (λ v. length (queueC .enc v)) moved-is in let v = ap need (the-limits w) in omega arith in
+      let u = ap (λ v. length (queueC .enc v)) moved-is in let v = ap need (the-limits w) in omega arith in
       area-done (limits (a .open .head .p) (a .open .head .b) (a .open .head .t) (a .open .head .k)) marksFor tip (q .recs) (sym (w .store .count)) fit′ n g x′ y′ z
       ∙ ap (λ v. over (areaBytes v) d) (moved-is ∙ ap (moved (persisted .0) (cursor .0) (tipOf has tip)) (one-queue s e1 e2))
 

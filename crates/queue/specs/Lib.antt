@@ -29,3 +29,4 @@ pub mod Finishing
 pub mod ReadingAs
 pub mod Writes
 pub mod SelectAs
+pub mod CallsAs

@@ -110,14 +110,27 @@ fn mined_ok(s: &[u8], hex: bool, at: usize, n: u64, p: u64, b: u64, t: u64) -> b
 }
 
 // The rules of a sound queue, on n records at `at`.
-pub fn sound_at(s: &[u8], hex: bool, at: usize, n: u64, p: u64, b: u64, t: u64, k: u64, counter: Finish) -> bool
+pub fn sound_at(
+    s: &[u8],
+    hex: bool,
+    at: usize,
+    n: u64,
+    p: u64,
+    b: u64,
+    t: u64,
+    k: u64,
+    counter: Finish,
+) -> bool
     requires { ⌜ (at ≤ length (now s)) × (whole (formC hex recC) n (now s) at ≡ true) × (n < 4294967296) ⌝ }
     ensures { λ r. ⌜ r ≡ soundL (limits p b t k) (counter .0) (listAt (formC hex recC) n (now (s .entry)) at) ⌝ }
 {
     if !Limits::check(p, b, t, k) {
         return false;
     }
-    let x = both(held_ok(s, hex, at, n, p, b, t), mined_ok(s, hex, at, n, p, b, t));
+    let x = both(
+        held_ok(s, hex, at, n, p, b, t),
+        mined_ok(s, hex, at, n, p, b, t),
+    );
     let w = tally(s, hex, at, n, Query::Wrong(k, counter));
     let y = rising(s, hex, at, n);
     let z = both(distinct(s, hex, at, n), apart(s, hex, at, n));

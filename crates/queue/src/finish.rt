@@ -82,7 +82,16 @@ fn decide(hit: bool, state: u8, reason: u8, num: Finish, floor: Finish, f: Facts
 }
 
 // A record that was read at base, finished: bytes, inputs and outputs are left out.
-fn put_finished(src: &[u8], base: usize, x: Seen, state: u8, reason: u8, n: Finish, dst: &mut [u8], at: usize) -> usize
+fn put_finished(
+    src: &[u8],
+    base: usize,
+    x: Seen,
+    state: u8,
+    reason: u8,
+    n: Finish,
+    dst: &mut [u8],
+    at: usize,
+) -> usize
     requires { ⌜ (35 ≤ x .mark + 1) × (base + (x .mark + 1) ≤ length (now src)) × (at + (x .mark + 10) ≤ length (now dst)) ⌝ }
     ensures { λ r. ⌜ Put (now (dst .entry)) at (finBytes (now (src .entry)) base x state reason (n .0)) (x .mark + 10) r (now (dst .exit)) ⌝ }
 {
@@ -174,7 +183,19 @@ pub fn floor(s: &[u8], at: usize, n: u64, num: u64, m: u64, t: u64) -> u64
 }
 
 // n records from `at` of src, those picked finished with the numbers after num, those forgotten left out, to place `to` of dst.
-pub fn rewrite(src: &[u8], at: usize, n: u64, c: Change, id: [u8; 32], state: u8, reason: u8, num: Finish, floor: Finish, dst: &mut [u8], to: usize) -> Done
+pub fn rewrite(
+    src: &[u8],
+    at: usize,
+    n: u64,
+    c: Change,
+    id: [u8; 32],
+    state: u8,
+    reason: u8,
+    num: Finish,
+    floor: Finish,
+    dst: &mut [u8],
+    to: usize,
+) -> Done
     requires { ⌜ (at ≤ length (now src)) × (whole (formC false recC) n (now src) at ≡ true) × (n < 4294967296) × (num .0 + count (picked c id) (listAt (formC false recC) n (now src) at) < 18446744073709551616) × (to + length (encs recC (walkL (picked c id) state reason (floor .0) (num .0) (listAt (formC false recC) n (now src) at))) ≤ length (now dst)) ⌝ }
     ensures { λ r. ⌜ Put (now (dst .entry)) to (encs recC (walkL (picked c id) state reason (floor .0) (num .0) (listAt (formC false recC) n (now (src .entry)) at))) (length (encs recC (walkL (picked c id) state reason (floor .0) (num .0) (listAt (formC false recC) n (now (src .entry)) at)))) (r .at) (now (dst .exit)) × (r .kept ≡ length (walkL (picked c id) state reason (floor .0) (num .0) (listAt (formC false recC) n (now (src .entry)) at))) ⌝ }
 {

@@ -1,6 +1,7 @@
 // The private transaction queue in a lent area.
 
 pub mod area;
+pub mod calls;
 pub mod finish;
 pub mod forms;
 pub mod frame;

@@ -15,8 +15,11 @@ pub struct Limits {
 
 impl Limits {
     pub const MAX_PENDING: u64 = 1024;
+
     pub const MAX_BYTES: u64 = 16777216;
+
     pub const MAX_TOMBSTONES: u64 = 1024;
+
     pub const MAX_INPUTS: u64 = 128;
 
     // Are the limits in range?

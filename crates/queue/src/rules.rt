@@ -60,27 +60,43 @@ fn place_right(state: u64, placed: bool) -> bool
 fn mark_right(state: u64, holder: bool, mark: u64) -> bool
     ensures { λ r. ⌜ r ≡ markRight? state holder mark ⌝ }
 {
-    either(mark == 0, both(either(mark == 4, mark == 5), both(state == 2, !holder)))
+    either(
+        mark == 0,
+        both(either(mark == 4, mark == 5), both(state == 2, !holder)),
+    )
 }
 
 fn finish_right(counter: Finish, holder: bool, n: Finish) -> bool
     ensures { λ r. ⌜ r ≡ finishRight? (counter .0) holder (n .0) ⌝ }
 {
-    if holder { n.0 == 0 } else { both(1 <= n.0, n.0 <= counter.0) }
+    if holder {
+        n.0 == 0
+    } else {
+        both(1 <= n.0, n.0 <= counter.0)
+    }
 }
 
 fn sizes_right(k: u64, f: Facts) -> bool
     ensures { λ r. ⌜ r ≡ sizesRight? k (f .label) (f .ins) (f .outs) (f .holder) (f .size) (f .bytes) ⌝ }
 {
-    both(both(f.label <= 200, both(f.ins <= k, f.outs <= k)), either(!f.holder, f.size == f.bytes))
+    both(
+        both(f.label <= 200, both(f.ins <= k, f.outs <= k)),
+        either(!f.holder, f.size == f.bytes),
+    )
 }
 
 pub fn right(k: u64, counter: Finish, f: Facts) -> bool
     ensures { λ r. ⌜ r ≡ rightF k (counter .0) f ⌝ }
 {
     let n = f.finish;
-    let a = both(held_right(f.state, f.holder), reason_right(f.state, f.reason));
-    let b = both(place_right(f.state, f.placed), mark_right(f.state, f.holder, f.mark));
+    let a = both(
+        held_right(f.state, f.holder),
+        reason_right(f.state, f.reason),
+    );
+    let b = both(
+        place_right(f.state, f.placed),
+        mark_right(f.state, f.holder, f.mark),
+    );
     let c = finish_right(counter, f.holder, n);
     let d = sizes_right(k, f);
     both(both(a, b), both(c, d))
@@ -104,7 +120,13 @@ pub fn due(now: Time, height: Height, f: Facts) -> bool
 {
     let t = f.due;
     let h = f.dueheight;
-    both(pending(f.state), either(time_reached(f.timed, t, now), height_reached(f.heighted, h, height)))
+    both(
+        pending(f.state),
+        either(
+            time_reached(f.timed, t, now),
+            height_reached(f.heighted, h, height),
+        ),
+    )
 }
 
 fn stamped(n: Finish, f: Facts) -> bool
@@ -129,13 +151,7 @@ pub fn weigh(q: Query, f: Facts) -> u64
         Query::Holders => one_if(f.holder),
         Query::HeldBytes => f.bytes,
         Query::MinedHolders => one_if(both(f.state == 2, f.holder)),
-        Query::MinedBytes => {
-            if f.state == 2 {
-                f.bytes
-            } else {
-                0
-            }
-        }
+        Query::MinedBytes => { if f.state == 2 { f.bytes } else { 0 } }
         Query::Tombstones => one_if(!f.holder),
         Query::Wrong(k, c) => one_if(!right(k, c, f)),
         Query::Stamped(n) => one_if(stamped(n, f)),

@@ -36,7 +36,15 @@ fn tip_at(s: &[u8], h: HeadR) -> [u8; 32]
 }
 
 // The queue of src with another persisted height and cursor.
-pub fn put_moved(src: &[u8], a: Area, persisted: Height, cursor: Height, has: bool, tip: [u8; 32], dst: &mut [u8])
+pub fn put_moved(
+    src: &[u8],
+    a: Area,
+    persisted: Height,
+    cursor: Height,
+    has: bool,
+    tip: [u8; 32],
+    dst: &mut [u8],
+)
     requires { ⌜ MovedFrom (now src) a persisted cursor has tip × (a .need ≤ length (now dst)) ⌝ }
     ensures { λ _. ⌜ MovedTo (now (src .entry)) a persisted cursor has tip (now (dst .entry)) (now (dst .exit)) ⌝ }
 {
@@ -59,7 +67,16 @@ pub fn put_moved(src: &[u8], a: Area, persisted: Height, cursor: Height, has: bo
 }
 
 // The queue of src with those picked finished, m of them, and the lowest finish numbers beyond T forgotten.
-pub fn put_ended(src: &[u8], a: Area, c: Change, id: [u8; 32], state: u8, reason: u8, m: u64, dst: &mut [u8])
+pub fn put_ended(
+    src: &[u8],
+    a: Area,
+    c: Change,
+    id: [u8; 32],
+    state: u8,
+    reason: u8,
+    m: u64,
+    dst: &mut [u8],
+)
     requires { ⌜ EndedFrom (now src) a c id state reason m × (a .need ≤ length (now dst)) ⌝ }
     ensures { λ _. ⌜ EndedTo (now (src .entry)) a c id state reason (now (dst .entry)) (now (dst .exit)) ⌝ }
 {
@@ -70,7 +87,19 @@ pub fn put_ended(src: &[u8], a: Area, c: Change, id: [u8; 32], state: u8, reason
     let tip = tip_at(src, h);
     let to = 45 + tip_len(h.tip);
     let f = floor(src, x.start, h.count, n.0, m, h.t);
-    let w = rewrite(src, x.start, h.count, c, id, state, reason, n, Finish(f), dst, to);
+    let w = rewrite(
+        src,
+        x.start,
+        h.count,
+        c,
+        id,
+        state,
+        reason,
+        n,
+        Finish(f),
+        dst,
+        to,
+    );
     let marks = Marks {
         persisted: cursor,
         revision: std::num::wrapping_add_u64(h.revision, 1),

@@ -1,0 +1,65 @@
+use mathlib.Core.Path.{_≡_, refl, sym, ap, _∙_}
+use native.Mathlib.Omega.{arith}
+use mathlib.Core.Bool.{Bool, true, false, _&&_}
+use Prim.Native.Nat.{ℕ, _≤_, _+_, _-_, _*_, _<_}
+use borrow.Author.Tests.{not-true, not-false}
+use Rattle.queue.proofs.CancelLaws.{cancel-3, cancel-2, cancel-5, find-asks, cancel-13, found-in, cancel-rest}
+use Rattle.queue.proofs.CallLaws.{view-long}
+use borrow.Author.Needs.{needs}
+use Rattle.queue.proofs.calls.cancel.Statement.{statement}
+use Rattle.queue.proofs.calls.cancel.Tie as tie
+use Rattle.queue.proofs.calls.cancel.Reads as reads
+use Rattle.queue.proofs.calls.cancel.Lts as lts
+use Rattle.queue.proofs.area.area_at.Reads as area-at-reads
+use Rattle.queue.proofs.calls.cancel_found.Reads as cancel-found-reads
+use Rattle.queue.proofs.reading.find_id.Reads as find-id-reads
+use Rattle.queue.proofs.view.id_at.Reads as id-at-reads
+
+area-at-requires : tie.Need-area-at-requires
+area-at-requires c κs = search needs
+
+returns : tie.Need-returns
+returns c = cancel-3 _ _ _ _ (c .before .before .area-at .ensures .bad (not-true _ (c .if1 .taken)))
+
+returns-2 : tie.Need-returns-2
+returns-2 c = cancel-2 _ _ _ _ (c .before .before .before .before .area-at .ensures) (not-false _ (c .before .before .if1 .left)) (c .if2 .taken)
+
+returns-3 : tie.Need-returns-3
+returns-3 c = cancel-5 _ _ _ _ (c .before .before .before .before .before .area-at .ensures) (not-false _ (c .before .before .before .if1 .left)) (c .before .if2 .left) (c .if3 .taken)
+
+id-at-requires : tie.Need-id-at-requires
+id-at-requires c κs = omega (arith, view-long (c .before .before .before .before .before .before .before .before .before .before .args .id .now), c .if3 .left)
+
+find-id-requires : tie.Need-find-id-requires
+find-id-requires c κs = find-asks _ (c .before .before .before .before .before .before .before .before .before .before .before .before .before .args .next .now) (c .before .before .before .before .before .before .before .before .before .before .before .before .before .args .out .now) (c .before .before .before .before .before .before .before .before .before .before .before .before .before .args .id .now) (c .before .before .before .before .before .before .before .before .area-at .ensures) (not-false _ (c .before .before .before .before .before .before .if1 .left)) (c .before .before .before .before .if2 .left)
+
+returns-4 : tie.Need-returns-4
+returns-4 c = cancel-13 _ _ _ _ (c .before .before .before .before .before .before .before .before .before .before .before .area-at .ensures) (not-false _ (c .before .before .before .before .before .before .before .before .before .if1 .left)) (c .before .before .before .before .before .before .before .if2 .left) (c .before .before .before .before .before .before .if3 .left) (c .before .before .before .before .before .id-at .ensures) (c .before .before .find-id .ensures) (not-true _ (c .if4 .taken))
+
+cancel-found-requires : tie.Need-cancel-found-requires
+cancel-found-requires c κs = (found-in _ (c .before .before .before .before .before .before .before .before .before .before .before .before .before .before .before .before .before .before .args .next .now) (c .before .before .before .before .before .before .before .before .before .before .before .before .before .before .before .before .before .before .args .out .now) _ (c .before .before .before .before .before .before .before .before .before .before .before .before .before .area-at .ensures) (not-false _ (c .before .before .before .before .before .before .before .before .before .before .before .if1 .left)) (c .before .before .before .before .before .before .before .before .before .if2 .left) (c .before .before .before .before .before .before .before .before .if3 .left) (c .before .before .before .before .before .before .before .id-at .ensures) (c .before .before .before .before .find-id .ensures) (not-false _ (c .before .before .if4 .left)), c .before .before .before .before .before .before .before .before .before .if2 .left)
+
+same-length : tie.Need-same-length
+same-length c = search needs
+
+same-length-2 : tie.Need-same-length-2
+same-length-2 c = search needs
+
+returns-5 : tie.Need-returns-5
+returns-5 c = cancel-rest _ _ _ _ (c .before .before .before .before .before .before .before .before .before .before .before .before .before .before .before .before .before .before .area-at .ensures) (not-false _ (c .before .before .before .before .before .before .before .before .before .before .before .before .before .before .before .before .if1 .left)) (c .before .before .before .before .before .before .before .before .before .before .before .before .before .before .if2 .left) (c .before .before .before .before .before .before .before .before .before .before .before .before .before .if3 .left) (c .before .before .before .before .before .before .before .before .before .before .before .before .id-at .ensures) (c .before .before .before .before .before .before .before .before .before .find-id .ensures) (c .before .before .before .before .cancel-found .ensures)
+
+pub cancel-spec : {M : Type 1} → statement M
+cancel-spec =
+    tie.close
+    (tie.spec
+    area-at-requires
+    returns
+    returns-2
+    returns-3
+    id-at-requires
+    find-id-requires
+    returns-4
+    cancel-found-requires
+    same-length
+    same-length-2
+    returns-5)

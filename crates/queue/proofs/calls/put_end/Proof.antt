@@ -1,0 +1,58 @@
+use mathlib.Core.Path.{_≡_, refl, sym, ap, _∙_}
+use native.Mathlib.Omega.{arith}
+use mathlib.Core.Bool.{Bool, true, false, _&&_}
+use Prim.Native.Nat.{ℕ, _≤_, _+_, _-_, _*_, _<_}
+use borrow.Author.Tests.{not-true, not-false}
+use Rattle.queue.specs.CallsAs.{endBytes}
+use Rattle.queue.proofs.PutLaws.{then, recast}
+use borrow.Author.Needs.{needs}
+use Rattle.queue.proofs.calls.put_end.Statement.{statement}
+use Rattle.queue.proofs.calls.put_end.Tie as tie
+use Rattle.queue.proofs.calls.put_end.Reads as reads
+use Rattle.queue.proofs.calls.put_end.Lts as lts
+use Rattle.queue.proofs.put.copy_part.Reads as copy-part-reads
+use Rattle.queue.proofs.put.put_be.Reads as put-be-reads
+use Rattle.queue.proofs.put.put_id.Reads as put-id-reads
+use Rattle.queue.proofs.put.put_u8.Reads as put-u8-reads
+
+put-id-requires : tie.Need-put-id-requires
+put-id-requires c κs = search needs
+
+put-u8-requires : tie.Need-put-u8-requires
+put-u8-requires c κs = search needs
+
+put-u8-requires-2 : tie.Need-put-u8-requires-2
+put-u8-requires-2 c κs = search needs
+
+add-copy-part : tie.Need-add-copy-part
+add-copy-part c = search needs
+
+sub-copy-part : tie.Need-sub-copy-part
+sub-copy-part c = search needs
+
+copy-part-requires : tie.Need-copy-part-requires
+copy-part-requires c κs = search needs
+
+put-be-requires : tie.Need-put-be-requires
+put-be-requires c κs = search needs
+
+same-length : tie.Need-same-length
+same-length c = search needs
+
+returns : tie.Need-returns
+unfolding endBytes
+returns c = recast (then (then (then (then (c .before .before .before .before .before .before .before .before .before .before .before .before .before .before .before .before .before .before .put-id .ensures) (c .before .before .before .before .before .before .before .before .before .before .before .before .before .before .put-u8 .ensures)) (c .before .before .before .before .before .before .before .before .before .before .put-u82 .ensures)) (c .before .before .before .before .before .before .copy-part .ensures)) (c .before .before .put-be .ensures)) refl (omega (arith, c .before .before .before .before .before .before .before .before .before .before .before .before .before .before .before .before .before .before .before .before .before .before .before .pre .0)) refl
+
+pub put-end-spec : {M : Type 1} → statement M
+put-end-spec =
+    tie.close
+    (tie.spec
+    put-id-requires
+    put-u8-requires
+    put-u8-requires-2
+    add-copy-part
+    sub-copy-part
+    copy-part-requires
+    put-be-requires
+    same-length
+    returns)
