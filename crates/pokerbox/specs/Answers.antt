@@ -1,10 +1,9 @@
 -- Each call on lent bytes answers and leaves what the plain machine works out; and what it works out is kept.
-use mathlib.Core.Path.{_≡_, refl, sym, _∙_}
-use mathlib.Core.Bool.{Bool, true, false, cond, _||_}
-use mathlib.Core.Option.{Option, none, some}
-use mathlib.Core.List.{List, [], _∷_, _++_}
-use Prim.Native.Nat.{ℕ, _+_, _≤_, _<_, _^_, min}
-use native.Mathlib.Omega.{arith}
+use mathlib.Core.Path.{_≡_, refl}
+use mathlib.Core.Bool.{Bool, true, false, _||_}
+use mathlib.Core.Option.{Option, some}
+use mathlib.Core.List.{List, [], _++_}
+use Prim.Native.Nat.{ℕ, _+_, _<_, min}
 use lib.Dec.{ltb, leb}
 use lib.ListN.{length}
 use Rattle.queue.specs.declared.Kind.{Kind}
@@ -15,7 +14,7 @@ use Rattle.queue.specs.Codec.{cases}
 use Rattle.queue.specs.ReadLaws.{false-true}
 use Rattle.queue.specs.Areas.{readArea}
 use Rattle.queue.specs.Sounds.{Fit}
-use Rattle.queue.specs.Keeps.{Level, Kept, Leaves, Wholly, setCursor-leaves, cancel-leaves, expire-leaves, reopen-leaves, cancel-wholly, expire-wholly, reopen-wholly}
+use Rattle.queue.specs.Keeps.{Kept, Leaves, Wholly, setCursor-leaves, cancel-leaves, expire-leaves, reopen-leaves, cancel-wholly, expire-wholly, reopen-wholly}
 use Rattle.queue.specs.Admits.{admit-leaves, admit-wholly}
 use Rattle.queue.specs.Reconciles.{reconcile-leaves, Near, reconcile-near}
 use Rattle.queue.specs.Arguments.{AdmitLent, admission-ok, ReconcileLent, reconciling-ok, given-id}
@@ -24,7 +23,7 @@ use Rattle.queue.specs.paper.Lists.{isSome, any?, map}
 use Rattle.queue.specs.paper.Sound.{need}
 use Rattle.queue.specs.paper.Area.{over}
 use Rattle.queue.specs.paper.Changing.{Out, refused, done, top, topHeight, moved, Reconciling, touch, orElse, released, someReleased?, queuedOutputs, reconcileTo, reconcileOn, admit, cancel, expire, reconcile, reopen, setCursor}
-use Rattle.queue.specs.paper.Calls.{AdmitArgs, ReconcileArgs, Outcome, outcome, nextArea, told, withOut, entryBytes, idsBytes, releasedBytes, nothingBytes, id?, items, given, givenId?, idList?, admission, admitShape?, overK?, reconcileShape?, admitOf, cancelOf, expireOf, reconcileOf, reopenOf, setCursorOf}
+use Rattle.queue.specs.paper.Calls.{Outcome, outcome, nextArea, told, withOut, entryBytes, idsBytes, releasedBytes, nothingBytes, id?, items, given, givenId?, idList?, admission, admitShape?, overK?, reconcileShape?, admitOf, cancelOf, expireOf, reconcileOf, reopenOf, setCursorOf}
 use Rattle.queue.specs.paper.Calls as calls
 use Rattle.pokerbox.specs.paper.Machine.{Call, admitting, cancelling, expiring, reconciling, reopening, settingCursor, Worked, worked, rules, work, onBytes}
 use Rattle.pokerbox.specs.paper.Claim.{CallOk, mover}

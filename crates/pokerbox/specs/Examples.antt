@@ -8,16 +8,16 @@ use native.Mathlib.Omega.{arith}
 use lib.ListN.{length, take, replicate, length-replicate}
 use Rattle.queue.specs.declared.Answer.{Answer}
 use Rattle.queue.specs.Codec.{All}
-use Rattle.queue.specs.paper.Records.{Bytes, Limits, Rec, Queue}
+use Rattle.queue.specs.paper.Records.{Bytes, Limits}
 use Rattle.queue.specs.paper.Lists.{map}
-use Rattle.queue.specs.paper.Ids.{cmpL, same?}
+use Rattle.queue.specs.paper.Ids.{cmpL}
 use Rattle.queue.specs.paper.Sound.{inRange, need, used?, clash?}
-use Rattle.queue.specs.paper.Area.{termsBytes, placeBytes, heldBytes, recBytes, headBytes, queueBytes, areaBytes, over}
-use Rattle.queue.specs.paper.Changing.{committed, moved, newRec, admit, finished, finishThose, forget, cancel, reconcile, touch, confirm, judged, releases, released}
-use Rattle.queue.specs.paper.Calls.{AdmitArgs, ReconcileArgs, number, items, rise?, entryBytes, idsBytes, releasedBytes, freshOf}
-use Rattle.pokerbox.specs.paper.Machine.{Call, admitting, cancelling, reconciling, Fate, kept, failed, cutBefore, cutAfter, Lent, Step, call, cut, Told, work, Plain, restart, plainStep, plainRun, World, worldRun}
-use Rattle.pokerbox.specs.paper.Claim.{Small, movedLast, imageCursor, Holds, Claim}
-use Rattle.pokerbox.specs.Theorem.{the-claim, RoomyOk, imageRoom, roomy}
+use Rattle.queue.specs.paper.Area.{termsBytes, placeBytes}
+use Rattle.queue.specs.paper.Changing.{committed, moved, newRec, admit, finished, finishThose, forget, cancel, reconcile, touch, releases, released}
+use Rattle.queue.specs.paper.Calls.{number, items, rise?, entryBytes, idsBytes, releasedBytes, freshOf}
+use Rattle.pokerbox.specs.paper.Machine.{Call, admitting, cancelling, reconciling, kept, failed, cutBefore, cutAfter, Lent, Step, call, cut, Told, work, Plain, restart, plainStep, plainRun, World, worldRun}
+use Rattle.pokerbox.specs.paper.Claim.{Small, CallOk, movedLast, imageCursor, Holds, Claim}
+use Rattle.pokerbox.specs.Theorem.{the-claim, imageRoom, RoomyOk, roomy}
 
 abbrev m : Limits
 m = record { P = 1; B = 4; T = 1; K = 1 }
@@ -25,6 +25,10 @@ m = record { P = 1; B = 4; T = 1; K = 1 }
 -- enough of each
 abbrev lent : Lent
 lent = record { next = replicate 2184 0; out = replicate 300 0; text = replicate 4372 0; other = replicate 2184 0 }
+
+-- a next area too short
+abbrev short : Lent
+short = record { next = replicate 2183 0; out = replicate 300 0; text = replicate 4372 0; other = replicate 2184 0 }
 
 abbrev id : ℕ → Bytes
 id n = replicate 32 n
@@ -53,19 +57,18 @@ enters n = admitting (record {
 abbrev seen : ℕ → Call
 seen height = reconciling (record { height = height; tip = id 8; applied = []; caughtUp = 0; available = []; window = 100 })
 
--- an admission whose write fails, one that is kept, the same id again, a full queue; a reconciliation that is only seen; a
--- cancellation cut before its rename, then cut after it; a cut between calls; a cursor write that is kept
+-- an admission whose write fails, one that is kept, one with a next area too short; a reconciliation that stays in memory; a
+-- cancellation cut before its rename, then one cut after it; a cut between calls; a cursor write that fails
 abbrev steps : List Step
 steps =
     call (enters 1) lent failed
     ∷ call (enters 1) lent kept
-    ∷ call (enters 1) lent kept
-    ∷ call (enters 2) lent kept
+    ∷ call (enters 2) short kept
     ∷ call (seen 131) lent kept
     ∷ call (cancelling (id 1)) lent cutBefore
     ∷ call (cancelling (id 1)) lent cutAfter
     ∷ cut lent
-    ∷ call (seen 132) lent kept
+    ∷ call (seen 132) lent failed
     ∷ []
 
 -- the number of a call's answer, and of settling's (0 where nothing was settled)
@@ -80,24 +83,25 @@ abbrev start : Plain
 start = restart m none
 
 abbrev wanted : List (ℕ × ℕ)
-wanted = (102, 17) ∷ (102, 100) ∷ (100, 0) ∷ (10, 0) ∷ (101, 0) ∷ (102, 0) ∷ (102, 0) ∷ (100, 0) ∷ (103, 100) ∷ []
+wanted = (102, 17) ∷ (102, 100) ∷ (2, 0) ∷ (101, 0) ∷ (102, 0) ∷ (102, 0) ∷ (100, 0) ∷ (103, 17) ∷ []
 
-plain-says : map numbers (plainRun m start steps .0) ≡ wanted
+-- whether a successful reconciliation moved the cursor last, the cursor, the image's; the records' states
+abbrev Shown : Type 0
+Shown = (Bool × (ℕ × ℕ)) × List ℕ
+
+abbrev shown : List Step → Shown
+shown xs =
+    let p = plainRun m start xs .1 in
+    ((movedLast m start false xs, (p .queue .cursor, imageCursor (p .stored))), map (λ r. r .state) (p .queue .recs))
+
+abbrev all : List (ℕ × ℕ) × List Shown
+all = (map numbers (plainRun m start steps .0), map shown (take 4 steps ∷ take 5 steps ∷ steps ∷ []))
+
+-- After four steps the bound is reached, 131 to 100. After the cut before the rename the record is pending still, at 100; at the
+-- end it is cancelled, and nothing is claimed of the cursor.
+plain-says : all ≡ (wanted, ((true, (131, 100)), 0 ∷ []) ∷ ((false, (100, 100)), 0 ∷ []) ∷ ((false, (132, 100)), 4 ∷ []) ∷ [])
 unfolding plainStep work admit cancel reconcile need clash? items used? entryBytes newRec termsBytes placeBytes committed cmpL rise? released releases touch releasedBytes idsBytes moved finished finishThose forget
 plain-says = refl
-
--- after the cut, the cancelled record is stored and in the queue
-plain-ends : map (λ r. r .state) (plainRun m start steps .1 .queue .recs) ≡ 4 ∷ []
-unfolding plainStep work admit cancel reconcile need clash? items used? entryBytes newRec termsBytes placeBytes committed cmpL rise? released releases touch releasedBytes idsBytes moved finished finishThose forget
-plain-ends = refl
-
--- the bound is reached: a reconciliation moved the cursor last, to 131, and the image's is 100
-abbrev reached : Bool × (ℕ × ℕ)
-reached = (movedLast m start false (take 5 steps), (plainRun m start (take 5 steps) .1 .queue .cursor, imageCursor (plainRun m start (take 5 steps) .1 .stored)))
-
-bound-reached : reached ≡ (true, (131, 100))
-unfolding plainStep work admit cancel reconcile need clash? items used? entryBytes newRec termsBytes placeBytes committed cmpL rise? released releases touch releasedBytes idsBytes moved finished finishThose forget
-bound-reached = refl
 
 -- ---- the claim of this list
 
@@ -115,38 +119,26 @@ text-room = let a = needs in let b = length-replicate {A = ℕ} 4372 0 in omega 
 other-room : need m ≤ length (lent .other)
 other-room = let a = needs in let b = length-replicate {A = ℕ} 2184 0 in omega arith
 
-enters-ok : (n : ℕ) (fate : Fate) → n < 256 → RoomyOk m (call (enters n) lent fate)
-enters-ok n fate h = (
-  (
-    (small 32 n h, (small 32 9 (omega arith), (tt, ((omega arith, (omega arith, (omega arith, tt))), (tt, tt))))),
-    (omega arith, (omega arith, (omega arith, (omega arith, (omega arith, (omega arith, omega arith)))))),
-  ),
-  (text-room, other-room),
+enters-ok : (n : ℕ) → n < 256 → CallOk (enters n)
+enters-ok n h = (
+  (small 32 n h, (small 32 9 (omega arith), (tt, ((omega arith, (omega arith, (omega arith, tt))), (tt, tt))))),
+  (omega arith, (omega arith, (omega arith, (omega arith, (omega arith, (omega arith, omega arith)))))),
 )
 
-seen-ok : (height : ℕ) (fate : Fate) → height < 4294967296 → RoomyOk m (call (seen height) lent fate)
-seen-ok height fate h = (((small 32 8 (omega arith), (tt, tt)), (h, omega arith)), (text-room, other-room))
+seen-ok : (height : ℕ) → height < 4294967296 → CallOk (seen height)
+seen-ok height h = ((small 32 8 (omega arith), (tt, tt)), (h, omega arith))
 
-cancels-ok : (n : ℕ) (fate : Fate) → n < 256 → RoomyOk m (call (cancelling (id n)) lent fate)
-cancels-ok n fate h = (small 32 n h, (text-room, other-room))
+roomed : {X : Type 0} → X → X × ((imageRoom m ≤ length (lent .text)) × (need m ≤ length (lent .other)))
+roomed x = (x, (text-room, other-room))
 
 steps-ok : All (RoomyOk m) steps
-steps-ok = (
-  enters-ok 1 failed (omega arith),
-  (
-    enters-ok 1 kept (omega arith),
-    (
-      enters-ok 1 kept (omega arith),
-      (
-        enters-ok 2 kept (omega arith),
-        (
-          seen-ok 131 kept (omega arith),
-          (cancels-ok 1 cutBefore (omega arith), (cancels-ok 1 cutAfter (omega arith), (other-room, (seen-ok 132 kept (omega arith), tt)))),
-        ),
-      ),
-    ),
-  ),
-)
+steps-ok =
+    let a = roomed (enters-ok 1 (omega arith)) in
+    let b = roomed (enters-ok 2 (omega arith)) in
+    let c = roomed (small 32 1 (omega arith)) in
+    let d = roomed (seen-ok 131 (omega arith)) in
+    let e = roomed (seen-ok 132 (omega arith)) in
+    (a, (a, (b, (d, (c, (c, (other-room, (e, tt))))))))
 
 abbrev world : World
 world = record { area = freshOf m (replicate 2184 0) .area; file = none }
@@ -161,4 +153,4 @@ holds = the-claim m (replicate 2184 0) steps range other-room (roomy m steps ran
 
 -- so the run on bytes says the same
 pub bytes-say : map numbers (worldRun m world steps .0) ≡ wanted
-bytes-say = ap (map numbers) (holds .answers) ∙ plain-says
+bytes-say = ap (map numbers) (holds .answers) ∙ ap (λ z. z .0) plain-says

@@ -1,9 +1,9 @@
 -- One step of the plain machine and the same step on bytes and files; then every list of steps.
 use mathlib.Core.Path.{_≡_, refl, ap, sym, _∙_}
-use mathlib.Core.Bool.{Bool, true, false, cond}
+use mathlib.Core.Bool.{Bool, true, false}
 use mathlib.Core.Option.{Option, none, some}
 use mathlib.Core.List.{List, [], _∷_, _++_}
-use Prim.Native.Nat.{ℕ, _+_, _*_, _≤_, _<_}
+use Prim.Native.Nat.{_+_, _*_, _≤_, _<_}
 use native.Mathlib.Omega.{arith}
 use lib.ListN.{length, drop, length-append}
 use lib.Seq.{take-at}
@@ -11,21 +11,21 @@ use borrow.Author.Tests.{le-ltb}
 use Rattle.queue.specs.declared.Kind.the-variants.{Nothing, Memory, Whole, Cursor}
 use Rattle.queue.specs.declared.Answer.{Answer}
 use Rattle.queue.specs.declared.Answer.the-variants.{Refused, Done}
-use Rattle.queue.specs.Codec.{be, mapC, pairC, beC}
+use Rattle.queue.specs.Codec.{mapC, pairC, beC}
 use Rattle.queue.specs.ReadLaws.{false-true}
 use Rattle.queue.specs.Forms.{storeC, storeOf, queueC, store-length}
-use Rattle.queue.specs.Areas.{readArea, readImage, image}
+use Rattle.queue.specs.Areas.{readArea, image}
 use Rattle.queue.specs.Plain.{image-plain}
 use Rattle.queue.specs.Sounds.{Fit, fit-sound, fit-ok}
 use Rattle.queue.specs.Bound.{fits-need, reads-size, fit-stands, fit-over, fit-image}
-use Rattle.queue.specs.Keeps.{Kept, fresh-fit, settled-fit}
+use Rattle.queue.specs.Keeps.{fresh-fit, settled-fit}
 use Rattle.queue.specs.paper.Records.{Bytes, Limits, Queue}
 use Rattle.queue.specs.paper.Sound.{inRange, need}
 use Rattle.queue.specs.paper.Area.{areaBytes, over}
 use Rattle.queue.specs.paper.Changing.{moved}
 use Rattle.queue.specs.paper.Calls.{Written, written, fresh, freshOf, settleOf}
 use Rattle.image.specs.paper.Image.{imageBytes, imageOf, openOf}
-use Rattle.pokerbox.specs.paper.Machine.{Call, Fate, kept, failed, cutBefore, cutAfter, Lent, Step, call, cut, Told, Worked, work, Plain, restart, settling, silent, plainCall, plainStep, plainRun, World, onBytes, imageText, starts, opened, settlingBytes, worldCall, worldStep, worldRun}
+use Rattle.pokerbox.specs.paper.Machine.{Call, Fate, kept, failed, cutBefore, cutAfter, Lent, Step, call, cut, Worked, work, Plain, restart, settling, silent, plainCall, plainStep, plainRun, World, imageText, starts, opened, settlingBytes, worldCall, worldStep, worldRun}
 use Rattle.pokerbox.specs.paper.Claim.{byAnswer, mover, movedBy, movedLast, imageCursor, images, TextOk, WorkOk, StepOk, StepsOk, CallOk}
 use Rattle.pokerbox.specs.Answers.{onLent, nextFor, Good, call-is, work-good}
 

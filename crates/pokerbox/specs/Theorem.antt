@@ -22,10 +22,10 @@ use Rattle.queue.specs.paper.Records.{Bytes, Limits, Queue}
 use Rattle.queue.specs.paper.Sound.{inRange, need}
 use Rattle.queue.specs.paper.Area.{areaBytes, over}
 use Rattle.queue.specs.paper.Calls.{fresh, freshOf}
-use Rattle.pokerbox.specs.paper.Machine.{Step, call, cut, Told, work, Plain, restart, plainStep, plainRun, World, worldRun, starts}
+use Rattle.pokerbox.specs.paper.Machine.{Step, call, cut, Told, work, Plain, restart, plainStep, plainRun, World, starts}
 use Rattle.pokerbox.specs.paper.Claim.{CallOk, TextOk, StepOk, StepsOk, mover, movedBy, movedLast, images, Holds, Claim}
 use Rattle.pokerbox.specs.Answers.{Good, work-good}
-use Rattle.pokerbox.specs.Runs.{image-room, fresh-is, starts-is, Inv, Rep, Same, restart-inv, step-same, run-same}
+use Rattle.pokerbox.specs.Runs.{image-room, fresh-is, starts-is, Inv, Same, restart-inv, step-same, run-same}
 
 -- what holds between steps is what is claimed
 same-holds : (m : Limits) (xs : List Step) (told : List Told) (w : World) (p : List Told × Plain) → inRange m ≡ true

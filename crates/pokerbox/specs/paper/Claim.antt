@@ -14,7 +14,7 @@ use Rattle.queue.specs.paper.Sound.{inRange, need, holders, heldBytes, tombston
 use Rattle.queue.specs.paper.Area.{areaBytes}
 use Rattle.queue.specs.paper.Calls.{AdmitArgs, ReconcileArgs, written, freshOf}
 use Rattle.image.specs.paper.Image.{imageBytes}
-use Rattle.pokerbox.specs.paper.Machine.{Call, admitting, cancelling, expiring, reconciling, reopening, settingCursor, Fate, kept, failed, cutBefore, cutAfter, Lent, Step, call, cut, Told, Worked, work, Plain, plainStep, plainRun, World, worldRun, restart, starts}
+use Rattle.pokerbox.specs.paper.Machine.{Call, admitting, cancelling, expiring, reconciling, reopening, settingCursor, Fate, kept, failed, cutBefore, cutAfter, Step, call, cut, Told, Worked, work, Plain, plainStep, plainRun, World, worldRun, restart, starts}
 
 -- ---- which lists: any, as far as numbers fit their widths and bytes are bytes (a caller can lend nothing else), and "all
 -- other areas, and the output lent to the image writer, are long enough"
