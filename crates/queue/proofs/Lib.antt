@@ -7,3 +7,4 @@ pub mod OpenLaws
 pub mod ByteLaws
 pub mod ReadingLaws
 pub mod SelectLaws
+pub mod PieceLaws

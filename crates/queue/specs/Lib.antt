@@ -26,3 +26,4 @@ pub mod Reconciles
 pub mod Arguments
 pub mod ReadingAs
 pub mod SelectAs
+pub mod PiecesAs

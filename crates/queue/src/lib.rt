@@ -5,6 +5,7 @@ pub mod forms;
 pub mod frame;
 pub mod limits;
 pub mod logic;
+pub mod pieces;
 pub mod put;
 pub mod reading;
 pub mod rules;
