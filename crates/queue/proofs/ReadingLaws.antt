@@ -1,40 +1,45 @@
 -- The reading calls: a search by id, what was looked up, and each exit. Assumes nothing.
 use mathlib.Core.Path.{_≡_, refl, ap, sym, _∙_}
-use mathlib.Core.Bool.{Bool, true, false, cond, not, _&&_}
+use mathlib.Core.Bool.{Bool, true, false, cond, not, _&&_, _||_}
 use mathlib.Core.Option.{Option, none, some}
 use mathlib.Core.List.{List, [], _∷_, _++_, append-assoc}
 use Prim.Native.Nat.{ℕ, zero, suc, _+_, _-_, _*_, _^_, _≤_, _<_}
 use native.Mathlib.Omega.{arith}
+use native.Mathlib.Nat.{zero-add}
 use lib.Dec.{ltb, leb, eqb}
 use lib.ListN.{length, drop, take, length-append, length-drop}
-use lib.Seq.{drop-drop, take-all, take-at, drop-at, length-take-le}
+use lib.Seq.{drop-drop, take-all, take-at, drop-at, drop-append-le, length-take-le}
 use borrow.Author.Tests.{eq-eqb, ne-eqb, lt-ltb, le-ltb}
 use Rattle.queue.specs.Codec as codec
-use Rattle.queue.specs.Codec.{All, Got, fail, got, Codec, decs, encs, byteC, beC, be-length, pairC, mapC, optC, vecC, countedC, vecMost, vec-bwd}
+use Rattle.queue.specs.Codec.{All, cases, Got, fail, got, Codec, decs, encs, byteC, beC, be-length, pairC, mapC, optC, vecC, countedC, vecMost, vec-bwd}
 use Rattle.queue.specs.Splice.{Put, be}
-use Rattle.queue.specs.Plain.{terms-plain, place-plain, ids-plain, id-plain, rec-plain, body-plain}
+use Rattle.queue.specs.Plain.{opt-plain, terms-plain, place-plain, ids-plain, id-plain, rec-plain, body-plain}
 use Rattle.queue.specs.Frames.{tagC, recC, idC, termsC, labelC, placeC, bodyC}
 use Rattle.queue.specs.Reads.{Reads, isGot, valOf, whole, listAt}
 use Rattle.queue.specs.ReadLaws.{Turn, turn, false-true, Spans, spans-id, spans-vec}
 use Rattle.queue.specs.View.{view}
 use Rattle.queue.specs.Forms.{formC, afterIn, Framed, turn-in}
 use Rattle.queue.specs.Areas.{readArea}
-use Rattle.queue.specs.Facts.{factsOf, SeenAs}
+use Rattle.queue.specs.Facts.{factsOf, optNum, SeenAs}
+use Rattle.queue.specs.Rules.{dueF, weight, sum}
 use Rattle.queue.specs.Opens.{AreaAs, AreaIs}
 use Rattle.queue.specs.Ids.{part}
 use Rattle.queue.specs.ReadingAs.{Here, FoundAs, Look, off, hit, lookRec, lookIn, lookOf, LookAs, PlaceAs, EntryIn, entryAt, entryLen}
 use Rattle.queue.specs.paper.Records.{Bytes, Id, Terms, Held, Rec, Queue}
-use Rattle.queue.specs.paper.Lists.{isSome, find, concat}
+use Rattle.queue.specs.paper.Lists.{isSome, one, any?, find, concat}
 use Rattle.queue.specs.paper.Ids.{cmpL}
-use Rattle.queue.specs.paper.Sound.{inputs, content, labelLen}
+use Rattle.queue.specs.paper.Sound.{inputs, content, labelLen, pending?}
 use Rattle.queue.specs.paper.Area.{over, termsBytes, placeBytes, recBytes, flagged, heldBytes}
-use Rattle.queue.specs.paper.Changing.{named?}
+use Rattle.queue.specs.paper.Changing.{named?, reached?, due?}
 use Rattle.queue.specs.paper.Reading as reading
-use Rattle.queue.specs.paper.Reading.{signedOf, signedBytes}
-use Rattle.queue.specs.paper.Calls.{Written, written, id?, entryBytes, toldOut, toldEntry, readQueue, entryOf, toldPart, partOf, signedBytesOf}
+use Rattle.queue.specs.paper.Reading.{isEmpty?, signedOf, signedBytes}
+use Rattle.queue.specs.paper.Calls.{Written, written, id?, entryBytes, toldOut, toldEntry, readQueue, entryOf, toldPart, partOf, signedBytesOf, numberOf, observationCursorOf}
 use Rattle.queue.specs.declared.Kind.the-variants.{Nothing}
 use Rattle.queue.specs.declared.Answer.{Answer}
 use Rattle.queue.specs.declared.Answer.the-variants.{Refused, Done}
+use Rattle.queue.specs.declared.frame.Time.{Time}
+use Rattle.queue.specs.declared.frame.Height.{Height}
+use Rattle.queue.specs.declared.rules.Query.the-variants.{Due}
 use Rattle.queue.specs.declared.frame.Seen.{Seen}
 use Rattle.queue.specs.declared.area.Area.{Area}
 use Rattle.queue.specs.declared.reading.Found.{Found}
@@ -228,6 +233,11 @@ glue p q r = cc
 regroup : (i a b t p n c : Bytes) → ((i ++ (a ++ b)) ++ (t ++ p)) ++ (n ++ c) ≡ i ++ (a ++ (b ++ (t ++ (p ++ (n ++ c)))))
 regroup i a b t p n c = simp append-assoc
 
+place-one : (o : Option (ℕ × Id)) → 1 ≤ length (placeBytes o)
+unfolding placeBytes
+place-one none = omega arith
+place-one (some p) = omega arith
+
 front-of : Rec → Bytes
 front-of r = r .id ++ (codec.be 1 (r .state) ++ codec.be 1 (r .reason))
 
@@ -259,6 +269,32 @@ module _ {s : Bytes} {base m : ℕ} {ok : Bool} {y : Seen} {r : Rec} (h : base �
       let w = x .0 in
       let p = rec-parts r (x .1 .fine) in
       (ap (take 32) (sym (drop-drop 1 base s) ∙ from-id ∙ append-assoc (r .id) _ _) ∙ take-at (r .id) _ 32 (p .id), omega (arith, w .up, w .upPlace, w .upBody, w .end, length-drop base s))
+
+  pub id-state-here : take 33 (drop (base + 1) s) ≡ r .id ++ codec.be 1 (r .state)
+  unfolding view front-of
+  id-state-here =
+      let p = rec-parts r (x .1 .fine) in
+      let e : drop 1 (drop base s) ≡ (r .id ++ codec.be 1 (r .state)) ++ (codec.be 1 (r .reason) ++ drop 35 (drop base s)) = from-id ∙ group (r .id) (codec.be 1 (r .state)) (codec.be 1 (r .reason)) (drop 35 (drop base s)) in
+      let l : length (r .id ++ codec.be 1 (r .state)) ≡ 33 = rw length-append (omega (arith, p .id)) in
+      ap (take 33) (sym (drop-drop 1 base s) ∙ e) ∙ take-at (r .id ++ codec.be 1 (r .state)) _ 33 l
+    where
+      group : (a b c d : Bytes) → (a ++ (b ++ c)) ++ d ≡ (a ++ b) ++ (c ++ d)
+      group a b c d = simp append-assoc
+
+  -- the mined place without its flag
+  pub place-here : (y .after + 1 ≤ y .mark) × (take (y .mark - y .after - 1) (drop (base + y .after + 1) s) ≡ drop 1 (placeBytes (r .place)))
+  unfolding view
+  place-here =
+      let w = x .0 in
+      let v = drop base s in
+      let b = between v (placeC .enc (r .place)) (y .after) (y .mark) (w .place) (w .upPlace) (omega (arith, w .upBody, w .end)) .1 in
+      let P = placeBytes (r .place) in
+      let e : drop (y .after) v ≡ P ++ drop (y .mark) v = w .place ∙ ap (λ (l : Bytes). l ++ drop (y .mark) v) (place-plain (r .place)) in
+      let k : length P ≡ y .mark - y .after = ap length (sym (place-plain (r .place))) ∙ b in
+      let o = place-one (r .place) in
+      let z : drop 1 (drop (y .after) v) ≡ drop 1 P ++ drop (y .mark) v = ap (drop 1) e ∙ drop-append-le 1 P (drop (y .mark) v) o in
+      let d : drop (base + y .after + 1) s ≡ drop 1 (drop (y .after) v) = sym (drop-drop 1 (base + y .after) s) ∙ ap (drop 1) (sym (drop-drop (y .after) base s)) in
+      (omega arith, ap (take (y .mark - y .after - 1)) (d ∙ z) ∙ take-at (drop 1 P) (drop (y .mark) v) (y .mark - y .after - 1) (omega (arith, length-drop 1 P)))
 
   head-of : Bytes
   head-of = front-of r ++ (termsBytes (r .terms) ++ placeBytes (r .place))
@@ -358,3 +394,66 @@ module _ (s id out : Bytes) {x : Looked} (f : LookAs s id x) where
     pub entry-100 : {out′ : Bytes} {r : ℕ} → Put out 0 (entryAt s (x .at) y) (entryLen y) r out′ → entryLen y ≤ length out → written (Done Nothing) out′ ≡ entryOf s id out
     entry-100 p h = let u = f .good z in
         sym (entry-look s id out ∙ ap (toldLook out) (u .1) ∙ told-100 (recast p (entry-is (u .2 .0) (met (u .2) rd)) refl refl) h)
+
+-- ---- numbers
+pub number-3 : (f : Queue → ℕ) (s : Bytes) (old : ℕ) {x : Area} → AreaIs s x → x .ok ≡ false → (Refused 3, old) ≡ numberOf f old (readArea s)
+number-3 f s old a e = rw (a .bad e)
+
+pub number-100 : (f : Queue → ℕ) (s : Bytes) (old : ℕ) {x : Area} {v : ℕ} → AreaIs s x → x .ok ≡ true → ((q : Queue) → AreaAs s x q → v ≡ f q) → (Done Nothing, v) ≡ numberOf f old (readArea s)
+number-100 f s old a e k = let u = a .good e in rw (u .1, k (u .0) (u .2))
+
+pub empty-is : (l : List Rec) {n : ℕ} → length l ≡ n → one (eqb n 0) ≡ one (isEmpty? l)
+empty-is [] e = rw (← e)
+empty-is (r ∷ l) {n} e = rw (ne-eqb n 0 (λ z. absurd (let y : ⊥ = omega arith in y)))
+
+pub due-facts : (now height : ℕ) (r : Rec) → dueF now height (factsOf r) ≡ due? now height r
+unfolding dueF factsOf due?
+due-facts now height r = go (r .terms .due) (r .terms .dueHeight)
+  where
+    reached : (o : Option ℕ) (n : ℕ) → (isSome o && leb (optNum o) n) ≡ reached? o n
+    reached none n = refl
+    reached (some d) n = refl
+
+    go : (o p : Option ℕ) → (pending? (r .state) && ((isSome o && leb (optNum o) now) || (isSome p && leb (optNum p) height))) ≡ (pending? (r .state) && (reached? o now || reached? p height))
+    go o p = rw (reached o now, reached p height)
+
+pub due-sum : (t : Time) (h : Height) (l : List Rec) → ltb 0 (sum (Due t h) l) ≡ any? (due? (t .0) (h .0)) l
+unfolding sum weight
+due-sum t h [] = refl
+due-sum t h (r ∷ l) = let i = due-sum t h l in cases (due? (t .0) (h .0) r)
+    (λ e. rw (due-facts (t .0) (h .0) r, e) (lt-ltb 0 (1 + sum (Due t h) l) (omega arith)))
+    (λ e. rw (due-facts (t .0) (h .0) r, e, zero-add) i)
+
+-- ---- the cursor
+module _ (s out : Bytes) {x : Area} (a : AreaIs s x) where
+  pub cursor-3 : x .ok ≡ false → written (Refused 3) out ≡ observationCursorOf s out
+  unfolding observationCursorOf
+  cursor-3 e = rw (a .bad e)
+
+  module _ (t : x .ok ≡ true) where
+    cursorOf : Queue → Bytes
+    cursorOf q = codec.be 4 (q .cursor) ++ flagged (λ i. i) (q .tip)
+
+    pub cursor-in : (x .open .head .marks ≤ x .open .head .after) × (4 + x .open .head .after ≤ length s)
+    unfolding view
+    cursor-in = let u = a .good t in let h = u .2 .store .head in (omega (arith, h .marksAt, h .up), omega (arith, h .sizeAt, h .end, length-drop 4 s, h .up))
+
+    cursor-is : (q : Queue) → AreaAs s x q → (take (x .open .head .after - x .open .head .marks) (drop (4 + x .open .head .marks) s) ≡ cursorOf q) × (length (cursorOf q) ≡ x .open .head .after - x .open .head .marks)
+    unfolding view beC cursorOf
+    cursor-is q w =
+        let h = w .store .head in
+        let p : codec.be 4 (q .cursor) ++ optC idC .enc (q .tip) ≡ cursorOf q = rw (opt-plain idC (λ i. i) id-plain (q .tip)) in
+        let b = between (drop 4 s) (codec.be 4 (q .cursor) ++ optC idC .enc (q .tip)) (x .open .head .marks) (x .open .head .after) (h .marks) (cursor-in .0) (omega (arith, cursor-in .1, length-drop 4 s)) in
+        (ap (take (x .open .head .after - x .open .head .marks)) (sym (drop-drop (x .open .head .marks) 4 s)) ∙ b .0 ∙ p, ap length (sym p) ∙ b .1)
+
+    pub cursor-4 : length out < x .open .head .after - x .open .head .marks → written (Refused 4) out ≡ observationCursorOf s out
+    unfolding observationCursorOf cursorOf
+    cursor-4 h = let u = a .good t in let c = cursor-is (u .0) (u .2) in sym (rw (u .1) (told-4 (cursorOf (u .0)) out (omega (arith, c .1))))
+
+    pub cursor-100 : {out′ : Bytes} {n r : ℕ} → n ≡ x .open .head .after - x .open .head .marks → n ≤ length out → Put out 0 (take n (drop (4 + x .open .head .marks) s)) n r out′ → written (Done Nothing) out′ ≡ observationCursorOf s out
+    unfolding observationCursorOf cursorOf
+    cursor-100 {out′} {n} {r} e h p =
+        let u = a .good t in
+        let c = cursor-is (u .0) (u .2) in
+        let k : take n (drop (4 + x .open .head .marks) s) ≡ cursorOf (u .0) = ap (λ m. take m (drop (4 + x .open .head .marks) s)) e ∙ c .0 in
+        sym (rw (u .1) (told-100 (recast p k refl refl) h))

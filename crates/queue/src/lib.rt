@@ -8,6 +8,7 @@ pub mod frame;
 pub mod head;
 pub mod limits;
 pub mod logic;
+pub mod pieces;
 pub mod put;
 pub mod reading;
 pub mod rules;

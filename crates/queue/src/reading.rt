@@ -3,10 +3,15 @@ use super::Answer;
 use super::Kind;
 use super::area::area_at;
 use super::forms::after_in;
+use super::frame::Height;
 use super::frame::Seen;
+use super::frame::Time;
 use super::frame::rec_at;
+use super::logic::one_if;
 use super::put::copy_part;
 use super::put::put_be;
+use super::rules::Query;
+use super::scan::tally;
 use super::view::cmp_id;
 use super::view::id_at;
 ghost use mathlib.Core.Path.{_≡_};
@@ -20,7 +25,7 @@ ghost use Rattle.queue.specs.Reads.{whole, listAt};
 ghost use Rattle.queue.specs.ReadingAs.{FoundAs, LookAs, PlaceAs, EntryIn, entryAt, entryLen};
 ghost use Rattle.queue.specs.paper.Lists.{find};
 ghost use Rattle.queue.specs.paper.Changing.{named?};
-ghost use Rattle.queue.specs.paper.Calls.{written, entryOf, signedBytesOf};
+ghost use Rattle.queue.specs.paper.Calls.{written, entryOf, signedBytesOf, revisionOf, observedHeightOf, isEmptyOf, deadlineDueOf, observationCursorOf};
 
 pub struct Found {
     pub found: bool,
@@ -161,5 +166,79 @@ pub fn entry(area: &[u8], id: &[u8], out: &mut [u8]) -> Answer
         return Answer::Refused(4);
     }
     put_entry(area, at, x, out, 0);
+    Answer::Done(Kind::Nothing)
+}
+
+pub fn revision(area: &[u8], value: &mut u64) -> Answer
+    ensures { λ r. ⌜ (r, now (value .exit)) ≡ revisionOf (now (area .entry)) (now (value .entry)) ⌝ }
+{
+    let a = area_at(area);
+    if !a.ok {
+        return Answer::Refused(3);
+    }
+    let o = a.open;
+    let h = o.head;
+    *value = h.revision;
+    Answer::Done(Kind::Nothing)
+}
+
+pub fn observed_height(area: &[u8], value: &mut u64) -> Answer
+    ensures { λ r. ⌜ (r, now (value .exit)) ≡ observedHeightOf (now (area .entry)) (now (value .entry)) ⌝ }
+{
+    let a = area_at(area);
+    if !a.ok {
+        return Answer::Refused(3);
+    }
+    let o = a.open;
+    let h = o.head;
+    let c = h.cursor;
+    *value = c.0;
+    Answer::Done(Kind::Nothing)
+}
+
+// 1 without records, else 0.
+pub fn is_empty(area: &[u8], value: &mut u64) -> Answer
+    ensures { λ r. ⌜ (r, now (value .exit)) ≡ isEmptyOf (now (area .entry)) (now (value .entry)) ⌝ }
+{
+    let a = area_at(area);
+    if !a.ok {
+        return Answer::Refused(3);
+    }
+    let o = a.open;
+    let h = o.head;
+    *value = one_if(h.count == 0);
+    Answer::Done(Kind::Nothing)
+}
+
+// 1 if a pending record's deadline is due, else 0.
+pub fn deadline_due(area: &[u8], time: Time, height: Height, value: &mut u64) -> Answer
+    ensures { λ r. ⌜ (r, now (value .exit)) ≡ deadlineDueOf (now (area .entry)) (time .0) (height .0) (now (value .entry)) ⌝ }
+{
+    let a = area_at(area);
+    if !a.ok {
+        return Answer::Refused(3);
+    }
+    let o = a.open;
+    let h = o.head;
+    let n = tally(area, false, o.start, h.count, Query::Due(time, height));
+    *value = one_if(0 < n);
+    Answer::Done(Kind::Nothing)
+}
+
+// The cursor's height, tip flag and tip, as they stand in the header.
+pub fn observation_cursor(area: &[u8], out: &mut [u8]) -> Answer
+    ensures { λ r. ⌜ written r (now (out .exit)) ≡ observationCursorOf (now (area .entry)) (now (out .entry)) ⌝ }
+{
+    let a = area_at(area);
+    if !a.ok {
+        return Answer::Refused(3);
+    }
+    let o = a.open;
+    let h = o.head;
+    let n = h.after - h.marks;
+    if out.len() < n {
+        return Answer::Refused(4);
+    }
+    copy_part(area, 4 + h.marks, n, out, 0);
     Answer::Done(Kind::Nothing)
 }

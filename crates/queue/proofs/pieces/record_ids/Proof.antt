@@ -1,0 +1,24 @@
+use mathlib.Core.Path.{_≡_, refl, sym, ap, _∙_}
+use native.Mathlib.Omega.{arith}
+use mathlib.Core.Bool.{Bool, true, false, cond, _&&_}
+use Prim.Native.Nat.{ℕ, _≤_, _+_, _-_, _*_, _<_}
+use lib.ListN.{length, take, drop}
+use Rattle.queue.proofs.PieceLaws.{ids-told}
+use borrow.Author.Needs.{needs}
+use Rattle.queue.proofs.pieces.record_ids.Statement.{statement}
+use Rattle.queue.proofs.pieces.record_ids.Tie as tie
+use Rattle.queue.proofs.pieces.record_ids.Reads as reads
+use Rattle.queue.proofs.pieces.record_ids.Lts as lts
+use Rattle.queue.proofs.pieces.told.Reads as told-reads
+
+told-requires : tie.Need-told-requires
+told-requires c κs = search needs
+
+same-length : tie.Need-same-length
+same-length c = search needs
+
+returns : tie.Need-returns
+returns c = c .before .before .told .ensures ∙ ids-told (c .before .before .before .before .before .before .args .area .now) (c .before .before .before .before .before .before .args .out .now)
+
+pub record-ids-spec : {M : Type 1} → statement M
+record-ids-spec = tie.close (tie.spec told-requires same-length returns)

@@ -1,0 +1,203 @@
+// The reading calls that write a count and a piece for each record that passes.
+use super::Answer;
+use super::Kind;
+use super::area::area_at;
+use super::forms::after_in;
+use super::frame::Facts;
+use super::frame::Height;
+use super::frame::Seen;
+use super::frame::Time;
+use super::frame::rec_at;
+use super::logic::both;
+use super::logic::one_if;
+use super::put::copy_part;
+use super::put::put_be;
+use super::reading::entry_len;
+use super::reading::put_entry;
+use super::rules;
+ghost use mathlib.Core.Path.{_≡_};
+ghost use mathlib.Core.Bool.{true, false, cond};
+ghost use mathlib.Core.List.{[]};
+ghost use Prim.Native.Nat.{_+_, _≤_, _<_};
+ghost use lib.ListN.{length};
+ghost use Rattle.queue.specs.Frames.{recC};
+ghost use Rattle.queue.specs.Forms.{formC};
+ghost use Rattle.queue.specs.Reads.{whole, listAt};
+ghost use Rattle.queue.specs.Splice.{Put};
+ghost use Rattle.queue.specs.PiecesAs.{passesF, pieceAt, pieceLen, PieceIn, piecesOf, toldPieces, MeasureAs};
+ghost use Rattle.queue.specs.paper.Calls.{written, recordIdsOf, guardedIdsOf, dueOf, confirmationsOf, listOf};
+
+// What to write of which records.
+pub enum What {
+    Ids,
+    Guarded,
+    DueBy(Time, Height),
+    Confirmed,
+    Entries,
+}
+
+pub struct Sizes {
+    pub count: u64,
+    pub size: usize,
+}
+
+fn passes(w: What, f: Facts) -> bool
+    ensures { λ r. ⌜ r ≡ passesF w f ⌝ }
+{
+    match w {
+        What::Ids => true,
+        What::Guarded => f.holder,
+        What::DueBy(t, h) => rules::due(t, h, f),
+        What::Confirmed => both(f.state == 2, f.placed),
+        What::Entries => true,
+    }
+}
+
+fn piece_len(w: What, x: Seen) -> usize
+    requires { ⌜ (x .after + 1 ≤ x .mark) × (x .mark ≤ 400) × (x .facts .ins < 65536) ⌝ }
+    ensures { λ r. ⌜ (r ≡ pieceLen w x) × (r < 4294967296) ⌝ }
+{
+    match w {
+        What::Ids => 32,
+        What::Guarded => 32,
+        What::DueBy(_, _) => 33,
+        What::Confirmed => 32 + (x.mark - x.after - 1),
+        What::Entries => entry_len(x),
+    }
+}
+
+// Id, mined height and block id: the place's flag is left out.
+fn put_confirmed(src: &[u8], base: usize, x: Seen, dst: &mut [u8], at: usize) -> usize
+    requires { ⌜ PieceIn (now src) base x × (at + pieceLen What.Confirmed x ≤ length (now dst)) ⌝ }
+    ensures { λ r. ⌜ Put (now (dst .entry)) at (pieceAt What.Confirmed (now (src .entry)) base x) (pieceLen What.Confirmed x) r (now (dst .exit)) ⌝ }
+{
+    let n = x.mark - x.after - 1;
+    let p = base + x.after + 1;
+    let a = copy_part(src, base + 1, 32, dst, at);
+    copy_part(src, p, n, dst, a)
+}
+
+// The piece of the record read at base.
+fn put_piece(src: &[u8], base: usize, x: Seen, w: What, dst: &mut [u8], at: usize) -> usize
+    requires { ⌜ PieceIn (now src) base x × (at + pieceLen w x ≤ length (now dst)) ⌝ }
+    ensures { λ r. ⌜ Put (now (dst .entry)) at (pieceAt w (now (src .entry)) base x) (pieceLen w x) r (now (dst .exit)) ⌝ }
+{
+    match w {
+        What::Ids => copy_part(src, base + 1, 32, dst, at),
+        What::Guarded => copy_part(src, base + 1, 32, dst, at),
+        What::DueBy(_, _) => copy_part(src, base + 1, 33, dst, at),
+        What::Confirmed => put_confirmed(src, base, x, dst, at),
+        What::Entries => put_entry(src, base, x, dst, at),
+    }
+}
+
+// Only if the record passes.
+fn add_piece(src: &[u8], base: usize, x: Seen, w: What, dst: &mut [u8], at: usize) -> usize
+    requires { ⌜ PieceIn (now src) base x × (at + cond (passesF w (x .facts)) (pieceLen w x) 0 ≤ length (now dst)) ⌝ }
+    ensures { λ r. ⌜ Put (now (dst .entry)) at (cond (passesF w (x .facts)) (pieceAt w (now (src .entry)) base x) []) (cond (passesF w (x .facts)) (pieceLen w x) 0) r (now (dst .exit)) ⌝ }
+{
+    let f = x.facts;
+    if passes(w, f) {
+        return put_piece(src, base, x, w, dst, at);
+    }
+    at
+}
+
+fn size_if(a: bool, n: usize) -> usize
+    ensures { λ r. ⌜ (r ≡ cond a n 0) × (r ≤ n) ⌝ }
+{
+    if a { n } else { 0 }
+}
+
+// How many of the n records at `at` pass, and how long their pieces are.
+fn measure(s: &[u8], at: usize, n: u64, w: What) -> Sizes
+    requires { ⌜ (at ≤ length (now s)) × (whole (formC false recC) n (now s) at ≡ true) × (n < 4294967296) ⌝ }
+    ensures { λ r. ⌜ MeasureAs w (listAt (formC false recC) n (now (s .entry)) at) n r ⌝ }
+{
+    let mut i = at;
+    let mut left = n;
+    let mut count: u64 = 0;
+    let mut size: usize = 0;
+    while 0 < left {
+        let x = rec_at(s, false, i);
+        let f = x.facts;
+        let p = passes(w, f);
+        count = count + one_if(p);
+        size = size + size_if(p, piece_len(w, x));
+        i = after_in(s, false, i, x.size);
+        left = left - 1;
+    }
+    Sizes {
+        count: count,
+        size: size,
+    }
+}
+
+fn put_pieces(s: &[u8], from: usize, n: u64, w: What, dst: &mut [u8], at: usize) -> usize
+    requires { ⌜ (from ≤ length (now s)) × (whole (formC false recC) n (now s) from ≡ true) × (at + length (piecesOf w (listAt (formC false recC) n (now s) from)) ≤ length (now dst)) ⌝ }
+    ensures { λ r. ⌜ Put (now (dst .entry)) at (piecesOf w (listAt (formC false recC) n (now (s .entry)) from)) (length (piecesOf w (listAt (formC false recC) n (now (s .entry)) from))) r (now (dst .exit)) ⌝ }
+{
+    let mut i = from;
+    let mut left = n;
+    let mut o = at;
+    while 0 < left {
+        let x = rec_at(s, false, i);
+        o = add_piece(s, i, x, w, dst, o);
+        i = after_in(s, false, i, x.size);
+        left = left - 1;
+    }
+    o
+}
+
+// Refusals 3 and 4, or the count and the pieces.
+fn told(area: &[u8], w: What, out: &mut [u8]) -> Answer
+    ensures { λ r. ⌜ written r (now (out .exit)) ≡ toldPieces w (now (area .entry)) (now (out .entry)) ⌝ }
+{
+    let a = area_at(area);
+    if !a.ok {
+        return Answer::Refused(3);
+    }
+    let o = a.open;
+    let h = o.head;
+    let m = measure(area, o.start, h.count, w);
+    if out.len() < 4 + m.size {
+        return Answer::Refused(4);
+    }
+    let p = put_be(out, 0, 4, m.count);
+    put_pieces(area, o.start, h.count, w, out, p);
+    Answer::Done(Kind::Nothing)
+}
+
+pub fn record_ids(area: &[u8], out: &mut [u8]) -> Answer
+    ensures { λ r. ⌜ written r (now (out .exit)) ≡ recordIdsOf (now (area .entry)) (now (out .entry)) ⌝ }
+{
+    told(area, What::Ids, out)
+}
+
+// The ids of the holders.
+pub fn guarded_ids(area: &[u8], out: &mut [u8]) -> Answer
+    ensures { λ r. ⌜ written r (now (out .exit)) ≡ guardedIdsOf (now (area .entry)) (now (out .entry)) ⌝ }
+{
+    told(area, What::Guarded, out)
+}
+
+// Id and state of each pending record that expiry would finish.
+pub fn due(area: &[u8], time: Time, height: Height, out: &mut [u8]) -> Answer
+    ensures { λ r. ⌜ written r (now (out .exit)) ≡ dueOf (now (area .entry)) (time .0) (height .0) (now (out .entry)) ⌝ }
+{
+    told(area, What::DueBy(time, height), out)
+}
+
+// Id, mined height and block id of each Mined record.
+pub fn confirmations(area: &[u8], out: &mut [u8]) -> Answer
+    ensures { λ r. ⌜ written r (now (out .exit)) ≡ confirmationsOf (now (area .entry)) (now (out .entry)) ⌝ }
+{
+    told(area, What::Confirmed, out)
+}
+
+// The entry of each record.
+pub fn list(area: &[u8], out: &mut [u8]) -> Answer
+    ensures { λ r. ⌜ written r (now (out .exit)) ≡ listOf (now (area .entry)) (now (out .entry)) ⌝ }
+{
+    told(area, What::Entries, out)
+}
