@@ -46,6 +46,10 @@ use Rattle.queue.proofs.WriteLaws.{fit, long-need}
 use Rattle.queue.proofs.ReadingLaws.{key}
 
 -- ---- a fresh queue
+pub need-512 : (m : Limits) → 512 ≤ need m
+unfolding need
+need-512 m = omega arith
+
 pub fresh-1 : (m : Limits) (area : Bytes) → inRange m ≡ false → written (Refused 1) area ≡ freshOf m area
 unfolding freshOf
 fresh-1 m area e = rw e
