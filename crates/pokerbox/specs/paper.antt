@@ -1,2 +1,3 @@
+pub mod Exports
 pub mod Machine
 pub mod Claim

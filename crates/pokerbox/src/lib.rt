@@ -1,4 +1,269 @@
-// The calls that a node links.
-pub fn both(a: bool, b: bool) -> bool {
-    if a { b } else { false }
+// The calls that a node links. Each gives back document 01's number; docs/CALLS.md has the arguments and the answers.
+use queue::Answer;
+use queue::Kind;
+use queue::area::area_at;
+use queue::calls::cancel;
+use queue::calls::expire;
+use queue::calls::set_cursor;
+use queue::calls::settle;
+use queue::frame::Height;
+use queue::frame::Time;
+use queue::limits::Limits;
+use queue::pieces::confirmations;
+use queue::pieces::due;
+use queue::pieces::guarded_ids;
+use queue::pieces::list;
+use queue::pieces::record_ids;
+use queue::reading::deadline_due;
+use queue::reading::entry;
+use queue::reading::is_empty;
+use queue::reading::observation_cursor;
+use queue::reading::observed_height;
+use queue::reading::revision;
+use queue::reading::signed_place;
+use queue::select::selection_at;
+ghost use mathlib.Core.Path.{_≡_};
+ghost use mathlib.Core.List.{[]};
+ghost use Prim.Native.Nat.{_≤_};
+ghost use Rattle.queue.specs.Opens.{limits};
+ghost use Rattle.queue.specs.paper.Calls.{number, kindNumber, freshOf, soundOf, cancelOf, expireOf, setCursorOf, settleOf, entryOf, selectionAtOf, recordIdsOf, guardedIdsOf, listOf, confirmationsOf, dueOf, observationCursorOf, revisionOf, observedHeightOf, isEmptyOf, deadlineDueOf};
+ghost use Rattle.image.specs.paper.Image.{imageOf, openOf};
+ghost use Rattle.pokerbox.specs.paper.Exports.{given, ofOutcome, ofWritten, ofImaged, ofNumbered, Placed};
+
+fn kind_number(k: Kind) -> u64
+    ensures { λ r. ⌜ (r ≡ kindNumber k) × (r ≤ 3) ⌝ }
+{
+    match k {
+        Kind::Nothing => 0,
+        Kind::Memory => 1,
+        Kind::Whole => 2,
+        Kind::Cursor => 3,
+    }
+}
+
+// A refusal is its own number, a kind is 100 more than its own.
+fn number(a: Answer) -> u64
+    ensures { λ r. ⌜ r ≡ number a ⌝ }
+{
+    match a {
+        Answer::Refused(n) => n,
+        Answer::Done(k) => 100 + kind_number(k),
+    }
+}
+
+fn sound(area: &[u8]) -> Answer
+    ensures { λ r. ⌜ r ≡ soundOf (now (area .entry)) ⌝ }
+{
+    let a = area_at(area);
+    if a.ok {
+        return Answer::Done(Kind::Nothing);
+    }
+    Answer::Refused(3)
+}
+
+// A fresh queue into area: 1, 2.
+#[no_mangle]
+pub extern "C" fn pokerbox_fresh(p: u64, b: u64, t: u64, k: u64, area: &mut [u8]) -> u64
+    ensures { λ r. ⌜ (r, now (area .exit)) ≡ ofWritten (freshOf (limits p b t k) (now (area .entry))) ⌝ }
+{
+    number(Limits::fresh(p, b, t, k, area))
+}
+
+// Does the area hold a sound queue? 3 if not.
+#[no_mangle]
+pub extern "C" fn pokerbox_sound(area: &[u8]) -> u64
+    ensures { λ r. ⌜ r ≡ number (soundOf (now (area .entry))) ⌝ }
+{
+    number(sound(area))
+}
+
+// Cancellation: the entry in out. 3, 2, 5, 13, 14, 15, 4.
+#[no_mangle]
+pub extern "C" fn pokerbox_cancel(cur: &[u8], next: &mut [u8], id: &[u8], out: &mut [u8]) -> u64
+    ensures { λ r. ⌜ given r (now (next .exit)) (now (out .exit)) ≡ ofOutcome (cancelOf (now (cur .entry)) (now (next .entry)) (now (out .entry)) (now (id .entry))) ⌝ }
+{
+    number(cancel(cur, next, id, out))
+}
+
+// Expiry: the ids finished in out. 3, 2, 15, 4.
+#[no_mangle]
+pub extern "C" fn pokerbox_expire(
+    cur: &[u8],
+    next: &mut [u8],
+    time: u64,
+    height: u32,
+    out: &mut [u8],
+) -> u64
+    ensures { λ r. ⌜ given r (now (next .exit)) (now (out .exit)) ≡ ofOutcome (expireOf (now (cur .entry)) (now (next .entry)) (now (out .entry)) time height) ⌝ }
+{
+    number(expire(cur, next, time, height, out))
+}
+
+// Cursor setting. 3, 2, 5.
+#[no_mangle]
+pub extern "C" fn pokerbox_set_cursor(
+    cur: &[u8],
+    next: &mut [u8],
+    height: u32,
+    flag: u8,
+    tip: &[u8],
+) -> u64
+    ensures { λ r. ⌜ given r (now (next .exit)) [] ≡ ofOutcome (setCursorOf (now (cur .entry)) (now (next .entry)) height flag (now (tip .entry))) ⌝ }
+{
+    number(set_cursor(cur, next, height, flag, tip))
+}
+
+// Settling. 3, 2, 5; 17 where the write failed.
+#[no_mangle]
+pub extern "C" fn pokerbox_settle(cur: &[u8], next: &mut [u8], kind: u64, outcome: u64) -> u64
+    ensures { λ r. ⌜ (r, now (next .exit)) ≡ ofWritten (settleOf (now (cur .entry)) (now (next .entry)) kind outcome) ⌝ }
+{
+    number(settle(cur, next, kind, outcome))
+}
+
+// The image of the queue in area: into out, its length behind size. 3, 4.
+#[no_mangle]
+pub extern "C" fn pokerbox_image(area: &[u8], out: &mut [u8], size: &mut u64) -> u64
+    ensures { λ r. ⌜ (r, (now (out .exit), now (size .exit))) ≡ ofImaged (imageOf (now (area .entry)) (now (out .entry)) (now (size .entry))) ⌝ }
+{
+    number(image::write(area, out, size))
+}
+
+// The queue of an image into area. 16, 2.
+#[no_mangle]
+pub extern "C" fn pokerbox_open(text: &[u8], area: &mut [u8]) -> u64
+    ensures { λ r. ⌜ (r, now (area .exit)) ≡ ofWritten (openOf (now (text .entry)) (now (area .entry))) ⌝ }
+{
+    number(image::open(text, area))
+}
+
+// The entry of an id. 3, 5, 13, 4.
+#[no_mangle]
+pub extern "C" fn pokerbox_entry(area: &[u8], id: &[u8], out: &mut [u8]) -> u64
+    ensures { λ r. ⌜ (r, now (out .exit)) ≡ ofWritten (entryOf (now (area .entry)) (now (id .entry)) (now (out .entry))) ⌝ }
+{
+    number(entry(area, id, out))
+}
+
+// The selection at a time and a height. 3, 4.
+#[no_mangle]
+pub extern "C" fn pokerbox_selection_entries_at(
+    area: &[u8],
+    time: u64,
+    height: u32,
+    out: &mut [u8],
+) -> u64
+    ensures { λ r. ⌜ (r, now (out .exit)) ≡ ofWritten (selectionAtOf (now (area .entry)) time height (now (out .entry))) ⌝ }
+{
+    number(selection_at(area, Time(time), Height(height as u64), out))
+}
+
+// The selection at time 0 and height 0. 3, 4.
+#[no_mangle]
+pub extern "C" fn pokerbox_selection_entries(area: &[u8], out: &mut [u8]) -> u64
+    ensures { λ r. ⌜ (r, now (out .exit)) ≡ ofWritten (selectionAtOf (now (area .entry)) 0 0 (now (out .entry))) ⌝ }
+{
+    number(selection_at(area, Time(0), Height(0), out))
+}
+
+// The ids of the records. 3, 4.
+#[no_mangle]
+pub extern "C" fn pokerbox_record_ids(area: &[u8], out: &mut [u8]) -> u64
+    ensures { λ r. ⌜ (r, now (out .exit)) ≡ ofWritten (recordIdsOf (now (area .entry)) (now (out .entry))) ⌝ }
+{
+    number(record_ids(area, out))
+}
+
+// The ids of the holders. 3, 4.
+#[no_mangle]
+pub extern "C" fn pokerbox_guarded_ids(area: &[u8], out: &mut [u8]) -> u64
+    ensures { λ r. ⌜ (r, now (out .exit)) ≡ ofWritten (guardedIdsOf (now (area .entry)) (now (out .entry))) ⌝ }
+{
+    number(guarded_ids(area, out))
+}
+
+// The entries of all records. 3, 4.
+#[no_mangle]
+pub extern "C" fn pokerbox_list(area: &[u8], out: &mut [u8]) -> u64
+    ensures { λ r. ⌜ (r, now (out .exit)) ≡ ofWritten (listOf (now (area .entry)) (now (out .entry))) ⌝ }
+{
+    number(list(area, out))
+}
+
+// The Mined records with their places. 3, 4.
+#[no_mangle]
+pub extern "C" fn pokerbox_confirmations(area: &[u8], out: &mut [u8]) -> u64
+    ensures { λ r. ⌜ (r, now (out .exit)) ≡ ofWritten (confirmationsOf (now (area .entry)) (now (out .entry))) ⌝ }
+{
+    number(confirmations(area, out))
+}
+
+// The records that are due, with their states. 3, 4.
+#[no_mangle]
+pub extern "C" fn pokerbox_due(area: &[u8], time: u64, height: u32, out: &mut [u8]) -> u64
+    ensures { λ r. ⌜ (r, now (out .exit)) ≡ ofWritten (dueOf (now (area .entry)) time height (now (out .entry))) ⌝ }
+{
+    number(due(area, Time(time), Height(height as u64), out))
+}
+
+// The cursor: height, and tip if there is one. 3, 4.
+#[no_mangle]
+pub extern "C" fn pokerbox_observation_cursor(area: &[u8], out: &mut [u8]) -> u64
+    ensures { λ r. ⌜ (r, now (out .exit)) ≡ ofWritten (observationCursorOf (now (area .entry)) (now (out .entry))) ⌝ }
+{
+    number(observation_cursor(area, out))
+}
+
+// The revision. 3.
+#[no_mangle]
+pub extern "C" fn pokerbox_revision(area: &[u8], value: &mut u64) -> u64
+    ensures { λ r. ⌜ (r, now (value .exit)) ≡ ofNumbered (revisionOf (now (area .entry)) (now (value .entry))) ⌝ }
+{
+    number(revision(area, value))
+}
+
+// The cursor height. 3.
+#[no_mangle]
+pub extern "C" fn pokerbox_observed_height(area: &[u8], value: &mut u64) -> u64
+    ensures { λ r. ⌜ (r, now (value .exit)) ≡ ofNumbered (observedHeightOf (now (area .entry)) (now (value .entry))) ⌝ }
+{
+    number(observed_height(area, value))
+}
+
+// 1 without records, else 0. 3.
+#[no_mangle]
+pub extern "C" fn pokerbox_is_empty(area: &[u8], value: &mut u64) -> u64
+    ensures { λ r. ⌜ (r, now (value .exit)) ≡ ofNumbered (isEmptyOf (now (area .entry)) (now (value .entry))) ⌝ }
+{
+    number(is_empty(area, value))
+}
+
+// 1 if a deadline is due, else 0. 3.
+#[no_mangle]
+pub extern "C" fn pokerbox_deadline_due(area: &[u8], time: u64, height: u32, value: &mut u64) -> u64
+    ensures { λ r. ⌜ (r, now (value .exit)) ≡ ofNumbered (deadlineDueOf (now (area .entry)) time height (now (value .entry))) ⌝ }
+{
+    number(deadline_due(area, Time(time), Height(height as u64), value))
+}
+
+// Where the signed bytes of an id stand in the area. 3, 5, 13.
+#[no_mangle]
+pub extern "C" fn pokerbox_signed_bytes(
+    area: &[u8],
+    id: &[u8],
+    start: &mut u64,
+    size: &mut u64,
+) -> u64
+    ensures { λ r. ⌜ Placed (now (area .entry)) (now (id .entry)) (now (start .entry)) (now (size .entry)) r (now (start .exit)) (now (size .exit)) ⌝ }
+{
+    let p = signed_place(area, id);
+    let a = p.answer;
+    match a {
+        Answer::Refused(n) => n,
+        Answer::Done(k) => {
+            *start = p.start as u64;
+            *size = p.len as u64;
+            100 + kind_number(k)
+        }
+    }
 }

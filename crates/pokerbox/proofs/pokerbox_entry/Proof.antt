@@ -1,0 +1,24 @@
+use mathlib.Core.Path.{_≡_, refl, sym, ap, _∙_}
+use Rattle.pokerbox.specs.paper.Exports.{ofWritten}
+use borrow.Author.Needs.{needs}
+use Rattle.pokerbox.proofs.pokerbox_entry.Statement.{statement}
+use Rattle.pokerbox.proofs.pokerbox_entry.Tie as tie
+use Rattle.pokerbox.proofs.pokerbox_entry.Reads as reads
+use Rattle.pokerbox.proofs.pokerbox_entry.Lts as lts
+use Rattle.pokerbox.proofs.number.Reads as number-reads
+use Rattle.queue.proofs.reading.entry.Reads as entry-reads
+
+entry-requires : tie.Need-entry-requires
+entry-requires c κs = search needs
+
+number-requires : tie.Need-number-requires
+number-requires c κs = search needs
+
+same-length : tie.Need-same-length
+same-length c = search needs
+
+returns : tie.Need-returns
+returns c = rw (c .number .ensures) (ap ofWritten (c .before .before .before .entry .ensures))
+
+pub pokerbox-entry-spec : {M : Type 1} → statement M
+pokerbox-entry-spec = tie.close (tie.spec entry-requires number-requires same-length returns)

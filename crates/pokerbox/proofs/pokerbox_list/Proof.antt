@@ -1,0 +1,24 @@
+use mathlib.Core.Path.{_≡_, refl, sym, ap, _∙_}
+use Rattle.pokerbox.specs.paper.Exports.{ofWritten}
+use borrow.Author.Needs.{needs}
+use Rattle.pokerbox.proofs.pokerbox_list.Statement.{statement}
+use Rattle.pokerbox.proofs.pokerbox_list.Tie as tie
+use Rattle.pokerbox.proofs.pokerbox_list.Reads as reads
+use Rattle.pokerbox.proofs.pokerbox_list.Lts as lts
+use Rattle.pokerbox.proofs.number.Reads as number-reads
+use Rattle.queue.proofs.pieces.list.Reads as list-reads
+
+list-requires : tie.Need-list-requires
+list-requires c κs = search needs
+
+number-requires : tie.Need-number-requires
+number-requires c κs = search needs
+
+same-length : tie.Need-same-length
+same-length c = search needs
+
+returns : tie.Need-returns
+returns c = rw (c .number .ensures) (ap ofWritten (c .before .before .before .list .ensures))
+
+pub pokerbox-list-spec : {M : Type 1} → statement M
+pokerbox-list-spec = tie.close (tie.spec list-requires number-requires same-length returns)

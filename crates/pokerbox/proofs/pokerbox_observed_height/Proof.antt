@@ -1,0 +1,22 @@
+use mathlib.Core.Path.{_≡_, refl, sym, ap, _∙_}
+use Rattle.pokerbox.specs.paper.Exports.{ofNumbered}
+use borrow.Author.Needs.{needs}
+use Rattle.pokerbox.proofs.pokerbox_observed_height.Statement.{statement}
+use Rattle.pokerbox.proofs.pokerbox_observed_height.Tie as tie
+use Rattle.pokerbox.proofs.pokerbox_observed_height.Reads as reads
+use Rattle.pokerbox.proofs.pokerbox_observed_height.Lts as lts
+use Rattle.pokerbox.proofs.number.Reads as number-reads
+use Rattle.queue.proofs.reading.observed_height.Reads as observed-height-reads
+
+observed-height-requires : tie.Need-observed-height-requires
+observed-height-requires c κs = search needs
+
+number-requires : tie.Need-number-requires
+number-requires c κs = search needs
+
+returns : tie.Need-returns
+returns c = rw (c .number .ensures) (ap ofNumbered (c .before .observed-height .ensures))
+
+pub pokerbox-observed-height-spec : {M : Type 1} → statement M
+pokerbox-observed-height-spec =
+    tie.close (tie.spec observed-height-requires number-requires returns)

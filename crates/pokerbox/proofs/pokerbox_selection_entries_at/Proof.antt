@@ -1,0 +1,25 @@
+use mathlib.Core.Path.{_≡_, refl, sym, ap, _∙_}
+use Rattle.pokerbox.specs.paper.Exports.{ofWritten}
+use borrow.Author.Needs.{needs}
+use Rattle.pokerbox.proofs.pokerbox_selection_entries_at.Statement.{statement}
+use Rattle.pokerbox.proofs.pokerbox_selection_entries_at.Tie as tie
+use Rattle.pokerbox.proofs.pokerbox_selection_entries_at.Reads as reads
+use Rattle.pokerbox.proofs.pokerbox_selection_entries_at.Lts as lts
+use Rattle.pokerbox.proofs.number.Reads as number-reads
+use Rattle.queue.proofs.select.selection_at.Reads as selection-at-reads
+
+selection-at-requires : tie.Need-selection-at-requires
+selection-at-requires c κs = search needs
+
+number-requires : tie.Need-number-requires
+number-requires c κs = search needs
+
+same-length : tie.Need-same-length
+same-length c = search needs
+
+returns : tie.Need-returns
+returns c = rw (c .number .ensures) (ap ofWritten (c .before .before .before .selection-at .ensures))
+
+pub pokerbox-selection-entries-at-spec : {M : Type 1} → statement M
+pokerbox-selection-entries-at-spec =
+    tie.close (tie.spec selection-at-requires number-requires same-length returns)
