@@ -1,0 +1,72 @@
+//! How often each call, kind, refusal and write outcome was met.
+
+use std::collections::BTreeMap;
+use std::fmt;
+
+#[derive(Debug, Clone, Default)]
+pub struct Counts {
+    pub steps: u64,
+    pub lists: u64,
+    /// By call, then by what was answered.
+    calls: BTreeMap<&'static str, BTreeMap<String, u64>>,
+    writes: BTreeMap<&'static str, u64>,
+    readings: BTreeMap<&'static str, u64>,
+    pub cuts_between_calls: u64,
+}
+
+impl Counts {
+    pub fn call(&mut self, call: &'static str, answer: String) {
+        *self
+            .calls
+            .entry(call)
+            .or_default()
+            .entry(answer)
+            .or_default() += 1;
+    }
+
+    pub fn write(&mut self, write: &'static str) {
+        *self.writes.entry(write).or_default() += 1;
+    }
+
+    pub fn reading(&mut self, reading: &'static str) {
+        *self.readings.entry(reading).or_default() += 1;
+    }
+
+    /// The answer of the one call that was counted.
+    pub fn only_answer(&self) -> String {
+        let mut answers = self.calls.values().flat_map(BTreeMap::keys);
+        let answer = answers.next().cloned().unwrap_or_default();
+        assert!(answers.next().is_none(), "more than one answer was counted");
+        answer
+    }
+
+    /// Whether a call was answered so.
+    pub fn met(&self, call: &str, answer: &str) -> bool {
+        self.calls
+            .get(call)
+            .is_some_and(|answers| answers.contains_key(answer))
+    }
+}
+
+impl fmt::Display for Counts {
+    fn fmt(&self, f: &mut fmt::Formatter<'_>) -> fmt::Result {
+        writeln!(f, "{} events in {} lists", self.steps, self.lists)?;
+        for (call, answers) in &self.calls {
+            let answers: Vec<String> = answers
+                .iter()
+                .map(|(answer, count)| format!("{answer}: {count}"))
+                .collect();
+            writeln!(f, "  {call}: {}", answers.join(", "))?;
+        }
+        for (write, count) in &self.writes {
+            writeln!(f, "  writes {write}: {count}")?;
+        }
+        writeln!(f, "  cuts between calls: {}", self.cuts_between_calls)?;
+        let readings: Vec<String> = self
+            .readings
+            .iter()
+            .map(|(reading, count)| format!("{reading} {count}"))
+            .collect();
+        writeln!(f, "  reading calls: {}", readings.join(", "))
+    }
+}

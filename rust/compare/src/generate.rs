@@ -1,0 +1,191 @@
+//! Random lists of events. The next event is chosen with the queue in view, so that calls meet
+//! records.
+
+use std::collections::{BTreeMap, BTreeSet};
+
+use model::random::{self, Rng};
+use model::rules::{reserved_inputs, Admission, Reconciliation};
+use model::{Confirmation, Height, Id, Limits, Queue, Record};
+
+use crate::list::{Call, Event, List, Start, Write};
+
+/// A list without events.
+pub fn list(rng: &mut Rng, limits: Limits) -> List {
+    let start = if rng.once_in(3) {
+        let mut queue = random::queue(rng, limits);
+        // Half of them as after opening.
+        if rng.once_in(2) {
+            queue.persisted = queue.cursor;
+        }
+        Start::Queue(Box::new(queue))
+    } else {
+        Start::Fresh
+    };
+    List {
+        limits,
+        start,
+        events: Vec::new(),
+        probe: (random::time(rng), random::height(rng)),
+    }
+}
+
+/// Mostly small limits, rarely many records.
+pub fn limits(rng: &mut Rng) -> Limits {
+    if rng.once_in(2_000) {
+        return Limits {
+            pending: Limits::MAX_PENDING - rng.below(2) as u32,
+            bytes: rng.pick(&[1, 4_096, 65_536]),
+            tombstones: Limits::MAX_TOMBSTONES - rng.below(2) as u32,
+            inputs: 1 + rng.below(2) as u32,
+        };
+    }
+    random::small_limits(rng)
+}
+
+pub fn event(rng: &mut Rng, queue: &Queue) -> Event {
+    if rng.once_in(40) {
+        return Event::Cut;
+    }
+    let write = match rng.below(24) {
+        0 | 1 => Write::NotCreated,
+        2 => Write::NotRenamed,
+        3 => Write::CutBeforeRename,
+        4 => Write::CutAfterRename,
+        _ => Write::Kept,
+    };
+    Event::Call(Box::new(call(rng, queue)), write)
+}
+
+fn call(rng: &mut Rng, queue: &Queue) -> Call {
+    match rng.below(20) {
+        0..=7 => Call::Admit(admission(rng, queue)),
+        8 | 9 => Call::Cancel(record_id(rng, queue)),
+        10 | 11 => Call::Expire(random::time(rng), near_height(rng, queue)),
+        12..=16 => Call::Reconcile(reconciliation(rng, queue)),
+        17 | 18 => Call::Reopen(some_ids(rng, queue)),
+        _ => Call::SetCursor(near_height(rng, queue), rng.optional(random::block_id)),
+    }
+}
+
+/// The id of a record mostly.
+fn record_id(rng: &mut Rng, queue: &Queue) -> Id {
+    if queue.records.is_empty() || rng.once_in(4) {
+        return random::tx_id(rng, &queue.limits);
+    }
+    queue.records[rng.below(queue.records.len())].id
+}
+
+fn some_ids(rng: &mut Rng, queue: &Queue) -> BTreeSet<Id> {
+    (0..rng.below(4)).map(|_| record_id(rng, queue)).collect()
+}
+
+/// A height at an edge of what the queue holds, or any.
+fn near_height(rng: &mut Rng, queue: &Queue) -> Height {
+    let edge = match rng.below(5) {
+        0 => queue.cursor.0,
+        1 => queue.cursor.0.saturating_add(1),
+        2 => queue.persisted.0.saturating_add(31),
+        3 => queue.persisted.0.saturating_add(32),
+        _ => random::height(rng).0,
+    };
+    Height(edge)
+}
+
+fn admission(rng: &mut Rng, queue: &Queue) -> Admission {
+    let limits = &queue.limits;
+    // Twice a record's fair share at most, rarely around B.
+    let share = 2 * limits.bytes as usize / limits.pending as usize;
+    let signed = match rng.below(10) {
+        0 => limits.bytes as usize + rng.below(2),
+        1 => 0,
+        _ => rng.up_to(share),
+    };
+    let mut label = rng.optional(random::label);
+    if rng.once_in(30) {
+        label = Some(vec![b'x'; 201]);
+    }
+    Admission {
+        id: random::tx_id(rng, limits),
+        inputs: inputs(rng, queue),
+        outputs: random::box_ids(rng, limits),
+        signed: rng.bytes(signed),
+        now: random::time(rng),
+        time_deadline: sometimes(rng, random::time),
+        height_deadline: sometimes(rng, random::height),
+        priority: random::priority(rng),
+        label,
+        fee: rng.pick(&[0, 7, u64::MAX]),
+        cost: rng.pick(&[0, 9, u64::MAX]),
+        tip_height: random::height(rng),
+        tip: rng.optional(random::block_id),
+    }
+}
+
+fn sometimes<T>(rng: &mut Rng, make: impl FnOnce(&mut Rng) -> T) -> Option<T> {
+    if rng.once_in(4) {
+        Some(make(rng))
+    } else {
+        None
+    }
+}
+
+/// At most K inputs; mostly none that a record has.
+fn inputs(rng: &mut Rng, queue: &Queue) -> Vec<Id> {
+    let mut inputs = random::box_ids(rng, &queue.limits);
+    if !rng.once_in(3) {
+        let reserved = reserved_inputs(queue);
+        inputs.retain(|input| !reserved.contains(input));
+    }
+    inputs
+}
+
+fn reconciliation(rng: &mut Rng, queue: &Queue) -> Reconciliation {
+    let height = near_height(rng, queue);
+    Reconciliation {
+        height,
+        tip: random::block_id(rng),
+        applied: applied(rng, queue, height),
+        caught_up: rng.once_in(2),
+        available: available(rng, queue),
+        window: rng.pick(&[0, 1, 2, 5, 31, 32, u32::MAX, u32::MAX]),
+    }
+}
+
+fn applied(rng: &mut Rng, queue: &Queue, height: Height) -> BTreeMap<Id, Confirmation> {
+    let often = rng.pick(&[0, 0, 0, 2, 4]);
+    if often == 0 {
+        return BTreeMap::new();
+    }
+    let mut applied = BTreeMap::new();
+    for record in &queue.records {
+        if rng.once_in(often) {
+            applied.insert(record.id, found(rng, record, height));
+        }
+    }
+    if rng.once_in(4) {
+        applied.insert(random::tx_id(rng, &queue.limits), random::confirmation(rng));
+    }
+    applied
+}
+
+/// Where the record was found: where it was before, near the height, or anywhere.
+fn found(rng: &mut Rng, record: &Record, height: Height) -> Confirmation {
+    match (rng.below(4), record.mined) {
+        (0, Some(before)) => before,
+        (1, _) => random::confirmation(rng),
+        _ => Confirmation {
+            height: Height(height.0.saturating_sub(rng.below(3) as u32)),
+            block: random::block_id(rng),
+        },
+    }
+}
+
+fn available(rng: &mut Rng, queue: &Queue) -> BTreeSet<Id> {
+    let share = rng.pick(&[0, 1, 3, 4, 4]);
+    queue
+        .records
+        .iter()
+        .flat_map(|record| record.inputs().iter().copied())
+        .filter(|_| rng.below(4) < share)
+        .collect()
+}

@@ -1,0 +1,19 @@
+//! Compares the calls on lent areas with `PrivateTransactionQueue`, the oracle, on random lists of
+//! calls with failed writes and cuts.
+//!
+//! - [`list`]: lists of events.
+//! - [`generate`]: random events.
+//! - [`side`]: the exported calls, and the model's in place of those that are not exported yet.
+//! - [`unit`]: runs events on areas as a node does.
+//! - [`oracle`]: runs events on the oracle.
+//! - [`run`]: compares the two after each event.
+//! - [`shrink`]: makes a list that shows a difference smaller.
+
+pub mod counts;
+pub mod generate;
+pub mod list;
+pub mod oracle;
+pub mod run;
+pub mod shrink;
+pub mod side;
+pub mod unit;

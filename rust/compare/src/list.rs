@@ -1,0 +1,115 @@
+//! Lists of events.
+
+use std::collections::BTreeSet;
+use std::fmt;
+
+use model::rules::{Admission, Reconciliation};
+use model::{Height, Id, Limits, Queue, TimeMs};
+
+/// A changing call with its arguments.
+#[derive(Debug, Clone, PartialEq, Eq)]
+pub enum Call {
+    Admit(Admission),
+    Cancel(Id),
+    Expire(TimeMs, Height),
+    Reconcile(Reconciliation),
+    Reopen(BTreeSet<Id>),
+    SetCursor(Height, Option<Id>),
+}
+
+impl Call {
+    pub fn name(&self) -> &'static str {
+        match self {
+            Call::Admit(_) => "admit",
+            Call::Cancel(_) => "cancel",
+            Call::Expire(..) => "expire",
+            Call::Reconcile(_) => "reconcile",
+            Call::Reopen(_) => "reopen",
+            Call::SetCursor(..) => "set_cursor",
+        }
+    }
+}
+
+/// What becomes of a call's write, if one is due.
+#[derive(Debug, Clone, Copy, PartialEq, Eq, PartialOrd, Ord)]
+pub enum Write {
+    Kept,
+    /// No second file can be made.
+    NotCreated,
+    /// The rename fails.
+    NotRenamed,
+    CutBeforeRename,
+    CutAfterRename,
+}
+
+impl Write {
+    pub fn name(self) -> &'static str {
+        match self {
+            Write::Kept => "kept",
+            Write::NotCreated => "failed (second file)",
+            Write::NotRenamed => "failed (rename)",
+            Write::CutBeforeRename => "cut before the rename",
+            Write::CutAfterRename => "cut after the rename",
+        }
+    }
+}
+
+#[derive(Debug, Clone, PartialEq, Eq)]
+pub enum Event {
+    Call(Box<Call>, Write),
+    /// Power is cut between two calls.
+    Cut,
+}
+
+/// The queue that a list begins with.
+#[derive(Debug, Clone, PartialEq, Eq)]
+pub enum Start {
+    /// A fresh queue, with nothing stored.
+    Fresh,
+    /// Any sound queue, stored as it is.
+    Queue(Box<Queue>),
+}
+
+#[derive(Debug, Clone, PartialEq, Eq)]
+pub struct List {
+    pub limits: Limits,
+    pub start: Start,
+    pub events: Vec<Event>,
+    /// The time and height with which reading calls are asked after each event.
+    pub probe: (TimeMs, Height),
+}
+
+impl fmt::Display for List {
+    fn fmt(&self, f: &mut fmt::Formatter<'_>) -> fmt::Result {
+        let limits = &self.limits;
+        writeln!(
+            f,
+            "limits P {}, B {}, T {}, K {}",
+            limits.pending, limits.bytes, limits.tombstones, limits.inputs
+        )?;
+        match &self.start {
+            Start::Fresh => writeln!(f, "start: fresh, nothing stored")?,
+            Start::Queue(queue) => writeln!(f, "start: {}", Short(queue))?,
+        }
+        for (at, event) in self.events.iter().enumerate() {
+            match event {
+                Event::Cut => writeln!(f, "{at}: power cut")?,
+                Event::Call(call, write) => {
+                    writeln!(f, "{at}: {}, write {}", Short(call), write.name())?
+                }
+            }
+        }
+        writeln!(f, "reading calls at {:?}", self.probe)
+    }
+}
+
+/// The debug text, with ids as their first and last bytes.
+pub struct Short<T>(pub T);
+
+impl<T: fmt::Debug> fmt::Display for Short<T> {
+    fn fmt(&self, f: &mut fmt::Formatter<'_>) -> fmt::Result {
+        let text = format!("{:?}", self.0);
+        // An id is printed as 32 numbers; those in the middle say nothing.
+        f.write_str(&text.replace(&"128, ".repeat(27), ".. "))
+    }
+}

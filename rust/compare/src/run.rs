@@ -1,0 +1,277 @@
+//! Compares a side with the oracle after each event.
+
+use std::fmt;
+use std::path::Path;
+
+use model::random::Rng;
+use model::{calls, image, Limits, Queue};
+
+use crate::counts::Counts;
+use crate::generate;
+use crate::list::{Call, Event, List, Short, Write};
+use crate::oracle::{self, Oracle};
+use crate::side::{Reading, Side};
+use crate::unit::{self, Unit, UNTOUCHED};
+
+/// Refusals outside the domain of demand 2 that lists meet: the oracle is not asked.
+const OUTSIDE: [u64; 1] = [15];
+
+/// Where a side and the oracle part.
+#[derive(Debug, Clone)]
+pub struct Difference {
+    /// The event after which it was seen.
+    pub at: usize,
+    pub what: String,
+    pub side: String,
+    pub oracle: String,
+}
+
+impl fmt::Display for Difference {
+    fn fmt(&self, f: &mut fmt::Formatter<'_>) -> fmt::Result {
+        writeln!(f, "after event {}: {}", self.at, self.what)?;
+        writeln!(f, "  compared: {}", self.side)?;
+        writeln!(f, "  oracle:   {}", self.oracle)
+    }
+}
+
+/// A side and the oracle, run together.
+pub struct Pair<'a, S: Side> {
+    unit: Unit<'a, S>,
+    oracle: Oracle,
+    probe: (u64, u32),
+    at: usize,
+}
+
+impl<'a, S: Side> Pair<'a, S> {
+    pub fn new(side: &'a S, folder: &Path, list: &List) -> Result<Self, Difference> {
+        let unit = Unit::new(side, list.limits, &list.start);
+        let oracle = Oracle::new(folder, list.limits, &list.start);
+        match (unit, oracle) {
+            (Ok(unit), Ok(oracle)) => Ok(Pair {
+                unit,
+                oracle,
+                probe: (list.probe.0 .0, list.probe.1 .0),
+                at: 0,
+            }),
+            (unit, oracle) => Err(Difference {
+                at: 0,
+                what: "the start".into(),
+                side: format!("{:?}", unit.err()),
+                oracle: format!("{:?}", oracle.err()),
+            }),
+        }
+    }
+
+    /// The queue of both.
+    pub fn queue(&self) -> Queue {
+        self.oracle.queue()
+    }
+
+    /// Runs one event on both and compares all that can be seen.
+    pub fn event(&mut self, event: &Event, counts: &mut Counts) -> Result<(), Difference> {
+        counts.steps += 1;
+        match event {
+            Event::Cut => {
+                counts.cuts_between_calls += 1;
+                let (unit, oracle) = (self.unit.restart(), self.oracle.restart());
+                self.same("opening after a cut", unit, oracle)?;
+            }
+            Event::Call(call, write) => self.call(call, *write, counts)?,
+        }
+        self.queues(counts)?;
+        self.at += 1;
+        Ok(())
+    }
+
+    fn same<T: PartialEq + fmt::Debug>(
+        &self,
+        what: &str,
+        side: T,
+        oracle: T,
+    ) -> Result<(), Difference> {
+        if side == oracle {
+            return Ok(());
+        }
+        Err(Difference {
+            at: self.at,
+            what: what.into(),
+            side: Short(side).to_string(),
+            oracle: Short(oracle).to_string(),
+        })
+    }
+
+    fn call(&mut self, call: &Call, write: Write, counts: &mut Counts) -> Result<(), Difference> {
+        let before = self.unit.queue().map_err(|fault| self.fault(fault))?;
+        let done = self.unit.call(call, write);
+        let done = done.map_err(|fault| self.fault(fault))?;
+        count(call, write, &done, counts);
+        if OUTSIDE.contains(&done.number) {
+            let model = model_number(call, &before);
+            return self.same("a refusal that the oracle has not", done.number, model);
+        }
+        let oracle = self.oracle.call(call, write);
+        let oracle = oracle.map_err(|fault| self.fault(fault))?;
+        self.same("power was cut", done.cut, oracle.cut)?;
+        if !done.cut {
+            self.same("the number given back", done.number, oracle.number)?;
+        }
+        let wrote = matches!(done.kind, Some(2 | 3));
+        self.same("a write was due", wrote, oracle.wrote)?;
+        if done.number == 100 && !done.cut {
+            self.answers(call, &done, &oracle)?;
+        }
+        if wrote && matches!(write, Write::Kept | Write::CutAfterRename) {
+            let image = image::encode(&self.oracle.queue());
+            self.same("the stored image", self.unit.stored.as_ref(), Some(&image))?;
+        }
+        Ok(())
+    }
+
+    fn answers(
+        &self,
+        call: &Call,
+        done: &unit::Done,
+        oracle: &oracle::Done,
+    ) -> Result<(), Difference> {
+        let answer = padded(&oracle.answer, done.out.len());
+        self.same(
+            &format!("the answer of {}", call.name()),
+            &done.out,
+            &answer,
+        )
+    }
+
+    fn fault(&self, fault: String) -> Difference {
+        Difference {
+            at: self.at,
+            what: "a fault".into(),
+            side: fault,
+            oracle: "-".into(),
+        }
+    }
+
+    /// Every value of the queue, the stored image, and every reading call.
+    fn queues(&self, counts: &mut Counts) -> Result<(), Difference> {
+        let queue = self.unit.queue().map_err(|fault| self.fault(fault))?;
+        self.same("the queue", &queue, &self.oracle.queue())?;
+        self.same("transactions not found", Oracle::failed(), 0)?;
+        self.readings(&queue, counts)?;
+        self.stored(&queue)
+    }
+
+    /// The stored image is that of a sound queue with these records.
+    fn stored(&self, queue: &Queue) -> Result<(), Difference> {
+        let Some(text) = &self.unit.stored else {
+            return Ok(());
+        };
+        let opened = image::decode(text);
+        let Some(opened) = opened else {
+            return Err(self.fault("the stored image is not that of a sound queue".into()));
+        };
+        // Records change by writes alone.
+        self.same("the stored records", &opened.records, &queue.records)?;
+        self.same("the stored revision", opened.revision, queue.revision)
+    }
+
+    fn readings(&self, queue: &Queue, counts: &mut Counts) -> Result<(), Difference> {
+        for reading in Reading::all(self.probe.0, self.probe.1) {
+            let expected = self.oracle.read(reading);
+            let length = expected.len() + 3;
+            if let Some(answer) = self.unit.read(reading, length) {
+                counts.reading(reading.name());
+                let what = format!("the answer of {}", reading.name());
+                self.same(&what, answer, Ok(padded(&expected, length)))?;
+            }
+        }
+        // All records of a small queue, others after other events of a large one.
+        let stride = queue.records.len() / 10 + 1;
+        for record in queue.records.iter().skip(self.at % stride).step_by(stride) {
+            let expected = self.oracle.entry(&record.id);
+            let length = expected.as_ref().map_or(0, Vec::len) + 3;
+            let answer = self.unit.entry(&record.id, length);
+            let expected = expected.map(|bytes| padded(&bytes, length));
+            self.same("the answer of entry", answer, expected)?;
+            let signed = record.holder.as_ref().map(|holder| &holder.bytes[..]);
+            let answer = self.unit.signed_bytes(&record.id);
+            self.same("the answer of signed_bytes", answer, signed.ok_or(13))?;
+        }
+        counts.reading("entry and signed_bytes");
+        Ok(())
+    }
+}
+
+/// An output of so many bytes that held this answer.
+fn padded(answer: &[u8], length: usize) -> Vec<u8> {
+    let mut out = answer.to_vec();
+    out.resize(length.max(answer.len()), UNTOUCHED);
+    out
+}
+
+/// The number that the model gives for the call.
+fn model_number(call: &Call, queue: &Queue) -> u64 {
+    use model::rules;
+    let refusal = match call {
+        Call::Admit(given) => rules::admit(queue, given).err(),
+        Call::Cancel(id) => rules::cancel(queue, id).err(),
+        Call::Expire(now, height) => rules::expire(queue, *now, *height).err(),
+        Call::Reconcile(given) => rules::reconcile(queue, given).err(),
+        Call::Reopen(_) | Call::SetCursor(..) => None,
+    };
+    refusal.unwrap_or(calls::ANSWERED)
+}
+
+fn count(call: &Call, write: Write, done: &unit::Done, counts: &mut Counts) {
+    let answer = match (done.number, done.kind) {
+        (100, Some(kind)) => format!("kind {kind}"),
+        (17, Some(kind)) => format!("17 after kind {kind}"),
+        (number, _) => number.to_string(),
+    };
+    counts.call(call.name(), answer);
+    if matches!(done.kind, Some(2 | 3)) {
+        counts.write(write.name());
+    }
+}
+
+/// Runs a whole list; the first difference.
+pub fn run_list<S: Side>(side: &S, folder: &Path, list: &List) -> Result<(), Difference> {
+    let mut counts = Counts::default();
+    let mut pair = Pair::new(side, folder, list)?;
+    list.events
+        .iter()
+        .try_for_each(|event| pair.event(event, &mut counts))
+}
+
+/// A list and the difference that it shows.
+pub type Found = Box<(List, Difference)>;
+
+/// Makes and runs one random list. A difference comes with the list up to it.
+pub fn random_list<S: Side>(
+    side: &S,
+    folder: &Path,
+    rng: &mut Rng,
+    limits: Limits,
+    counts: &mut Counts,
+) -> Result<(), Found> {
+    let mut list = generate::list(rng, limits);
+    // Long lists in small areas; a few events where each takes long.
+    let length = if limits.need() > 1_000_000 {
+        1 + rng.below(10)
+    } else {
+        1 + rng.below(120)
+    };
+    counts.lists += 1;
+    let mut pair =
+        Pair::new(side, folder, &list).map_err(|found| Box::new((list.clone(), found)))?;
+    for _ in 0..length {
+        let queue = match pair.unit.queue() {
+            Ok(queue) => queue,
+            Err(fault) => return Err(Box::new((list, pair.fault(fault)))),
+        };
+        let event = generate::event(rng, &queue);
+        list.events.push(event.clone());
+        if let Err(found) = pair.event(&event, counts) {
+            return Err(Box::new((list, found)));
+        }
+    }
+    Ok(())
+}

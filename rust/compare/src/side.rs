@@ -1,0 +1,374 @@
+//! The calls on lent areas, by the library or by the model.
+
+use model::calls;
+use model::calls::{AdmitArgs, ReconcileArgs};
+
+/// The calls of docs/CALLS.md. What a side does not have, the model does.
+pub trait Side {
+    fn admit(&self, cur: &[u8], next: &mut [u8], args: &AdmitArgs<'_>, out: &mut [u8]) -> u64 {
+        calls::admit(cur, next, args, out)
+    }
+
+    fn cancel(&self, cur: &[u8], next: &mut [u8], id: &[u8], out: &mut [u8]) -> u64 {
+        calls::cancel(cur, next, id, out)
+    }
+
+    fn expire(&self, cur: &[u8], next: &mut [u8], now: u64, height: u32, out: &mut [u8]) -> u64 {
+        calls::expire(cur, next, now, height, out)
+    }
+
+    fn reconcile(
+        &self,
+        cur: &[u8],
+        next: &mut [u8],
+        args: &ReconcileArgs<'_>,
+        out: &mut [u8],
+    ) -> u64 {
+        calls::reconcile(cur, next, args, out)
+    }
+
+    fn reopen(&self, cur: &[u8], next: &mut [u8], ids: &[u8]) -> u64 {
+        calls::reopen(cur, next, ids)
+    }
+
+    fn set_cursor(&self, cur: &[u8], next: &mut [u8], height: u32, flag: u8, tip: &[u8]) -> u64 {
+        calls::set_cursor(cur, next, height, flag, tip)
+    }
+
+    fn fresh(&self, p: u64, b: u64, t: u64, k: u64, area: &mut [u8]) -> u64 {
+        calls::fresh(p, b, t, k, area)
+    }
+
+    fn settle(&self, cur: &[u8], next: &mut [u8], kind: u64, outcome: u64) -> u64 {
+        calls::settle(cur, next, kind, outcome)
+    }
+
+    fn image(&self, area: &[u8], out: &mut [u8], length: &mut u64) -> u64 {
+        calls::image(area, out, length)
+    }
+
+    fn open(&self, text: &[u8], area: &mut [u8]) -> u64 {
+        calls::open(text, area)
+    }
+
+    fn sound(&self, area: &[u8]) -> u64 {
+        calls::sound(area)
+    }
+
+    fn entry(&self, area: &[u8], id: &[u8], out: &mut [u8]) -> u64 {
+        calls::entry(area, id, out)
+    }
+
+    fn signed_bytes(&self, area: &[u8], id: &[u8], start: &mut u64, length: &mut u64) -> u64 {
+        calls::signed_bytes(area, id, start, length)
+    }
+
+    /// The other reading calls: nothing where the side does not have the call.
+    fn read(&self, reading: Reading, area: &[u8], out: &mut [u8]) -> Option<u64> {
+        Some(match reading {
+            Reading::Revision => put_value(out, |value| calls::revision(area, value)),
+            Reading::IsEmpty => put_value(out, |value| calls::is_empty(area, value)),
+            Reading::DeadlineDue(now, height) => {
+                put_value(out, |value| calls::deadline_due(area, now, height, value))
+            }
+            Reading::ObservedHeight => put_value(out, |value| calls::observed_height(area, value)),
+            Reading::ObservationCursor => calls::observation_cursor(area, out),
+            Reading::RecordIds => calls::record_ids(area, out),
+            Reading::GuardedIds => calls::guarded_ids(area, out),
+            Reading::ReservedInputs => calls::reserved_inputs(area, out),
+            Reading::ReservationSnapshot => calls::reservation_snapshot(area, out),
+            Reading::GuardSnapshot => calls::guard_snapshot(area, out),
+            Reading::List => calls::list(area, out),
+            Reading::SelectionEntries => calls::selection_entries(area, out),
+            Reading::SelectionEntriesAt(now, height) => {
+                calls::selection_entries_at(area, now, height, out)
+            }
+            Reading::Due(now, height) => calls::due(area, now, height, out),
+            Reading::Confirmations => calls::confirmations(area, out),
+        })
+    }
+}
+
+/// A reading call without an id. One that answers a number writes it as 8 bytes here.
+#[derive(Debug, Clone, Copy, PartialEq, Eq)]
+pub enum Reading {
+    Revision,
+    IsEmpty,
+    DeadlineDue(u64, u32),
+    ObservedHeight,
+    ObservationCursor,
+    RecordIds,
+    GuardedIds,
+    ReservedInputs,
+    ReservationSnapshot,
+    GuardSnapshot,
+    List,
+    SelectionEntries,
+    SelectionEntriesAt(u64, u32),
+    Due(u64, u32),
+    Confirmations,
+}
+
+impl Reading {
+    pub fn all(now: u64, height: u32) -> [Reading; 15] {
+        [
+            Reading::Revision,
+            Reading::IsEmpty,
+            Reading::DeadlineDue(now, height),
+            Reading::ObservedHeight,
+            Reading::ObservationCursor,
+            Reading::RecordIds,
+            Reading::GuardedIds,
+            Reading::ReservedInputs,
+            Reading::ReservationSnapshot,
+            Reading::GuardSnapshot,
+            Reading::List,
+            Reading::SelectionEntries,
+            Reading::SelectionEntriesAt(now, height),
+            Reading::Due(now, height),
+            Reading::Confirmations,
+        ]
+    }
+
+    pub fn name(self) -> &'static str {
+        match self {
+            Reading::Revision => "revision",
+            Reading::IsEmpty => "is_empty",
+            Reading::DeadlineDue(..) => "deadline_due",
+            Reading::ObservedHeight => "observed_height",
+            Reading::ObservationCursor => "observation_cursor",
+            Reading::RecordIds => "record_ids",
+            Reading::GuardedIds => "guarded_ids",
+            Reading::ReservedInputs => "reserved_inputs",
+            Reading::ReservationSnapshot => "reservation_snapshot",
+            Reading::GuardSnapshot => "guard_snapshot",
+            Reading::List => "list",
+            Reading::SelectionEntries => "selection_entries",
+            Reading::SelectionEntriesAt(..) => "selection_entries_at",
+            Reading::Due(..) => "due",
+            Reading::Confirmations => "confirmations",
+        }
+    }
+}
+
+/// The number that a call wrote behind its pointer, as 8 bytes.
+fn put_value(out: &mut [u8], call: impl FnOnce(&mut u64) -> u64) -> u64 {
+    let mut value = 0;
+    let number = call(&mut value);
+    if number == calls::ANSWERED {
+        out[..8].copy_from_slice(&value.to_be_bytes());
+    }
+    number
+}
+
+/// The model.
+#[derive(Debug, Clone, Copy, Default)]
+pub struct Model;
+
+impl Side for Model {}
+
+/// The library. A call that it does not export yet is made by the model, so that lists go on; a
+/// reading call without an id is left out.
+#[derive(Debug, Clone, Copy, Default)]
+pub struct Library;
+
+/// The library's reading where it is exported, else nothing.
+macro_rules! if_exported {
+    ($call:literal, $library:expr) => {{
+        #[cfg(exported = $call)]
+        {
+            $library
+        }
+        #[cfg(not(exported = $call))]
+        {
+            return None;
+        }
+    }};
+}
+
+/// The number of docs/CALLS.md.
+trait Number {
+    fn number(self) -> u64;
+}
+
+impl Number for Result<pokerbox::Kind, pokerbox::Error> {
+    fn number(self) -> u64 {
+        self.map_or_else(|error| error.number(), |kind| 100 + kind as u64)
+    }
+}
+
+impl Number for Result<(), pokerbox::Error> {
+    fn number(self) -> u64 {
+        self.map_or_else(|error| error.number(), |()| 100)
+    }
+}
+
+fn number(answer: impl Number) -> u64 {
+    answer.number()
+}
+
+#[cfg(exported = "admit")]
+fn admit_args<'a>(args: &AdmitArgs<'a>) -> pokerbox::raw::AdmitArgs<'a> {
+    pokerbox::raw::AdmitArgs {
+        id: args.id,
+        inputs: args.inputs,
+        outputs: args.outputs,
+        signed: args.signed,
+        now: args.now,
+        time_flag: args.time_flag,
+        time: args.time,
+        height_flag: args.height_flag,
+        height: args.height,
+        priority: args.priority,
+        label_flag: args.label_flag,
+        label: args.label,
+        fee: args.fee,
+        cost: args.cost,
+        tip_height: args.tip_height,
+        tip_flag: args.tip_flag,
+        tip: args.tip,
+    }
+}
+
+#[cfg(exported = "reconcile")]
+fn reconcile_args<'a>(args: &ReconcileArgs<'a>) -> pokerbox::raw::ReconcileArgs<'a> {
+    pokerbox::raw::ReconcileArgs {
+        height: args.height,
+        tip: args.tip,
+        applied: args.applied,
+        caught_up: args.caught_up,
+        available: args.available,
+        window: args.window,
+    }
+}
+
+#[allow(unused_imports)]
+use pokerbox::raw;
+
+impl Side for Library {
+    #[cfg(exported = "admit")]
+    fn admit(&self, cur: &[u8], next: &mut [u8], args: &AdmitArgs<'_>, out: &mut [u8]) -> u64 {
+        number(raw::admit(cur, next, &admit_args(args), out))
+    }
+
+    #[cfg(exported = "cancel")]
+    fn cancel(&self, cur: &[u8], next: &mut [u8], id: &[u8], out: &mut [u8]) -> u64 {
+        number(raw::cancel(cur, next, id, out))
+    }
+
+    #[cfg(exported = "expire")]
+    fn expire(&self, cur: &[u8], next: &mut [u8], now: u64, height: u32, out: &mut [u8]) -> u64 {
+        number(raw::expire(cur, next, now, height, out))
+    }
+
+    #[cfg(exported = "reconcile")]
+    fn reconcile(
+        &self,
+        cur: &[u8],
+        next: &mut [u8],
+        args: &ReconcileArgs<'_>,
+        out: &mut [u8],
+    ) -> u64 {
+        number(raw::reconcile(cur, next, &reconcile_args(args), out))
+    }
+
+    #[cfg(exported = "reopen")]
+    fn reopen(&self, cur: &[u8], next: &mut [u8], ids: &[u8]) -> u64 {
+        number(raw::reopen(cur, next, ids))
+    }
+
+    #[cfg(exported = "set_cursor")]
+    fn set_cursor(&self, cur: &[u8], next: &mut [u8], height: u32, flag: u8, tip: &[u8]) -> u64 {
+        number(raw::set_cursor(cur, next, height, flag, tip))
+    }
+
+    #[cfg(exported = "fresh")]
+    fn fresh(&self, p: u64, b: u64, t: u64, k: u64, area: &mut [u8]) -> u64 {
+        number(raw::fresh(p, b, t, k, area))
+    }
+
+    #[cfg(exported = "settle")]
+    fn settle(&self, cur: &[u8], next: &mut [u8], kind: u64, outcome: u64) -> u64 {
+        number(raw::settle(cur, next, kind, outcome))
+    }
+
+    #[cfg(exported = "image")]
+    fn image(&self, area: &[u8], out: &mut [u8], length: &mut u64) -> u64 {
+        number(raw::image(area, out, length))
+    }
+
+    #[cfg(exported = "open")]
+    fn open(&self, text: &[u8], area: &mut [u8]) -> u64 {
+        number(raw::open(text, area))
+    }
+
+    #[cfg(exported = "sound")]
+    fn sound(&self, area: &[u8]) -> u64 {
+        number(raw::sound(area))
+    }
+
+    #[cfg(exported = "entry")]
+    fn entry(&self, area: &[u8], id: &[u8], out: &mut [u8]) -> u64 {
+        number(raw::entry(area, id, out))
+    }
+
+    #[cfg(exported = "signed_bytes")]
+    fn signed_bytes(&self, area: &[u8], id: &[u8], start: &mut u64, length: &mut u64) -> u64 {
+        number(raw::signed_bytes(area, id, start, length))
+    }
+
+    #[allow(unreachable_code, unused_variables)]
+    fn read(&self, reading: Reading, area: &[u8], out: &mut [u8]) -> Option<u64> {
+        Some(match reading {
+            Reading::Revision => if_exported!(
+                "revision",
+                put_value(out, |value| number(raw::revision(area, value)))
+            ),
+            Reading::IsEmpty => if_exported!(
+                "is_empty",
+                put_value(out, |value| number(raw::is_empty(area, value)))
+            ),
+            Reading::DeadlineDue(now, height) => if_exported!(
+                "deadline_due",
+                put_value(out, |value| {
+                    number(raw::deadline_due(area, now, height, value))
+                })
+            ),
+            Reading::ObservedHeight => if_exported!(
+                "observed_height",
+                put_value(out, |value| number(raw::observed_height(area, value)))
+            ),
+            Reading::ObservationCursor => if_exported!(
+                "observation_cursor",
+                number(raw::observation_cursor(area, out))
+            ),
+            Reading::RecordIds => if_exported!("record_ids", number(raw::record_ids(area, out))),
+            Reading::GuardedIds => if_exported!("guarded_ids", number(raw::guarded_ids(area, out))),
+            Reading::ReservedInputs => {
+                if_exported!("reserved_inputs", number(raw::reserved_inputs(area, out)))
+            }
+            Reading::ReservationSnapshot => if_exported!(
+                "reservation_snapshot",
+                number(raw::reservation_snapshot(area, out))
+            ),
+            Reading::GuardSnapshot => {
+                if_exported!("guard_snapshot", number(raw::guard_snapshot(area, out)))
+            }
+            Reading::List => if_exported!("list", number(raw::list(area, out))),
+            Reading::SelectionEntries => if_exported!(
+                "selection_entries",
+                number(raw::selection_entries(area, out))
+            ),
+            Reading::SelectionEntriesAt(now, height) => if_exported!(
+                "selection_entries_at",
+                number(raw::selection_entries_at(area, now, height, out))
+            ),
+            Reading::Due(now, height) => {
+                if_exported!("due", number(raw::due(area, now, height, out)))
+            }
+            Reading::Confirmations => {
+                if_exported!("confirmations", number(raw::confirmations(area, out)))
+            }
+        })
+    }
+}

@@ -1,0 +1,269 @@
+//! Runs events on lent areas as a node does: a call, the image, the write, settling.
+
+use model::calls::{AdmitArgs, ReconcileArgs};
+use model::{area, image, Id, Limits, Queue};
+
+use crate::list::{Call, Start, Write};
+use crate::side::{Reading, Side};
+
+/// Bytes lent after the need; no call may change them.
+const LATER: [u8; 5] = [0xee; 5];
+/// What an output holds before the call.
+pub const UNTOUCHED: u8 = 0xee;
+
+/// What became of a call.
+#[derive(Debug, Clone, PartialEq, Eq)]
+pub struct Done {
+    /// A refusal, 17 among them, or 100.
+    pub number: u64,
+    /// The kind, unless the call was refused by another number than 17.
+    pub kind: Option<u64>,
+    /// The whole output; empty after a refusal, 17 among them, or a cut.
+    pub out: Vec<u8>,
+    /// Power was cut; the queue was opened again.
+    pub cut: bool,
+}
+
+/// A queue in two areas and a stored image.
+pub struct Unit<'s, S: Side> {
+    side: &'s S,
+    /// The limits for a fresh queue after a cut with nothing stored.
+    first_limits: Limits,
+    need: usize,
+    current: Vec<u8>,
+    next: Vec<u8>,
+    pub stored: Option<Vec<u8>>,
+}
+
+/// Something is wrong that needs no oracle to see.
+pub type Fault = String;
+
+impl<'s, S: Side> Unit<'s, S> {
+    pub fn new(side: &'s S, limits: Limits, start: &Start) -> Result<Self, Fault> {
+        let mut unit = Unit {
+            side,
+            first_limits: limits,
+            need: limits.need(),
+            current: Vec::new(),
+            next: Vec::new(),
+            stored: None,
+        };
+        match start {
+            Start::Fresh => unit.restart()?,
+            Start::Queue(queue) => {
+                unit.current = lent(limits.need());
+                unit.next = lent(limits.need());
+                let bytes = area::encode(queue);
+                unit.current[..bytes.len()].copy_from_slice(&bytes);
+                unit.stored = Some(image::encode(queue));
+            }
+        }
+        Ok(unit)
+    }
+
+    /// Opening what is stored, or a fresh queue where nothing is.
+    pub fn restart(&mut self) -> Result<(), Fault> {
+        self.current = lent(self.need);
+        self.next = lent(self.need);
+        let (call, number) = match &self.stored {
+            Some(text) => ("open", self.side.open(text, &mut self.current)),
+            None => {
+                let limits = &self.first_limits;
+                let [p, b, t, k] = [
+                    limits.pending,
+                    limits.bytes,
+                    limits.tombstones,
+                    limits.inputs,
+                ]
+                .map(u64::from);
+                ("fresh", self.side.fresh(p, b, t, k, &mut self.current))
+            }
+        };
+        expect(call, number, 100)
+    }
+
+    pub fn area(&self) -> &[u8] {
+        &self.current
+    }
+
+    /// The queue in the current area.
+    pub fn queue(&self) -> Result<Queue, Fault> {
+        if self.current[self.need..] != LATER || self.next[self.need..] != LATER {
+            return Err("a call changed bytes after the area's need".into());
+        }
+        expect("sound", self.side.sound(&self.current), 100)?;
+        area::decode(&self.current).ok_or("the current area is not sound".into())
+    }
+
+    pub fn call(&mut self, call: &Call, write: Write) -> Result<Done, Fault> {
+        let before = self.current.clone();
+        let mut out = vec![UNTOUCHED; answer_bound(&self.first_limits)];
+        let number = self.make(call, &mut out);
+        if self.current != before {
+            return Err("a call changed the current area".into());
+        }
+        match number {
+            1..=16 => Ok(done(number, None, Vec::new())),
+            100 => Ok(done(100, Some(0), out)),
+            101 => {
+                std::mem::swap(&mut self.current, &mut self.next);
+                Ok(done(100, Some(1), out))
+            }
+            102 | 103 => self.write(number - 100, write, out),
+            _ => Err(format!("{} gave back {number}", call.name())),
+        }
+    }
+
+    fn make(&mut self, call: &Call, out: &mut [u8]) -> u64 {
+        let (side, cur, next) = (self.side, &self.current, &mut self.next);
+        match call {
+            Call::Admit(given) => {
+                let (inputs, outputs) = (given.inputs.concat(), given.outputs.concat());
+                let args = AdmitArgs {
+                    id: &given.id,
+                    inputs: &inputs,
+                    outputs: &outputs,
+                    signed: &given.signed,
+                    now: given.now.0,
+                    time_flag: u8::from(given.time_deadline.is_some()),
+                    time: given.time_deadline.map_or(0, |time| time.0),
+                    height_flag: u8::from(given.height_deadline.is_some()),
+                    height: given.height_deadline.map_or(0, |height| height.0),
+                    priority: given.priority as u32,
+                    label_flag: u8::from(given.label.is_some()),
+                    label: given.label.as_deref().unwrap_or_default(),
+                    fee: given.fee,
+                    cost: given.cost,
+                    tip_height: given.tip_height.0,
+                    tip_flag: u8::from(given.tip.is_some()),
+                    tip: optional_id(&given.tip),
+                };
+                side.admit(cur, next, &args, out)
+            }
+            Call::Cancel(id) => side.cancel(cur, next, id, out),
+            Call::Expire(now, height) => side.expire(cur, next, now.0, height.0, out),
+            Call::Reconcile(given) => {
+                let mut applied = Vec::new();
+                for (id, found) in &given.applied {
+                    applied.extend(id);
+                    applied.extend(found.height.0.to_be_bytes());
+                    applied.extend(found.block);
+                }
+                let available: Vec<u8> = given.available.iter().flatten().copied().collect();
+                let args = ReconcileArgs {
+                    height: given.height.0,
+                    tip: &given.tip,
+                    applied: &applied,
+                    caught_up: u8::from(given.caught_up),
+                    available: &available,
+                    window: given.window,
+                };
+                side.reconcile(cur, next, &args, out)
+            }
+            Call::Reopen(ids) => {
+                let ids: Vec<u8> = ids.iter().flatten().copied().collect();
+                side.reopen(cur, next, &ids)
+            }
+            Call::SetCursor(height, tip) => {
+                let flag = u8::from(tip.is_some());
+                side.set_cursor(cur, next, height.0, flag, optional_id(tip))
+            }
+        }
+    }
+
+    fn write(&mut self, kind: u64, write: Write, out: Vec<u8>) -> Result<Done, Fault> {
+        let text = self.image_of_next()?;
+        match write {
+            Write::Kept => {
+                self.stored = Some(text);
+                let number = self.side.settle(&self.current, &mut self.next, kind, 0);
+                expect("settle", number, 100)?;
+                std::mem::swap(&mut self.current, &mut self.next);
+                Ok(done(100, Some(kind), out))
+            }
+            Write::NotCreated | Write::NotRenamed => {
+                let number = self.side.settle(&self.current, &mut self.next, kind, 1);
+                expect("settle", number, 17)?;
+                std::mem::swap(&mut self.current, &mut self.next);
+                Ok(done(17, Some(kind), Vec::new()))
+            }
+            Write::CutBeforeRename | Write::CutAfterRename => {
+                if write == Write::CutAfterRename {
+                    self.stored = Some(text);
+                }
+                self.restart()?;
+                Ok(Done {
+                    cut: true,
+                    ..done(100, Some(kind), Vec::new())
+                })
+            }
+        }
+    }
+
+    fn image_of_next(&self) -> Result<Vec<u8>, Fault> {
+        let mut text = vec![0; 3 * self.need];
+        let mut length = 0;
+        let number = self.side.image(&self.next, &mut text, &mut length);
+        expect("image", number, 100)?;
+        text.truncate(length as usize);
+        Ok(text)
+    }
+
+    /// The output that a reading call leaves in `length` bytes; nothing where the side does not
+    /// have the call.
+    pub fn read(&self, reading: Reading, length: usize) -> Option<Result<Vec<u8>, u64>> {
+        let mut out = vec![UNTOUCHED; length];
+        let number = self.side.read(reading, &self.current, &mut out)?;
+        Some(if number == 100 { Ok(out) } else { Err(number) })
+    }
+
+    pub fn entry(&self, id: &Id, length: usize) -> Result<Vec<u8>, u64> {
+        let mut out = vec![UNTOUCHED; length];
+        match self.side.entry(&self.current, id, &mut out) {
+            100 => Ok(out),
+            number => Err(number),
+        }
+    }
+
+    pub fn signed_bytes(&self, id: &Id) -> Result<&[u8], u64> {
+        let (mut start, mut length) = (0, 0);
+        match self
+            .side
+            .signed_bytes(&self.current, id, &mut start, &mut length)
+        {
+            100 => Ok(&self.current[start as usize..(start + length) as usize]),
+            number => Err(number),
+        }
+    }
+}
+
+fn done(number: u64, kind: Option<u64>, out: Vec<u8>) -> Done {
+    Done {
+        number,
+        kind,
+        out,
+        cut: false,
+    }
+}
+
+fn lent(need: usize) -> Vec<u8> {
+    let mut bytes = vec![0; need];
+    bytes.extend(LATER);
+    bytes
+}
+
+fn expect(call: &str, number: u64, expected: u64) -> Result<(), Fault> {
+    if number != expected {
+        return Err(format!("{call} gave back {number}, not {expected}"));
+    }
+    Ok(())
+}
+
+fn optional_id(id: &Option<Id>) -> &[u8] {
+    id.as_ref().map_or(&[], |id| id)
+}
+
+/// No changing call's answer is longer.
+fn answer_bound(limits: &Limits) -> usize {
+    400 + 32 * limits.inputs as usize + 64 * limits.pending as usize
+}

@@ -1,0 +1,286 @@
+//! Document 01's bench cards and the points that it leaves to the Rust, each run on the model and
+//! the oracle, with what is expected written out.
+
+mod common;
+
+use std::collections::{BTreeMap, BTreeSet};
+
+use common::Folder;
+use compare::counts::Counts;
+use compare::list::{Call, Event, List, Start, Write};
+use compare::run::Pair;
+use compare::side::Model;
+use model::rules::{Admission, Reconciliation};
+use model::{Confirmation, Height, Id, Limits, Queue, Reason, State, TimeMs, Withdrawn};
+
+const A: Id = [0x0a; 32];
+const B: Id = [0x0b; 32];
+const T1: Id = [0x71; 32];
+const T2: Id = [0x72; 32];
+
+/// The model and the oracle, compared after each call.
+struct Cards {
+    pair: Pair<'static, Model>,
+    _folder: Folder,
+    counts: Counts,
+}
+
+impl Cards {
+    fn new(name: &str, limits: [u64; 4], start: Option<Queue>) -> Self {
+        let folder = Folder::new(name);
+        let [p, b, t, k] = limits;
+        let list = List {
+            limits: Limits::checked(p, b, t, k).unwrap(),
+            start: start.map_or(Start::Fresh, |queue| Start::Queue(Box::new(queue))),
+            events: Vec::new(),
+            probe: (TimeMs(0), Height(0)),
+        };
+        let pair = Pair::new(&Model, &folder.0, &list).map_err(|found| found.to_string());
+        Cards {
+            pair: pair.unwrap(),
+            _folder: folder,
+            counts: Counts::default(),
+        }
+    }
+
+    /// The call's answer as the counts name it.
+    fn call(&mut self, call: Call) -> String {
+        self.with_write(call, Write::Kept)
+    }
+
+    fn with_write(&mut self, call: Call, write: Write) -> String {
+        self.counts = Counts::default();
+        let event = Event::Call(Box::new(call), write);
+        if let Err(found) = self.pair.event(&event, &mut self.counts) {
+            panic!("{found}");
+        }
+        self.counts.only_answer()
+    }
+
+    fn queue(&self) -> Queue {
+        self.pair.queue()
+    }
+
+    fn state(&self, id: Id) -> (State, Reason) {
+        let queue = self.queue();
+        let record = queue.record(&id).expect("a record");
+        (record.state, record.reason)
+    }
+}
+
+fn admission(id: Id, input: u8, signed: usize) -> Admission {
+    Admission {
+        id,
+        inputs: vec![[input; 32]],
+        outputs: Vec::new(),
+        signed: vec![1; signed],
+        now: TimeMs(5),
+        time_deadline: None,
+        height_deadline: None,
+        priority: 0,
+        label: None,
+        fee: 1,
+        cost: 1,
+        tip_height: Height(1),
+        tip: None,
+    }
+}
+
+fn admit(id: Id, input: u8, signed: usize) -> Call {
+    Call::Admit(admission(id, input, signed))
+}
+
+fn reconciliation(height: u32, applied: &[(Id, u32, Id)], window: u32) -> Reconciliation {
+    let applied: BTreeMap<Id, Confirmation> = applied
+        .iter()
+        .map(|(id, height, block)| {
+            let found = Confirmation {
+                height: Height(*height),
+                block: *block,
+            };
+            (*id, found)
+        })
+        .collect();
+    Reconciliation {
+        height: Height(height),
+        tip: T1,
+        applied,
+        caught_up: false,
+        available: BTreeSet::new(),
+        window,
+    }
+}
+
+fn reconcile(height: u32, applied: &[(Id, u32, Id)], window: u32) -> Call {
+    Call::Reconcile(reconciliation(height, applied, window))
+}
+
+fn reopen(id: Id) -> Call {
+    Call::Reopen(BTreeSet::from([id]))
+}
+
+#[test]
+fn a_deadline_6_at_5_enters_5_does_not() {
+    let mut cards = Cards::new("deadline", [2, 10, 1, 1], None);
+    for (deadline, answer) in [(5, "7"), (6, "kind 2")] {
+        let mut given = admission(A, 1, 1);
+        given.time_deadline = Some(TimeMs(deadline));
+        assert_eq!(cards.call(Call::Admit(given)), answer);
+    }
+    let mut given = admission(B, 2, 1);
+    given.height_deadline = Some(Height(9));
+    given.tip_height = Height(9);
+    assert_eq!(cards.call(Call::Admit(given)), "8");
+}
+
+#[test]
+fn b_10_takes_6_and_4_but_not_6_and_5() {
+    let mut cards = Cards::new("bytes", [2, 10, 1, 1], None);
+    assert_eq!(cards.call(admit(A, 1, 6)), "kind 2");
+    assert_eq!(cards.call(admit(B, 2, 5)), "11");
+    assert_eq!(cards.call(admit(B, 2, 4)), "kind 2");
+    assert_eq!(cards.call(admit([3; 32], 3, 0)), "10");
+}
+
+#[test]
+fn the_window_releases_by_depth() {
+    for (height, window, released) in [(50, 0, true), (50, 1, false), (51, 1, true)] {
+        let mut cards = Cards::new("window", [2, 10, 1, 1], None);
+        cards.call(admit(A, 1, 6));
+        cards.call(reconcile(49, &[(A, 50, T1)], 9));
+        assert_eq!(cards.state(A), (State::Mined, Reason::None));
+        cards.call(reconcile(height, &[], window));
+        let queue = cards.queue();
+        assert_eq!(queue.record(&A).unwrap().holder.is_none(), released);
+    }
+}
+
+#[test]
+fn a_cursor_write_is_due_after_32_blocks() {
+    let mut start = Queue::fresh(Limits::checked(2, 10, 1, 1).unwrap());
+    start.persisted = Height(100);
+    start.cursor = Height(100);
+    for (height, kind) in [(131, "kind 1"), (132, "kind 3"), (99, "kind 1")] {
+        let mut cards = Cards::new("cursor", [2, 10, 1, 1], Some(start.clone()));
+        assert_eq!(cards.call(reconcile(height, &[], 1)), kind);
+    }
+}
+
+#[test]
+fn a_failed_cursor_write_is_due_again() {
+    let mut cards = Cards::new("cursor-failed", [2, 10, 1, 1], None);
+    let call = reconcile(32, &[], 1);
+    assert_eq!(
+        cards.with_write(call.clone(), Write::NotCreated),
+        "17 after kind 3"
+    );
+    assert_eq!(cards.queue().cursor, Height(32));
+    assert_eq!(cards.queue().persisted, Height(0));
+    assert_eq!(cards.call(call), "kind 3");
+    assert_eq!(cards.queue().persisted, Height(32));
+}
+
+#[test]
+fn cancelled_confirmed_reopened_is_cancelled() {
+    let mut cards = Cards::new("cancelled", [2, 10, 1, 1], None);
+    cards.call(admit(A, 1, 6));
+    cards.call(Call::Cancel(A));
+    cards.call(reconcile(2, &[(A, 2, T1)], 9));
+    // Confirmed at another place it keeps its mark.
+    assert_eq!(cards.call(reconcile(3, &[(A, 3, T2)], 9)), "kind 2");
+    let queue = cards.queue();
+    assert_eq!(queue.record(&A).unwrap().withdrawn, Withdrawn::Cancelled);
+    assert_eq!(cards.call(Call::Cancel(A)), "14");
+    assert_eq!(cards.call(admit(A, 1, 1)), "kind 0");
+    assert_eq!(cards.call(reopen(A)), "kind 2");
+    assert_eq!(cards.state(A), (State::Cancelled, Reason::Cancelled));
+    assert_eq!(cards.queue().record(&A).unwrap().finish.0, 1);
+}
+
+#[test]
+fn released_reopened_is_expired() {
+    let mut cards = Cards::new("released", [2, 10, 1, 1], None);
+    cards.call(admit(A, 1, 6));
+    assert_eq!(cards.call(reconcile(2, &[(A, 2, T1)], 0)), "kind 2");
+    assert_eq!(cards.call(reopen(A)), "kind 2");
+    assert_eq!(
+        cards.state(A),
+        (State::Expired, Reason::RolledBackAfterRelease)
+    );
+    assert_eq!(cards.call(reopen(A)), "kind 0");
+}
+
+#[test]
+fn of_two_cancelled_under_t_1_the_second_remains() {
+    let mut cards = Cards::new("forgotten", [2, 10, 1, 1], None);
+    cards.call(admit(A, 1, 1));
+    cards.call(admit(B, 2, 1));
+    cards.call(Call::Cancel(B));
+    cards.call(Call::Cancel(A));
+    let ids: Vec<Id> = cards
+        .queue()
+        .records
+        .iter()
+        .map(|record| record.id)
+        .collect();
+    assert_eq!(ids, [A]);
+    assert_eq!(cards.call(Call::Cancel(B)), "13");
+}
+
+#[test]
+fn the_revision_wraps() {
+    let mut start = Queue::fresh(Limits::checked(2, 10, 1, 1).unwrap());
+    start.revision = u64::MAX;
+    let mut cards = Cards::new("revision", [2, 10, 1, 1], Some(start));
+    cards.call(admit(A, 1, 1));
+    assert_eq!(cards.queue().revision, 0);
+}
+
+#[test]
+fn an_admission_into_no_records_moves_the_cursor() {
+    let mut cards = Cards::new("tip", [2, 10, 1, 1], None);
+    cards.call(Call::SetCursor(Height(5), Some(T2)));
+    let mut given = admission(A, 1, 1);
+    given.tip_height = Height(3);
+    cards.call(Call::Admit(given.clone()));
+    assert_eq!((cards.queue().cursor, cards.queue().tip), (Height(3), None));
+    // Tombstones are records.
+    cards.call(Call::Cancel(A));
+    given.tip_height = Height(9);
+    cards.call(Call::Admit(given));
+    assert_eq!(cards.queue().cursor, Height(3));
+}
+
+#[test]
+fn outputs_count_by_the_state_at_entry() {
+    let mut cards = Cards::new("outputs", [3, 10, 1, 1], None);
+    let mut parent = admission(A, 1, 1);
+    parent.outputs = vec![[2; 32]];
+    cards.call(Call::Admit(parent));
+    cards.call(admit(B, 2, 1));
+    let mut given = reconciliation(2, &[], 9);
+    given.caught_up = true;
+    cards.call(Call::Reconcile(given.clone()));
+    // The parent's input is unavailable; the child's is the parent's output, Queued at entry.
+    assert_eq!(cards.state(A).0, State::Conflicted);
+    assert_eq!(cards.state(B).0, State::Queued);
+    cards.call(Call::Reconcile(given.clone()));
+    assert_eq!(cards.state(B).0, State::Conflicted);
+    given.available = BTreeSet::from([[1; 32]]);
+    cards.call(Call::Reconcile(given.clone()));
+    assert_eq!(cards.state(A).0, State::Queued);
+    assert_eq!(cards.state(B).0, State::Conflicted);
+    cards.call(Call::Reconcile(given));
+    assert_eq!(cards.state(B).0, State::Queued);
+}
+
+#[test]
+fn an_applied_height_above_the_call_has_depth_0() {
+    for (window, released) in [(0, true), (1, false)] {
+        let mut cards = Cards::new("depth", [2, 10, 1, 1], None);
+        cards.call(admit(A, 1, 1));
+        cards.call(reconcile(2, &[(A, 7, T1)], window));
+        let queue = cards.queue();
+        assert_eq!(queue.record(&A).unwrap().holder.is_none(), released);
+    }
+}

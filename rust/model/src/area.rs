@@ -1,0 +1,59 @@
+//! The area: docs/AREA.md.
+
+use crate::frame::{self, Reader};
+use crate::sound::is_sound;
+use crate::values::{Height, Id, Queue};
+
+/// Persisted height, header frame, record frames, zeros up to the need. A queue that is not
+/// sound may take more than the need.
+pub fn encode(queue: &Queue) -> Vec<u8> {
+    let mut bytes = used(queue);
+    let length = bytes.len().max(queue.limits.need());
+    bytes.resize(length, 0);
+    bytes
+}
+
+/// The encoding without the zeros.
+fn used(queue: &Queue) -> Vec<u8> {
+    let mut bytes = queue.persisted.0.to_be_bytes().to_vec();
+    bytes.extend(frame::header(queue));
+    for record in &queue.records {
+        bytes.extend(frame::record(record));
+    }
+    bytes
+}
+
+/// The queue whose encoding the area starts with; nothing unless that queue is sound and the
+/// area is as long as its limits need.
+pub fn decode(area: &[u8]) -> Option<Queue> {
+    let queue = parse(area)?;
+    let need = queue.limits.need();
+    let sound = area.len() >= need && is_sound(&queue) && area[..need] == encode(&queue);
+    sound.then_some(queue)
+}
+
+fn parse(area: &[u8]) -> Option<Queue> {
+    let mut reader = Reader::new(area);
+    let persisted = Height(reader.u32()?);
+    let header = reader.header()?;
+    let mut queue = header.queue;
+    queue.persisted = persisted;
+    for _ in 0..header.record_count {
+        queue.records.push(reader.record()?);
+    }
+    Some(queue)
+}
+
+/// Where a holder's signed bytes stand in the area of this queue: start and length.
+pub fn signed_bytes_place(queue: &Queue, id: &Id) -> Option<(usize, usize)> {
+    let mut end = 4 + frame::header(queue).len();
+    for record in &queue.records {
+        end += frame::record(record).len();
+        if record.id == *id {
+            // The signed bytes are the last field of a holder's frame.
+            let length = record.holder.as_ref()?.bytes.len();
+            return Some((end - length, length));
+        }
+    }
+    None
+}

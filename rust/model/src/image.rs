@@ -1,0 +1,75 @@
+//! The image: lines of lowercase hexadecimal, one frame a line, each ended by byte 10.
+
+use crate::frame::{self, Reader};
+use crate::sound::is_sound;
+use crate::values::Queue;
+
+const LINE_END: u8 = 10;
+
+pub fn encode(queue: &Queue) -> Vec<u8> {
+    let mut text = Vec::new();
+    put_line(&mut text, &frame::header(queue));
+    for record in &queue.records {
+        put_line(&mut text, &frame::record(record));
+    }
+    text
+}
+
+fn put_line(text: &mut Vec<u8>, frame: &[u8]) {
+    for byte in frame {
+        text.push(digit(byte >> 4));
+        text.push(digit(byte & 15));
+    }
+    text.push(LINE_END);
+}
+
+fn digit(value: u8) -> u8 {
+    b"0123456789abcdef"[usize::from(value)]
+}
+
+/// The queue of which this is the image, persisted set to the cursor height; nothing unless
+/// that queue is sound.
+pub fn decode(text: &[u8]) -> Option<Queue> {
+    let queue = parse(text)?;
+    (is_sound(&queue) && encode(&queue) == text).then_some(queue)
+}
+
+fn parse(text: &[u8]) -> Option<Queue> {
+    let mut lines = text.split_inclusive(|byte| *byte == LINE_END);
+    let header = whole_frame(lines.next()?, |reader| reader.header())?;
+    let mut queue = header.queue;
+    queue.persisted = queue.cursor;
+    for line in lines {
+        queue
+            .records
+            .push(whole_frame(line, |reader| reader.record())?);
+    }
+    (queue.records.len() as u64 == u64::from(header.record_count)).then_some(queue)
+}
+
+/// What `read` reads from the line's bytes, all of them.
+fn whole_frame<T>(line: &[u8], read: impl Fn(&mut Reader<'_>) -> Option<T>) -> Option<T> {
+    let bytes = line_bytes(line)?;
+    let mut reader = Reader::new(&bytes);
+    let value = read(&mut reader)?;
+    reader.rest().is_empty().then_some(value)
+}
+
+fn line_bytes(line: &[u8]) -> Option<Vec<u8>> {
+    let (end, digits) = line.split_last()?;
+    if *end != LINE_END || digits.len() % 2 != 0 {
+        return None;
+    }
+    digits
+        .chunks(2)
+        .map(|two| Some(value(two[0])? << 4 | value(two[1])?))
+        .collect()
+}
+
+fn value(digit: u8) -> Option<u8> {
+    match digit {
+        b'0'..=b'9' => Some(digit - b'0'),
+        b'a'..=b'f' => Some(digit - b'a' + 10),
+        _ => None,
+    }
+}

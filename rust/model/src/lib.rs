@@ -1,0 +1,23 @@
+//! The private transaction queue of document 01 in plain Rust, written from document 01,
+//! docs/AREA.md and docs/CALLS.md. Tests compare other implementations with it.
+//!
+//! - [`values`]: limits, records and the queue.
+//! - [`sound`]: which queues are sound, rule by rule.
+//! - [`frame`], [`area`], [`image`]: the encodings.
+//! - [`rules`]: each call as a function on queues.
+//! - [`calls`]: each call as the exported function of that name has it, on lent bytes.
+//! - [`random`]: random sound queues and damaged bytes for tests.
+
+pub mod area;
+pub mod calls;
+pub mod frame;
+pub mod image;
+pub mod random;
+pub mod rules;
+pub mod sound;
+pub mod values;
+
+pub use values::{
+    Confirmation, FinishNumber, Height, Holder, Id, Limits, Queue, Reason, Record, State, TimeMs,
+    Withdrawn,
+};

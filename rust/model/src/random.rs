@@ -1,0 +1,443 @@
+//! Random values for tests: small numbers and small sets of ids, so that edges are met often.
+
+use std::collections::BTreeSet;
+
+use crate::sound::is_sound;
+use crate::values::{
+    Confirmation, FinishNumber, Height, Holder, Id, Limits, Queue, Reason, Record, State, TimeMs,
+    Withdrawn,
+};
+
+/// A pseudo-random generator (SplitMix64).
+#[derive(Debug, Clone)]
+pub struct Rng(u64);
+
+impl Rng {
+    pub fn new(seed: u64) -> Self {
+        Self(seed)
+    }
+
+    pub fn u64(&mut self) -> u64 {
+        self.0 = self.0.wrapping_add(0x9e37_79b9_7f4a_7c15);
+        let mut z = self.0;
+        z = (z ^ (z >> 30)).wrapping_mul(0xbf58_476d_1ce4_e5b9);
+        z = (z ^ (z >> 27)).wrapping_mul(0x94d0_49bb_1331_11eb);
+        z ^ (z >> 31)
+    }
+
+    /// From 0 to `bound` - 1; 0 for a bound of 0.
+    pub fn below(&mut self, bound: usize) -> usize {
+        (self.u64() % (bound.max(1) as u64)) as usize
+    }
+
+    /// From 0 to `top`.
+    pub fn up_to(&mut self, top: usize) -> usize {
+        self.below(top + 1)
+    }
+
+    /// True once in `of` times.
+    pub fn once_in(&mut self, of: usize) -> bool {
+        self.below(of) == 0
+    }
+
+    pub fn pick<T: Copy>(&mut self, from: &[T]) -> T {
+        from[self.below(from.len())]
+    }
+
+    pub fn bytes(&mut self, length: usize) -> Vec<u8> {
+        (0..length).map(|_| self.u64() as u8).collect()
+    }
+
+    pub fn optional<T>(&mut self, make: impl FnOnce(&mut Self) -> T) -> Option<T> {
+        if self.once_in(2) {
+            Some(make(self))
+        } else {
+            None
+        }
+    }
+}
+
+/// The `n`-th id of a set. Some differ in the first byte alone, some in the last ones alone.
+pub fn nth_id(n: usize) -> Id {
+    let mut id = [0x80; 32];
+    id[0] = (n % 3) as u8 * 0x7f;
+    id[28..].copy_from_slice(&(n as u32 / 3).to_be_bytes());
+    id
+}
+
+/// An id for a transaction: of a set not much larger than the queue.
+pub fn tx_id(rng: &mut Rng, limits: &Limits) -> Id {
+    nth_id(rng.below(tx_id_count(limits)))
+}
+
+fn tx_id_count(limits: &Limits) -> usize {
+    (2 * limits.pending + limits.tombstones + 2) as usize
+}
+
+/// An id for an input or an output.
+pub fn box_id(rng: &mut Rng, limits: &Limits) -> Id {
+    nth_id(rng.below(box_id_count(limits)))
+}
+
+fn box_id_count(limits: &Limits) -> usize {
+    (2 * limits.pending * limits.inputs + 3) as usize
+}
+
+/// At most K ids for inputs or outputs.
+pub fn box_ids(rng: &mut Rng, limits: &Limits) -> Vec<Id> {
+    let count = rng.up_to(limits.inputs as usize);
+    (0..count).map(|_| box_id(rng, limits)).collect()
+}
+
+pub fn block_id(rng: &mut Rng) -> Id {
+    nth_id(rng.below(3))
+}
+
+pub fn small_limits(rng: &mut Rng) -> Limits {
+    Limits {
+        pending: 1 + rng.below(3) as u32,
+        bytes: rng.pick(&[1, 2, 5, 10]),
+        tombstones: 1 + rng.below(3) as u32,
+        inputs: 1 + rng.below(3) as u32,
+    }
+}
+
+pub fn time(rng: &mut Rng) -> TimeMs {
+    TimeMs(match rng.below(8) {
+        0 => 0,
+        1 => u64::MAX,
+        _ => rng.below(10) as u64,
+    })
+}
+
+pub fn height(rng: &mut Rng) -> Height {
+    Height(match rng.below(12) {
+        0 => 0,
+        1 => u32::MAX,
+        2 => u32::MAX - rng.below(40) as u32,
+        3..=6 => 30 + rng.below(10) as u32,
+        _ => rng.below(10) as u32,
+    })
+}
+
+pub fn priority(rng: &mut Rng) -> i32 {
+    rng.pick(&[0, 0, 1, -1, i32::MAX, i32::MIN])
+}
+
+/// A label in UTF-8, rarely a long one.
+pub fn label(rng: &mut Rng) -> Vec<u8> {
+    let length = match rng.below(10) {
+        0 => 200,
+        1 => 199,
+        _ => rng.below(4),
+    };
+    vec![b'a' + rng.below(26) as u8; length]
+}
+
+/// Any sound queue under these limits, reachable by calls or not.
+pub fn queue(rng: &mut Rng, limits: Limits) -> Queue {
+    let mut queue = Queue {
+        limits,
+        persisted: height(rng),
+        revision: rng.pick(&[0, 1, 7, u64::MAX - 1, u64::MAX]),
+        cursor: height(rng),
+        tip: rng.optional(block_id),
+        counter: FinishNumber(0),
+        records: Vec::new(),
+    };
+    let mut room = Room::new(&limits);
+    let density = rng.below(4);
+    for n in 0..tx_id_count(&limits) {
+        if rng.below(4) <= density {
+            queue.records.extend(room.record(rng, nth_id(n)));
+        }
+    }
+    queue.records.sort_by_key(|record| record.id);
+    number_tombstones(rng, &mut queue);
+    debug_assert!(is_sound(&queue));
+    queue
+}
+
+/// What the limits still allow.
+struct Room {
+    limits: Limits,
+    holders: usize,
+    holder_bytes: usize,
+    mined: usize,
+    mined_bytes: usize,
+    tombstones: usize,
+    inputs: Vec<Id>,
+}
+
+impl Room {
+    fn new(limits: &Limits) -> Self {
+        Self {
+            limits: *limits,
+            holders: 2 * limits.pending as usize,
+            holder_bytes: 2 * limits.bytes as usize,
+            mined: limits.pending as usize,
+            mined_bytes: limits.bytes as usize,
+            tombstones: limits.tombstones as usize,
+            inputs: (0..box_id_count(limits)).map(nth_id).collect(),
+        }
+    }
+
+    /// A record of a random state; nothing where the limits do not allow one.
+    fn record(&mut self, rng: &mut Rng, id: Id) -> Option<Record> {
+        let state = rng.pick(&[
+            State::Queued,
+            State::Queued,
+            State::Mined,
+            State::Conflicted,
+            State::Cancelled,
+            State::Expired,
+        ]);
+        let holds = state.is_pending() || (state == State::Mined && rng.once_in(2));
+        let holder = if holds {
+            Some(self.holder(rng, state)?)
+        } else {
+            self.tombstones = self.tombstones.checked_sub(1)?;
+            None
+        };
+        Some(self.filled(rng, id, state, holder))
+    }
+
+    fn holder(&mut self, rng: &mut Rng, state: State) -> Option<Holder> {
+        let mined = state == State::Mined;
+        if mined {
+            self.mined = self.mined.checked_sub(1)?;
+        }
+        self.holders = self.holders.checked_sub(1)?;
+        let room = if mined {
+            self.mined_bytes.min(self.holder_bytes)
+        } else {
+            self.holder_bytes
+        };
+        // Half of them so small that many have some bytes.
+        let share = (2 * self.limits.bytes / self.limits.pending) as usize;
+        let count = if rng.once_in(2) {
+            rng.up_to(room)
+        } else {
+            rng.up_to(room.min(share))
+        };
+        self.holder_bytes -= count;
+        if mined {
+            self.mined_bytes -= count;
+        }
+        Some(Holder {
+            inputs: self.take_inputs(rng),
+            outputs: box_ids(rng, &self.limits),
+            bytes: rng.bytes(count),
+        })
+    }
+
+    /// At most K inputs that no other record has; one may be repeated.
+    fn take_inputs(&mut self, rng: &mut Rng) -> Vec<Id> {
+        let mut inputs: Vec<Id> = Vec::new();
+        for _ in 0..rng.up_to(self.limits.inputs as usize) {
+            if !inputs.is_empty() && rng.once_in(4) {
+                inputs.push(rng.pick(&inputs.clone()));
+            } else if !self.inputs.is_empty() {
+                let at = rng.below(self.inputs.len());
+                inputs.push(self.inputs.swap_remove(at));
+            }
+        }
+        inputs
+    }
+
+    fn filled(&self, rng: &mut Rng, id: Id, state: State, holder: Option<Holder>) -> Record {
+        let reason = match state {
+            State::Queued => rng.pick(&[Reason::None, Reason::RolledBack]),
+            State::Conflicted => Reason::InputsUnavailable,
+            State::Mined => Reason::None,
+            State::Cancelled => Reason::Cancelled,
+            State::Expired => rng.pick(&[Reason::DeadlineElapsed, Reason::RolledBackAfterRelease]),
+        };
+        let withdrawn = match (state, &holder) {
+            (State::Mined, None) => {
+                rng.pick(&[Withdrawn::No, Withdrawn::Cancelled, Withdrawn::Expired])
+            }
+            _ => Withdrawn::No,
+        };
+        let size = match &holder {
+            Some(holder) => holder.bytes.len() as u32,
+            None => rng.pick(&[0, 3, u32::MAX]),
+        };
+        Record {
+            id,
+            state,
+            reason,
+            created: time(rng),
+            time_deadline: rng.optional(time),
+            height_deadline: rng.optional(height),
+            priority: priority(rng),
+            label: rng.optional(label),
+            fee: rng.pick(&[0, 7, u64::MAX]),
+            size,
+            cost: rng.pick(&[0, 9, u64::MAX]),
+            mined: (state == State::Mined).then(|| confirmation(rng)),
+            withdrawn,
+            finish: FinishNumber(0),
+            holder,
+        }
+    }
+}
+
+pub fn confirmation(rng: &mut Rng) -> Confirmation {
+    Confirmation {
+        height: height(rng),
+        block: block_id(rng),
+    }
+}
+
+/// Distinct finish numbers and a counter that is not below them, rarely near the top.
+fn number_tombstones(rng: &mut Rng, queue: &mut Queue) {
+    let tombstones = queue.tombstones().count() as u64;
+    let spare = rng.below(4) as u64;
+    let first = if rng.once_in(6) {
+        u64::MAX - tombstones - spare
+    } else {
+        rng.below(3) as u64
+    };
+    queue.counter = FinishNumber(first + tombstones + rng.up_to(spare as usize) as u64);
+    let span = queue.counter.0.min(tombstones + 3);
+    let mut used = BTreeSet::from([0]);
+    for record in &mut queue.records {
+        if record.holder.is_none() {
+            let mut number = 0;
+            while !used.insert(number) {
+                number = queue.counter.0 - rng.below(span as usize) as u64;
+            }
+            record.finish = FinishNumber(number);
+        }
+    }
+}
+
+/// The queue with one value changed; mostly no longer sound.
+pub fn altered(rng: &mut Rng, queue: &Queue) -> Queue {
+    let mut queue = queue.clone();
+    match rng.below(8) {
+        0 => queue.limits = altered_limits(rng, queue.limits),
+        1 => queue.counter = FinishNumber(rng.below(3) as u64),
+        2 if !queue.records.is_empty() => {
+            let at = rng.below(queue.records.len());
+            queue.records.remove(at);
+        }
+        3 if !queue.records.is_empty() => {
+            let copy = queue.records[rng.below(queue.records.len())].clone();
+            let at = rng.up_to(queue.records.len());
+            queue.records.insert(at, copy);
+        }
+        4 if queue.records.len() > 1 => {
+            let (a, b) = (
+                rng.below(queue.records.len()),
+                rng.below(queue.records.len()),
+            );
+            queue.records.swap(a, b);
+        }
+        _ if !queue.records.is_empty() => {
+            let limits = queue.limits;
+            let at = rng.below(queue.records.len());
+            alter_record(rng, &limits, &mut queue.records[at]);
+        }
+        _ => {}
+    }
+    queue
+}
+
+/// One limit changed, to a small one or just beyond its range.
+fn altered_limits(rng: &mut Rng, mut limits: Limits) -> Limits {
+    let (limit, top) = match rng.below(4) {
+        0 => (&mut limits.pending, Limits::MAX_PENDING),
+        // An area for B beyond its range is large.
+        1 if rng.once_in(50) => (&mut limits.bytes, Limits::MAX_BYTES),
+        1 => (&mut limits.bytes, 2),
+        2 => (&mut limits.tombstones, Limits::MAX_TOMBSTONES),
+        _ => (&mut limits.inputs, Limits::MAX_INPUTS),
+    };
+    *limit = rng.pick(&[0, 1, 2, top + 1]);
+    limits
+}
+
+fn alter_record(rng: &mut Rng, limits: &Limits, record: &mut Record) {
+    match rng.below(12) {
+        0 => record.id = tx_id(rng, limits),
+        1 => record.state = random_state(rng),
+        2 => record.reason = random_reason(rng),
+        3 => record.mined = rng.optional(confirmation),
+        4 => {
+            record.withdrawn = rng.pick(&[Withdrawn::No, Withdrawn::Cancelled, Withdrawn::Expired])
+        }
+        5 => record.finish = FinishNumber(rng.below(5) as u64),
+        6 => record.size = rng.below(5) as u32,
+        7 => record.holder = None,
+        8 => {
+            let length = 198 + rng.below(6);
+            record.label = Some(vec![b'x'; length]);
+        }
+        _ => alter_holder(
+            rng,
+            limits,
+            record.holder.get_or_insert_with(Holder::default),
+        ),
+    }
+}
+
+fn alter_holder(rng: &mut Rng, limits: &Limits, holder: &mut Holder) {
+    match rng.below(4) {
+        0 => holder.bytes.push(0),
+        1 => holder.outputs.push(box_id(rng, limits)),
+        _ => holder.inputs.push(box_id(rng, limits)),
+    }
+}
+
+fn random_state(rng: &mut Rng) -> State {
+    rng.pick(&[
+        State::Queued,
+        State::Mined,
+        State::Conflicted,
+        State::Cancelled,
+        State::Expired,
+    ])
+}
+
+fn random_reason(rng: &mut Rng) -> Reason {
+    rng.pick(&[
+        Reason::None,
+        Reason::Cancelled,
+        Reason::DeadlineElapsed,
+        Reason::RolledBackAfterRelease,
+        Reason::RolledBack,
+        Reason::InputsUnavailable,
+    ])
+}
+
+/// Damages bytes: some changed, cut off, added or moved. `used` is the length of the part that
+/// says something.
+pub fn damage(rng: &mut Rng, bytes: &mut Vec<u8>, used: usize) {
+    let used = used.min(bytes.len());
+    match rng.below(8) {
+        0 => bytes.truncate(rng.below(bytes.len().max(1))),
+        1 => bytes.truncate(bytes.len().saturating_sub(1)),
+        2 => bytes.push(rng.u64() as u8),
+        3 if used > 0 => {
+            bytes.remove(rng.below(used));
+        }
+        4 => bytes.insert(rng.up_to(used), rng.u64() as u8),
+        _ if !bytes.is_empty() => change_bytes(rng, bytes, used),
+        _ => {}
+    }
+}
+
+fn change_bytes(rng: &mut Rng, bytes: &mut [u8], used: usize) {
+    for _ in 0..1 + rng.below(2) {
+        let within = if rng.once_in(6) { bytes.len() } else { used };
+        let at = rng.below(within);
+        bytes[at] = match rng.below(4) {
+            0 => rng.u64() as u8,
+            1 => bytes[at].wrapping_add(1),
+            2 => bytes[at].wrapping_sub(1),
+            _ => bytes[at] ^ 1 << rng.below(8),
+        };
+    }
+}

@@ -1,0 +1,236 @@
+//! The values of document 01.
+
+/// A transaction, input, output or block id.
+pub type Id = [u8; 32];
+
+/// A time in milliseconds.
+#[derive(Debug, Clone, Copy, PartialEq, Eq, PartialOrd, Ord)]
+pub struct TimeMs(pub u64);
+
+/// A block height.
+#[derive(Debug, Clone, Copy, PartialEq, Eq, PartialOrd, Ord)]
+pub struct Height(pub u32);
+
+/// The place of a tombstone in the order of finishing.
+#[derive(Debug, Clone, Copy, PartialEq, Eq, PartialOrd, Ord)]
+pub struct FinishNumber(pub u64);
+
+/// P, B, T and K.
+#[derive(Debug, Clone, Copy, PartialEq, Eq)]
+pub struct Limits {
+    /// P: pending records.
+    pub pending: u32,
+    /// B: signed bytes of pending records.
+    pub bytes: u32,
+    /// T: tombstones.
+    pub tombstones: u32,
+    /// K: inputs, and likewise outputs, of a transaction.
+    pub inputs: u32,
+}
+
+impl Limits {
+    pub const MAX_PENDING: u32 = 1_024;
+    pub const MAX_BYTES: u32 = 16_777_216;
+    pub const MAX_TOMBSTONES: u32 = 1_024;
+    pub const MAX_INPUTS: u32 = 128;
+
+    /// The limits with these numbers, if each is in range.
+    pub fn checked(pending: u64, bytes: u64, tombstones: u64, inputs: u64) -> Option<Limits> {
+        Some(Limits {
+            pending: in_range(pending, Self::MAX_PENDING)?,
+            bytes: in_range(bytes, Self::MAX_BYTES)?,
+            tombstones: in_range(tombstones, Self::MAX_TOMBSTONES)?,
+            inputs: in_range(inputs, Self::MAX_INPUTS)?,
+        })
+    }
+
+    /// The bytes that an area needs: 2B + 2P × (512 + 64K) + 512T + 512.
+    pub fn need(&self) -> usize {
+        let [p, b, t, k] = [self.pending, self.bytes, self.tombstones, self.inputs]
+            .map(|limit| usize::try_from(limit).expect("a limit fits"));
+        2 * b + 2 * p * (512 + 64 * k) + 512 * t + 512
+    }
+}
+
+fn in_range(limit: u64, top: u32) -> Option<u32> {
+    let limit = u32::try_from(limit).ok()?;
+    (1..=top).contains(&limit).then_some(limit)
+}
+
+#[derive(Debug, Clone, Copy, PartialEq, Eq)]
+pub enum State {
+    Queued = 0,
+    Mined = 2,
+    Conflicted = 3,
+    Cancelled = 4,
+    Expired = 5,
+}
+
+impl State {
+    pub fn from_number(number: u8) -> Option<State> {
+        match number {
+            0 => Some(State::Queued),
+            2 => Some(State::Mined),
+            3 => Some(State::Conflicted),
+            4 => Some(State::Cancelled),
+            5 => Some(State::Expired),
+            _ => None,
+        }
+    }
+
+    /// Pending is 0 or 3.
+    pub fn is_pending(self) -> bool {
+        matches!(self, State::Queued | State::Conflicted)
+    }
+}
+
+#[derive(Debug, Clone, Copy, PartialEq, Eq)]
+pub enum Reason {
+    None = 0,
+    Cancelled = 1,
+    DeadlineElapsed = 2,
+    RolledBackAfterRelease = 3,
+    RolledBack = 4,
+    InputsUnavailable = 5,
+}
+
+impl Reason {
+    pub fn from_number(number: u8) -> Option<Reason> {
+        match number {
+            0 => Some(Reason::None),
+            1 => Some(Reason::Cancelled),
+            2 => Some(Reason::DeadlineElapsed),
+            3 => Some(Reason::RolledBackAfterRelease),
+            4 => Some(Reason::RolledBack),
+            5 => Some(Reason::InputsUnavailable),
+            _ => None,
+        }
+    }
+}
+
+/// The withdrawn mark: the state that a confirmation overrode.
+#[derive(Debug, Clone, Copy, PartialEq, Eq)]
+pub enum Withdrawn {
+    No = 0,
+    Cancelled = 4,
+    Expired = 5,
+}
+
+impl Withdrawn {
+    pub fn from_number(number: u8) -> Option<Withdrawn> {
+        match number {
+            0 => Some(Withdrawn::No),
+            4 => Some(Withdrawn::Cancelled),
+            5 => Some(Withdrawn::Expired),
+            _ => None,
+        }
+    }
+}
+
+/// The block in which a record was found.
+#[derive(Debug, Clone, Copy, PartialEq, Eq)]
+pub struct Confirmation {
+    pub height: Height,
+    pub block: Id,
+}
+
+/// What a holder has and a tombstone has not.
+#[derive(Debug, Clone, PartialEq, Eq, Default)]
+pub struct Holder {
+    pub inputs: Vec<Id>,
+    pub outputs: Vec<Id>,
+    pub bytes: Vec<u8>,
+}
+
+/// One transaction with its state.
+#[derive(Debug, Clone, PartialEq, Eq)]
+pub struct Record {
+    pub id: Id,
+    pub state: State,
+    pub reason: Reason,
+    pub created: TimeMs,
+    pub time_deadline: Option<TimeMs>,
+    pub height_deadline: Option<Height>,
+    pub priority: i32,
+    pub label: Option<Vec<u8>>,
+    pub fee: u64,
+    pub size: u32,
+    pub cost: u64,
+    pub mined: Option<Confirmation>,
+    pub withdrawn: Withdrawn,
+    pub finish: FinishNumber,
+    /// Absent in a tombstone.
+    pub holder: Option<Holder>,
+}
+
+impl Record {
+    /// The input ids; a tombstone has none.
+    pub fn inputs(&self) -> &[Id] {
+        self.holder.as_ref().map_or(&[], |holder| &holder.inputs)
+    }
+
+    /// The number of signed bytes; 0 for a tombstone.
+    pub fn byte_count(&self) -> usize {
+        self.holder.as_ref().map_or(0, |holder| holder.bytes.len())
+    }
+
+    pub fn is_mined_holder(&self) -> bool {
+        self.state == State::Mined && self.holder.is_some()
+    }
+
+    /// Pending, with a time deadline ≤ now or a height deadline ≤ height.
+    pub fn is_due(&self, now: TimeMs, height: Height) -> bool {
+        let elapsed = self.time_deadline.is_some_and(|deadline| deadline <= now)
+            || self
+                .height_deadline
+                .is_some_and(|deadline| deadline <= height);
+        self.state.is_pending() && elapsed
+    }
+}
+
+#[derive(Debug, Clone, PartialEq, Eq)]
+pub struct Queue {
+    pub limits: Limits,
+    /// The cursor height that was last stored.
+    pub persisted: Height,
+    pub revision: u64,
+    /// The cursor: the height and, where given, the block that was observed last.
+    pub cursor: Height,
+    pub tip: Option<Id>,
+    /// The finish number that was given last.
+    pub counter: FinishNumber,
+    /// By id, rising.
+    pub records: Vec<Record>,
+}
+
+impl Queue {
+    pub fn fresh(limits: Limits) -> Queue {
+        Queue {
+            limits,
+            persisted: Height(0),
+            revision: 0,
+            cursor: Height(0),
+            tip: None,
+            counter: FinishNumber(0),
+            records: Vec::new(),
+        }
+    }
+
+    pub fn record(&self, id: &Id) -> Option<&Record> {
+        self.records.iter().find(|record| record.id == *id)
+    }
+
+    pub fn pending(&self) -> impl Iterator<Item = &Record> {
+        self.records
+            .iter()
+            .filter(|record| record.state.is_pending())
+    }
+
+    pub fn tombstones(&self) -> impl Iterator<Item = &Record> {
+        self.records.iter().filter(|record| record.holder.is_none())
+    }
+
+    pub fn holders(&self) -> impl Iterator<Item = &Record> {
+        self.records.iter().filter(|record| record.holder.is_some())
+    }
+}

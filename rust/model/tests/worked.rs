@@ -1,0 +1,89 @@
+//! The worked examples of docs/AREA.md and document 01, byte for byte.
+
+use model::{
+    area, calls, image, FinishNumber, Height, Limits, Queue, Reason, Record, State, TimeMs,
+    Withdrawn,
+};
+
+const HEADER: &str =
+    "01 00000002 0000000a 00000001 00000001 0000000000000000 00000000 00 0000000000000000 00000000";
+
+const CANCELLED: &str = "00000006 \
+    01 00000002 0000000a 00000001 00000001 0000000000000002 00000006 00 0000000000000001 00000001 \
+    02 1111111111111111111111111111111111111111111111111111111111111111 04 01 0000000000000005 \
+    00 00 ffffffff 00 0000000000000007 00000003 0000000000000009 00 00 0000000000000001 00";
+
+fn limits() -> Limits {
+    Limits::checked(2, 10, 1, 1).unwrap()
+}
+
+fn without_blanks(text: &str) -> String {
+    text.split_whitespace().collect()
+}
+
+fn unhex(text: &str) -> Vec<u8> {
+    let digits = without_blanks(text);
+    (0..digits.len())
+        .step_by(2)
+        .map(|at| u8::from_str_radix(&digits[at..at + 2], 16).unwrap())
+        .collect()
+}
+
+/// The bytes, then zeros up to the need.
+fn area_of(text: &str) -> Vec<u8> {
+    let mut bytes = unhex(text);
+    bytes.resize(limits().need(), 0);
+    bytes
+}
+
+#[test]
+fn fresh_area() {
+    assert_eq!(limits().need(), 3_348);
+    let expected = area_of(&format!("00000000 {HEADER}"));
+    assert_eq!(area::encode(&Queue::fresh(limits())), expected);
+    assert_eq!(area::decode(&expected), Some(Queue::fresh(limits())));
+    let mut lent = vec![0xee; 3_350];
+    assert_eq!(calls::fresh(2, 10, 1, 1, &mut lent), 100);
+    assert_eq!(lent[..3_348], expected);
+    assert_eq!(lent[3_348..], [0xee, 0xee]);
+}
+
+#[test]
+fn cancelled_area() {
+    let mut queue = Queue::fresh(limits());
+    queue.persisted = Height(6);
+    queue.revision = 2;
+    queue.cursor = Height(6);
+    queue.counter = FinishNumber(1);
+    queue.records.push(Record {
+        id: [0x11; 32],
+        state: State::Cancelled,
+        reason: Reason::Cancelled,
+        created: TimeMs(5),
+        time_deadline: None,
+        height_deadline: None,
+        priority: -1,
+        label: None,
+        fee: 7,
+        size: 3,
+        cost: 9,
+        mined: None,
+        withdrawn: Withdrawn::No,
+        finish: FinishNumber(1),
+        holder: None,
+    });
+    let expected = area_of(CANCELLED);
+    assert_eq!(area::encode(&queue), expected);
+    assert_eq!(area::decode(&expected), Some(queue));
+}
+
+#[test]
+fn fresh_image() {
+    let expected = format!("{}\n", without_blanks(HEADER));
+    assert_eq!(expected.len(), 85);
+    let fresh = Queue::fresh(limits());
+    assert_eq!(image::encode(&fresh), expected.as_bytes());
+    assert_eq!(image::decode(expected.as_bytes()), Some(fresh));
+    assert_eq!(image::decode(b"0A"), None);
+    assert_eq!(calls::open(b"0A", &mut []), 16);
+}

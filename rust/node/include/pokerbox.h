@@ -1,0 +1,160 @@
+/* The private transaction queue: the calls of libpokerbox.a. docs/CALLS.md and docs/AREA.md of the
+ * repository say what each does, byte by byte.
+ *
+ * A byte slice is a pointer and a length. A pointer is never null, even with length 0. What is
+ * written overlaps nothing else that is lent to the same call. Numbers in bytes are big-endian.
+ *
+ * Each call gives back one number:
+ *   1 to 17     a refusal; nothing lent has changed, except the next area after 17;
+ *   100         the call was answered;
+ *   100 to 103  a changing call's kind on top of 100: 0 nothing changed, 1 in memory only,
+ *               2 a whole write is due, 3 a cursor write is due.
+ *
+ * A flag is 0 or 1; what stands beside a flag of 0 is not looked at. An id has 32 bytes. A list of
+ * ids is 32 bytes an id. */
+
+#ifndef POKERBOX_H
+#define POKERBOX_H
+
+#include <stddef.h>
+#include <stdint.h>
+
+#ifdef __cplusplus
+extern "C" {
+#endif
+
+/* Refusals. */
+#define POKERBOX_LIMIT_OUT_OF_RANGE 1
+#define POKERBOX_AREA_TOO_SHORT 2
+#define POKERBOX_AREA_NOT_SOUND 3
+#define POKERBOX_OUTPUT_TOO_SHORT 4
+#define POKERBOX_MALFORMED 5
+#define POKERBOX_TOO_MANY_INPUTS 6
+#define POKERBOX_TIME_DEADLINE_ELAPSED 7
+#define POKERBOX_HEIGHT_DEADLINE_ELAPSED 8
+#define POKERBOX_LABEL_TOO_LONG 9
+#define POKERBOX_QUEUE_FULL 10
+#define POKERBOX_BYTE_BUDGET_EXHAUSTED 11
+#define POKERBOX_INPUT_RESERVED 12
+#define POKERBOX_NOT_FOUND 13
+#define POKERBOX_ALREADY_MINED 14
+#define POKERBOX_COUNTER_EXHAUSTED 15
+#define POKERBOX_NOT_AN_IMAGE 16
+#define POKERBOX_WRITE_FAILED 17
+
+/* A fresh queue under the limits P, B, T, K into `area`, which needs
+ * 2B + 2P * (512 + 64K) + 512T + 512 bytes. Gives 1, 2 or 100. */
+uint64_t pokerbox_fresh(uint64_t pending, uint64_t bytes, uint64_t tombstones, uint64_t inputs,
+                        uint8_t *area, size_t area_len);
+
+/* 100 if the area holds a sound queue, else 3. */
+uint64_t pokerbox_sound(const uint8_t *area, size_t area_len);
+
+/* Withdraws a pending record. `out` gets its entry after the call. */
+uint64_t pokerbox_cancel(const uint8_t *cur, size_t cur_len, uint8_t *next, size_t next_len,
+                         const uint8_t *id, size_t id_len, uint8_t *out, size_t out_len);
+
+/* Withdraws the records whose deadline is due at `now` (milliseconds) or `height`. `out` gets a
+ * count of 4 bytes and their ids, rising. */
+uint64_t pokerbox_expire(const uint8_t *cur, size_t cur_len, uint8_t *next, size_t next_len,
+                         uint64_t now, uint32_t height, uint8_t *out, size_t out_len);
+
+/* Sets the observation cursor. */
+uint64_t pokerbox_set_cursor(const uint8_t *cur, size_t cur_len, uint8_t *next, size_t next_len,
+                             uint32_t height, uint8_t tip_flag, const uint8_t *tip,
+                             size_t tip_len);
+
+/* Settles a due write: kind 2 or 3, outcome 0 kept or 1 failed. The next area then holds the queue,
+ * also after 17. */
+uint64_t pokerbox_settle(const uint8_t *cur, size_t cur_len, uint8_t *next, size_t next_len,
+                         uint64_t kind, uint64_t outcome);
+
+/* The image of the queue at the start of `out`, its length behind `length`. */
+uint64_t pokerbox_image(const uint8_t *area, size_t area_len, uint8_t *out, size_t out_len,
+                        uint64_t *length);
+
+/* The queue of an image into `area`. Gives 16, 2 or 100. */
+uint64_t pokerbox_open(const uint8_t *text, size_t text_len, uint8_t *area, size_t area_len);
+
+/* The entry of one record. */
+uint64_t pokerbox_entry(const uint8_t *area, size_t area_len, const uint8_t *id, size_t id_len,
+                        uint8_t *out, size_t out_len);
+
+/* Where the record's signed bytes stand in the area: their start and their length. */
+uint64_t pokerbox_signed_bytes(const uint8_t *area, size_t area_len, const uint8_t *id,
+                               size_t id_len, uint64_t *start, uint64_t *length);
+
+/* As pokerbox_selection_entries_at with now 0 and height 0. */
+uint64_t pokerbox_selection_entries(const uint8_t *area, size_t area_len, uint8_t *out,
+                                    size_t out_len);
+
+/* A count of 4 bytes and the ids of the Queued records with deadlines after `now` and above
+ * `height`: priority falling, then created, then id rising. */
+uint64_t pokerbox_selection_entries_at(const uint8_t *area, size_t area_len, uint64_t now,
+                                       uint32_t height, uint8_t *out, size_t out_len);
+
+/* The revision behind `value`. */
+uint64_t pokerbox_revision(const uint8_t *area, size_t area_len, uint64_t *value);
+
+/* 1 behind `value` without records, else 0. */
+uint64_t pokerbox_is_empty(const uint8_t *area, size_t area_len, uint64_t *value);
+
+/* 1 behind `value` if a pending record's deadline is due, else 0. */
+uint64_t pokerbox_deadline_due(const uint8_t *area, size_t area_len, uint64_t now, uint32_t height,
+                               uint64_t *value);
+
+/* The cursor height behind `value`. */
+uint64_t pokerbox_observed_height(const uint8_t *area, size_t area_len, uint64_t *value);
+
+/* Height of 4 bytes, tip flag, and the tip of 32 bytes if there is one. */
+uint64_t pokerbox_observation_cursor(const uint8_t *area, size_t area_len, uint8_t *out,
+                                     size_t out_len);
+
+/* A count of 4 bytes and the ids of all records, rising. */
+uint64_t pokerbox_record_ids(const uint8_t *area, size_t area_len, uint8_t *out, size_t out_len);
+
+/* A count of 4 bytes and the ids of the holders, rising. */
+uint64_t pokerbox_guarded_ids(const uint8_t *area, size_t area_len, uint8_t *out, size_t out_len);
+
+/* A count of 4 bytes and the entries of all records, by id. */
+uint64_t pokerbox_list(const uint8_t *area, size_t area_len, uint8_t *out, size_t out_len);
+
+/* A count of 4 bytes, then id and state of each record that is due, by id. */
+uint64_t pokerbox_due(const uint8_t *area, size_t area_len, uint64_t now, uint32_t height,
+                      uint8_t *out, size_t out_len);
+
+/* A count of 4 bytes, then id, mined height of 4 bytes and block id of each Mined record, by id. */
+uint64_t pokerbox_confirmations(const uint8_t *area, size_t area_len, uint8_t *out,
+                                size_t out_len);
+
+/* NOT EXPORTED YET: linking one of these fails.
+
+uint64_t pokerbox_admit(const uint8_t *cur, size_t cur_len, uint8_t *next, size_t next_len,
+                        const uint8_t *id, size_t id_len, const uint8_t *inputs, size_t inputs_len,
+                        const uint8_t *outputs, size_t outputs_len, const uint8_t *signed_bytes,
+                        size_t signed_len, uint64_t now, uint8_t time_flag, uint64_t time,
+                        uint8_t height_flag, uint32_t height, uint32_t priority,
+                        uint8_t label_flag, const uint8_t *label, size_t label_len, uint64_t fee,
+                        uint64_t cost, uint32_t tip_height, uint8_t tip_flag, const uint8_t *tip,
+                        size_t tip_len, uint8_t *out, size_t out_len);
+uint64_t pokerbox_reconcile(const uint8_t *cur, size_t cur_len, uint8_t *next, size_t next_len,
+                            uint32_t height, const uint8_t *tip, size_t tip_len,
+                            const uint8_t *applied, size_t applied_len, uint8_t caught_up,
+                            const uint8_t *available, size_t available_len, uint32_t window,
+                            uint8_t *out, size_t out_len);
+uint64_t pokerbox_reopen(const uint8_t *cur, size_t cur_len, uint8_t *next, size_t next_len,
+                         const uint8_t *ids, size_t ids_len);
+uint64_t pokerbox_reserved_inputs(const uint8_t *area, size_t area_len, uint8_t *out,
+                                  size_t out_len);
+uint64_t pokerbox_reservation_snapshot(const uint8_t *area, size_t area_len, uint8_t *out,
+                                       size_t out_len);
+uint64_t pokerbox_guard_snapshot(const uint8_t *area, size_t area_len, uint8_t *out,
+                                 size_t out_len);
+
+*/
+
+#ifdef __cplusplus
+}
+#endif
+
+#endif

@@ -1,0 +1,190 @@
+//! Answers, read from the bytes that a call wrote.
+
+use crate::types::{BlockId, Height, InputId, Limits, Reason, State, TimeMs, TxId};
+
+/// What the queue says of one record. Signed bytes are handed out by another call.
+#[derive(Debug, Clone, PartialEq, Eq)]
+pub struct Entry {
+    pub id: TxId,
+    pub state: State,
+    pub reason: Reason,
+    pub created: TimeMs,
+    pub time_deadline: Option<TimeMs>,
+    pub height_deadline: Option<Height>,
+    pub priority: i32,
+    pub label: Option<Vec<u8>>,
+    pub fee: u64,
+    pub size: u32,
+    pub cost: u64,
+    pub mined: Option<(Height, BlockId)>,
+    pub inputs: Vec<InputId>,
+}
+
+impl Entry {
+    /// No entry is longer: 121 bytes and what a label and K inputs take.
+    pub(crate) fn max_len(limits: &Limits) -> usize {
+        121 + 200 + 32 * limits.inputs() as usize
+    }
+}
+
+/// What a reconciliation answers.
+#[derive(Debug, Clone, PartialEq, Eq)]
+pub struct Reconciled {
+    pub changed: bool,
+    /// In the order in which they were finished.
+    pub released: Vec<TxId>,
+}
+
+/// A record that expiry would finish.
+#[derive(Debug, Clone, Copy, PartialEq, Eq)]
+pub struct Due {
+    pub id: TxId,
+    pub state: State,
+}
+
+/// A record that was found in a block.
+#[derive(Debug, Clone, Copy, PartialEq, Eq)]
+pub struct Confirmation {
+    pub id: TxId,
+    pub height: Height,
+    pub block: BlockId,
+}
+
+/// Reads an answer from its start. The library writes whole answers; anything else is a fault of
+/// the library and stops the program.
+pub(crate) struct Reader<'a> {
+    rest: &'a [u8],
+}
+
+impl<'a> Reader<'a> {
+    pub fn new(answer: &'a [u8]) -> Self {
+        Self { rest: answer }
+    }
+
+    fn take(&mut self, count: usize) -> &'a [u8] {
+        let (taken, rest) = self
+            .rest
+            .split_at_checked(count)
+            .expect("libpokerbox.a wrote an answer that is not whole");
+        self.rest = rest;
+        taken
+    }
+
+    fn array<const N: usize>(&mut self) -> [u8; N] {
+        self.take(N).try_into().expect("as long as asked for")
+    }
+
+    fn byte(&mut self) -> u8 {
+        self.array::<1>()[0]
+    }
+
+    fn u32(&mut self) -> u32 {
+        u32::from_be_bytes(self.array())
+    }
+
+    pub fn u64(&mut self) -> u64 {
+        u64::from_be_bytes(self.array())
+    }
+
+    pub fn flag(&mut self) -> bool {
+        self.byte() != 0
+    }
+
+    fn optional<T>(&mut self, read: impl FnOnce(&mut Self) -> T) -> Option<T> {
+        if self.flag() {
+            Some(read(self))
+        } else {
+            None
+        }
+    }
+
+    fn many<T>(&mut self, count: usize, mut read: impl FnMut(&mut Self) -> T) -> Vec<T> {
+        (0..count).map(|_| read(self)).collect()
+    }
+
+    /// A count of 4 bytes, then as many of what `read` reads.
+    pub fn counted<T>(&mut self, read: impl FnMut(&mut Self) -> T) -> Vec<T> {
+        let count = self.u32() as usize;
+        self.many(count, read)
+    }
+
+    pub fn tx_id(&mut self) -> TxId {
+        TxId(self.array())
+    }
+
+    pub fn input_id(&mut self) -> InputId {
+        InputId(self.array())
+    }
+
+    fn block_id(&mut self) -> BlockId {
+        BlockId(self.array())
+    }
+
+    fn height(&mut self) -> Height {
+        Height(self.u32())
+    }
+
+    fn state(&mut self) -> State {
+        State::from_number(self.byte()).expect("libpokerbox.a wrote an unlisted state")
+    }
+
+    fn reason(&mut self) -> Reason {
+        Reason::from_number(self.byte()).expect("libpokerbox.a wrote an unlisted reason")
+    }
+
+    fn label(&mut self) -> Vec<u8> {
+        let length = usize::from(self.byte());
+        self.take(length).to_vec()
+    }
+
+    /// Height 4, tip flag 1, tip 32.
+    pub fn cursor(&mut self) -> (Height, Option<BlockId>) {
+        (self.height(), self.optional(Self::block_id))
+    }
+
+    pub fn reconciled(&mut self) -> Reconciled {
+        Reconciled {
+            changed: self.flag(),
+            released: self.counted(Self::tx_id),
+        }
+    }
+
+    pub fn due(&mut self) -> Due {
+        Due {
+            id: self.tx_id(),
+            state: self.state(),
+        }
+    }
+
+    pub fn confirmation(&mut self) -> Confirmation {
+        Confirmation {
+            id: self.tx_id(),
+            height: self.height(),
+            block: self.block_id(),
+        }
+    }
+
+    pub fn entry(&mut self) -> Entry {
+        Entry {
+            id: self.tx_id(),
+            state: self.state(),
+            reason: self.reason(),
+            created: TimeMs(self.u64()),
+            time_deadline: self.optional(|reader| TimeMs(reader.u64())),
+            height_deadline: self.optional(Self::height),
+            priority: i32::from_be_bytes(self.array()),
+            label: self.optional(Self::label),
+            fee: self.u64(),
+            size: self.u32(),
+            cost: self.u64(),
+            mined: self.optional(|reader| (reader.height(), reader.block_id())),
+            inputs: self.inputs(),
+        }
+    }
+
+    /// Count 2, input ids.
+    fn inputs(&mut self) -> Vec<InputId> {
+        let count = usize::from(u16::from_be_bytes(self.array()));
+        self.many(count, Self::input_id)
+    }
+}

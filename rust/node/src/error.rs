@@ -1,0 +1,129 @@
+//! Document 01's refusals.
+
+use std::fmt;
+
+/// A refusal: document 01's numbers 1 to 17. Nothing lent has changed, except the next area after
+/// [`Error::WriteFailed`].
+#[derive(Debug, Clone, Copy, PartialEq, Eq, PartialOrd, Ord, Hash)]
+pub enum Error {
+    LimitOutOfRange = 1,
+    AreaTooShort = 2,
+    AreaNotSound = 3,
+    OutputTooShort = 4,
+    Malformed = 5,
+    TooManyInputs = 6,
+    TimeDeadlineElapsed = 7,
+    HeightDeadlineElapsed = 8,
+    LabelTooLong = 9,
+    QueueFull = 10,
+    ByteBudgetExhausted = 11,
+    InputReserved = 12,
+    NotFound = 13,
+    AlreadyMined = 14,
+    CounterExhausted = 15,
+    NotAnImage = 16,
+    WriteFailed = 17,
+}
+
+impl Error {
+    pub const ALL: [Error; 17] = [
+        Error::LimitOutOfRange,
+        Error::AreaTooShort,
+        Error::AreaNotSound,
+        Error::OutputTooShort,
+        Error::Malformed,
+        Error::TooManyInputs,
+        Error::TimeDeadlineElapsed,
+        Error::HeightDeadlineElapsed,
+        Error::LabelTooLong,
+        Error::QueueFull,
+        Error::ByteBudgetExhausted,
+        Error::InputReserved,
+        Error::NotFound,
+        Error::AlreadyMined,
+        Error::CounterExhausted,
+        Error::NotAnImage,
+        Error::WriteFailed,
+    ];
+
+    /// The number in document 01's table.
+    pub fn number(self) -> u64 {
+        self as u64
+    }
+
+    pub fn from_number(number: u64) -> Option<Error> {
+        Self::ALL.into_iter().find(|error| error.number() == number)
+    }
+
+    /// What is wrong, and what to do.
+    fn sentence(self) -> &'static str {
+        match self {
+            Error::LimitOutOfRange => {
+                "a limit is out of range: take P from 1 to 1,024, B from 1 to 16,777,216, T from 1 \
+                 to 1,024 and K from 1 to 128"
+            }
+            Error::AreaTooShort => {
+                "the area to write is too short: lend as many bytes as Limits::area_len says"
+            }
+            Error::AreaNotSound => {
+                "the lent area does not hold a sound queue: lend the area that the last call left, \
+                 or open the stored image again"
+            }
+            Error::OutputTooShort => {
+                "the output is shorter than the answer: lend a longer one and call again"
+            }
+            Error::Malformed => {
+                "an argument is malformed: an id has 32 bytes, a list is whole, the ids of \
+                 applied, available and reopening lists rise strictly, and a flag, kind or outcome \
+                 is a listed one; correct it and call again"
+            }
+            Error::TooManyInputs => {
+                "the transaction has more inputs or outputs than the limit K: queue a smaller one"
+            }
+            Error::TimeDeadlineElapsed => {
+                "the time deadline is not after now: give a later one, or none"
+            }
+            Error::HeightDeadlineElapsed => {
+                "the height deadline is not above the tip: give a higher one, or none"
+            }
+            Error::LabelTooLong => "the label has more than 200 bytes: give a shorter one",
+            Error::QueueFull => {
+                "as many records are pending as the limit P allows: cancel one, or wait for a block"
+            }
+            Error::ByteBudgetExhausted => {
+                "the signed bytes of pending records would exceed the limit B: cancel a record, or \
+                 wait for a block"
+            }
+            Error::InputReserved => {
+                "an input is already in another record: cancel that record, or spend another input"
+            }
+            Error::NotFound => {
+                "no record has this id, or the record has no signed bytes any more: ask for an id \
+                 that the queue lists"
+            }
+            Error::AlreadyMined => {
+                "the transaction is confirmed in a block and cannot be cancelled: leave it"
+            }
+            Error::CounterExhausted => {
+                "the finish counter has no number left: start a fresh queue in another file and \
+                 queue the pending transactions there"
+            }
+            Error::NotAnImage => {
+                "this is not the image of a sound queue: bring back a good copy of the file, or \
+                 move it away to start with an empty queue"
+            }
+            Error::WriteFailed => {
+                "the image was not written, and the call took no effect beyond the cursor: free or \
+                 replace the disk and make the call again"
+            }
+        }
+    }
+}
+
+impl fmt::Display for Error {
+    fn fmt(&self, f: &mut fmt::Formatter<'_>) -> fmt::Result {
+        write!(f, "refusal {}: {}", self.number(), self.sentence())
+    }
+}
+
+impl std::error::Error for Error {}

@@ -1,0 +1,191 @@
+//! Ids, times, heights, limits and kinds.
+
+use std::fmt;
+
+use crate::error::Error;
+
+macro_rules! ids {
+    ($($(#[$doc:meta])* $name:ident;)*) => {$(
+        $(#[$doc])*
+        #[derive(Clone, Copy, PartialEq, Eq, PartialOrd, Ord, Hash)]
+        pub struct $name(pub [u8; 32]);
+
+        impl fmt::Display for $name {
+            fn fmt(&self, f: &mut fmt::Formatter<'_>) -> fmt::Result {
+                self.0.iter().try_for_each(|byte| write!(f, "{byte:02x}"))
+            }
+        }
+
+        impl fmt::Debug for $name {
+            fn fmt(&self, f: &mut fmt::Formatter<'_>) -> fmt::Result {
+                write!(f, "{}({self})", stringify!($name))
+            }
+        }
+    )*};
+}
+
+ids! {
+    /// The id of a transaction, and so of its record.
+    TxId;
+    /// The id of a box that a transaction spends.
+    InputId;
+    /// The id of a box that a transaction makes.
+    OutputId;
+    /// The id of a block.
+    BlockId;
+}
+
+/// The input that spends this output has the same id.
+impl From<OutputId> for InputId {
+    fn from(output: OutputId) -> InputId {
+        InputId(output.0)
+    }
+}
+
+/// A time in milliseconds.
+#[derive(Debug, Clone, Copy, PartialEq, Eq, PartialOrd, Ord, Hash)]
+pub struct TimeMs(pub u64);
+
+/// A block height.
+#[derive(Debug, Clone, Copy, PartialEq, Eq, PartialOrd, Ord, Hash)]
+pub struct Height(pub u32);
+
+/// The limits of a queue, each in range.
+#[derive(Debug, Clone, Copy, PartialEq, Eq)]
+pub struct Limits {
+    pending: u32,
+    bytes: u32,
+    tombstones: u32,
+    inputs: u32,
+}
+
+impl Limits {
+    pub const MAX_PENDING: u32 = 1_024;
+    pub const MAX_BYTES: u32 = 16_777_216;
+    pub const MAX_TOMBSTONES: u32 = 1_024;
+    pub const MAX_INPUTS: u32 = 128;
+
+    /// The top settings.
+    pub const MAX: Limits = Limits {
+        pending: Self::MAX_PENDING,
+        bytes: Self::MAX_BYTES,
+        tombstones: Self::MAX_TOMBSTONES,
+        inputs: Self::MAX_INPUTS,
+    };
+
+    /// P pending records, B signed bytes, T tombstones, K inputs and likewise outputs in a
+    /// transaction.
+    pub fn new(pending: u32, bytes: u32, tombstones: u32, inputs: u32) -> Result<Limits, Error> {
+        let in_range = (1..=Self::MAX_PENDING).contains(&pending)
+            && (1..=Self::MAX_BYTES).contains(&bytes)
+            && (1..=Self::MAX_TOMBSTONES).contains(&tombstones)
+            && (1..=Self::MAX_INPUTS).contains(&inputs);
+        if !in_range {
+            return Err(Error::LimitOutOfRange);
+        }
+        Ok(Limits {
+            pending,
+            bytes,
+            tombstones,
+            inputs,
+        })
+    }
+
+    /// P.
+    pub fn pending(&self) -> u32 {
+        self.pending
+    }
+
+    /// B.
+    pub fn bytes(&self) -> u32 {
+        self.bytes
+    }
+
+    /// T.
+    pub fn tombstones(&self) -> u32 {
+        self.tombstones
+    }
+
+    /// K.
+    pub fn inputs(&self) -> u32 {
+        self.inputs
+    }
+
+    /// The bytes that an area needs: 2B + 2P × (512 + 64K) + 512T + 512.
+    pub fn area_len(&self) -> usize {
+        let [p, b, t, k] =
+            [self.pending, self.bytes, self.tombstones, self.inputs].map(|limit| limit as usize);
+        2 * b + 2 * p * (512 + 64 * k) + 512 * t + 512
+    }
+
+    /// The most records that a queue may have: 2P + T.
+    pub fn max_records(&self) -> usize {
+        2 * self.pending as usize + self.tombstones as usize
+    }
+
+    /// No image is longer: two digits for each byte of an area, and a line end for each frame.
+    pub fn max_image_len(&self) -> usize {
+        2 * self.area_len() + self.max_records() + 1
+    }
+}
+
+/// What is due after a changing call.
+#[derive(Debug, Clone, Copy, PartialEq, Eq, PartialOrd, Ord, Hash)]
+pub enum Kind {
+    /// Nothing changed, and the next area is untouched.
+    Nothing = 0,
+    /// The next area holds the queue; no write is due.
+    Memory = 1,
+    /// A write is due for a changed record.
+    Whole = 2,
+    /// A write is due for the cursor alone.
+    Cursor = 3,
+}
+
+#[derive(Debug, Clone, Copy, PartialEq, Eq, PartialOrd, Ord, Hash)]
+pub enum State {
+    Queued = 0,
+    Mined = 2,
+    Conflicted = 3,
+    Cancelled = 4,
+    Expired = 5,
+}
+
+impl State {
+    pub fn from_number(number: u8) -> Option<State> {
+        [
+            State::Queued,
+            State::Mined,
+            State::Conflicted,
+            State::Cancelled,
+            State::Expired,
+        ]
+        .into_iter()
+        .find(|state| *state as u8 == number)
+    }
+}
+
+#[derive(Debug, Clone, Copy, PartialEq, Eq, PartialOrd, Ord, Hash)]
+pub enum Reason {
+    None = 0,
+    Cancelled = 1,
+    DeadlineElapsed = 2,
+    RolledBackAfterRelease = 3,
+    RolledBack = 4,
+    InputsUnavailable = 5,
+}
+
+impl Reason {
+    pub fn from_number(number: u8) -> Option<Reason> {
+        [
+            Reason::None,
+            Reason::Cancelled,
+            Reason::DeadlineElapsed,
+            Reason::RolledBackAfterRelease,
+            Reason::RolledBack,
+            Reason::InputsUnavailable,
+        ]
+        .into_iter()
+        .find(|reason| *reason as u8 == number)
+    }
+}

@@ -1,0 +1,631 @@
+//! Each exported call against the model: numbers given back and all lent bytes, on good, short and
+//! damaged input.
+
+// Some parts wait for calls that are not exported yet.
+#![cfg_attr(not(all_exported), allow(dead_code))]
+
+mod common;
+
+use common::{
+    area_to_write, lent_flag, lent_id, lent_queue, many, output, same, same_change, same_reading,
+    same_values, sometimes_cut, Met,
+};
+use model::random::{self, Rng};
+use model::{area, calls, image, Limits, Queue};
+use pokerbox::raw;
+
+const CASES: u64 = 6_000;
+
+#[test]
+#[cfg(exported = "fresh")]
+fn fresh() {
+    let mut met = Met::default();
+    many(CASES, |rng| {
+        let limits = random::small_limits(rng);
+        let mut numbers = [
+            limits.pending,
+            limits.bytes,
+            limits.tombstones,
+            limits.inputs,
+        ]
+        .map(u64::from);
+        if rng.once_in(3) {
+            let tops = [1_024, 16_777_216, 1_024, 128];
+            let at = rng.below(4);
+            numbers[at] = rng.pick(&[0, tops[at] + 1, u64::MAX, 1 << 32 | 1]);
+        }
+        let [p, b, t, k] = numbers;
+        let lent = area_to_write(rng, &limits);
+        same(
+            &mut met,
+            &lent,
+            &[],
+            |lent, _| raw::fresh(p, b, t, k, lent),
+            |lent, _| calls::fresh(p, b, t, k, lent),
+        );
+    });
+    met.expect(&[1, 2, 100]);
+}
+
+#[test]
+#[cfg(exported = "fresh")]
+fn fresh_at_each_end_of_the_ranges() {
+    let mut met = Met::default();
+    for p in [0, 1, 1_024, 1_025] {
+        for t in [0, 1, 1_024, 1_025] {
+            for k in [0, 1, 128, 129] {
+                let limits = Limits::checked(p, 1, t, k);
+                let lent = vec![0xee; limits.map_or(600, |limits| limits.need() + 1)];
+                same(
+                    &mut met,
+                    &lent,
+                    &[],
+                    |lent, _| raw::fresh(p, 1, t, k, lent),
+                    |lent, _| calls::fresh(p, 1, t, k, lent),
+                );
+            }
+        }
+    }
+    for b in [0, 1, 16_777_216, 16_777_217] {
+        let lent = vec![0xee; 2 * 16_777_216 + 2_240];
+        same(
+            &mut met,
+            &lent,
+            &[],
+            |lent, _| raw::fresh(1, b, 1, 1, lent),
+            |lent, _| calls::fresh(1, b, 1, 1, lent),
+        );
+    }
+    met.expect(&[1, 100]);
+}
+
+#[test]
+#[cfg(exported = "sound")]
+fn sound() {
+    let mut met = Met::default();
+    many(4 * CASES, |rng| {
+        let (queue, mut lent) = lent_queue(rng);
+        if rng.once_in(3) {
+            lent = area::encode(&random::altered(rng, &queue));
+        }
+        same(
+            &mut met,
+            &[],
+            &[],
+            |_, _| raw::sound(&lent),
+            |_, _| calls::sound(&lent),
+        );
+    });
+    met.expect(&[3, 100]);
+}
+
+#[test]
+#[cfg(exported = "cancel")]
+fn cancel() {
+    let mut met = Met::default();
+    many(2 * CASES, |rng| {
+        let lent = lent_queue(rng);
+        let id = lent_id(rng, &lent.0);
+        same_change(
+            &mut met,
+            rng,
+            &lent,
+            |cur, next, out| raw::cancel(cur, next, &id, out),
+            |cur, next, out| calls::cancel(cur, next, &id, out),
+        );
+    });
+    met.expect(&[2, 3, 4, 5, 13, 14, 15, 100, 102]);
+}
+
+#[test]
+#[cfg(exported = "expire")]
+fn expire() {
+    let mut met = Met::default();
+    many(2 * CASES, |rng| {
+        let lent = lent_queue(rng);
+        let (now, height) = (random::time(rng).0, random::height(rng).0);
+        same_change(
+            &mut met,
+            rng,
+            &lent,
+            |cur, next, out| raw::expire(cur, next, now, height, out),
+            |cur, next, out| calls::expire(cur, next, now, height, out),
+        );
+    });
+    met.expect(&[2, 3, 4, 15, 100, 102]);
+}
+
+#[test]
+#[cfg(exported = "set_cursor")]
+fn set_cursor() {
+    let mut met = Met::default();
+    many(CASES, |rng| {
+        let lent = lent_queue(rng);
+        let (height, flag) = (random::height(rng).0, lent_flag(rng));
+        let tip = random::block_id(rng).to_vec();
+        let tip = sometimes_cut(rng, tip);
+        same_change(
+            &mut met,
+            rng,
+            &lent,
+            |cur, next, _| raw::set_cursor(cur, next, height, flag, &tip),
+            |cur, next, _| calls::set_cursor(cur, next, height, flag, &tip),
+        );
+    });
+    met.expect(&[2, 3, 5, 101]);
+}
+
+#[test]
+#[cfg(exported = "admit")]
+fn admit() {
+    let mut met = Met::default();
+    many(4 * CASES, |rng| {
+        let lent = lent_queue(rng);
+        let given = Given::new(rng, &lent.0);
+        let (args, model_args) = (given.raw(), given.model());
+        same_change(
+            &mut met,
+            rng,
+            &lent,
+            |cur, next, out| raw::admit(cur, next, &args, out),
+            |cur, next, out| calls::admit(cur, next, &model_args, out),
+        );
+    });
+    met.expect(&[2, 3, 4, 5, 6, 7, 8, 9, 10, 11, 12, 100, 102]);
+}
+
+/// The arguments of an admission.
+struct Given {
+    id: Vec<u8>,
+    inputs: Vec<u8>,
+    outputs: Vec<u8>,
+    signed: Vec<u8>,
+    label: Vec<u8>,
+    tip: Vec<u8>,
+    flags: [u8; 4],
+    numbers: [u64; 4],
+    heights: [u32; 3],
+}
+
+impl Given {
+    fn new(rng: &mut Rng, queue: &Queue) -> Self {
+        let signed = rng.below(queue.limits.bytes as usize / 2 + 3);
+        let label = rng.pick(&[0, 1, 5, 200, 201]);
+        let tip = random::block_id(rng).to_vec();
+        Given {
+            id: lent_id(rng, queue),
+            inputs: Self::list(rng, &queue.limits),
+            outputs: Self::list(rng, &queue.limits),
+            signed: rng.bytes(signed),
+            label: rng.bytes(label),
+            tip: sometimes_cut(rng, tip),
+            flags: std::array::from_fn(|_| match rng.once_in(8) {
+                true => lent_flag(rng),
+                false => rng.pick(&[0, 0, 1]),
+            }),
+            numbers: [
+                random::time(rng).0,
+                random::time(rng).0,
+                rng.u64(),
+                rng.u64(),
+            ],
+            heights: [
+                random::height(rng).0,
+                random::height(rng).0,
+                random::priority(rng) as u32,
+            ],
+        }
+    }
+
+    /// Rarely more than K ids.
+    fn list(rng: &mut Rng, limits: &Limits) -> Vec<u8> {
+        let mut ids = random::box_ids(rng, limits);
+        if rng.once_in(10) {
+            ids.push(random::box_id(rng, limits));
+        }
+        let bytes = ids.concat();
+        sometimes_cut(rng, bytes)
+    }
+
+    fn raw(&self) -> raw::AdmitArgs<'_> {
+        raw::AdmitArgs {
+            id: &self.id,
+            inputs: &self.inputs,
+            outputs: &self.outputs,
+            signed: &self.signed,
+            now: self.numbers[0],
+            time_flag: self.flags[0],
+            time: self.numbers[1],
+            height_flag: self.flags[1],
+            height: self.heights[0],
+            priority: self.heights[2],
+            label_flag: self.flags[2],
+            label: &self.label,
+            fee: self.numbers[2],
+            cost: self.numbers[3],
+            tip_height: self.heights[1],
+            tip_flag: self.flags[3],
+            tip: &self.tip,
+        }
+    }
+
+    fn model(&self) -> calls::AdmitArgs<'_> {
+        let args = self.raw();
+        calls::AdmitArgs {
+            id: args.id,
+            inputs: args.inputs,
+            outputs: args.outputs,
+            signed: args.signed,
+            now: args.now,
+            time_flag: args.time_flag,
+            time: args.time,
+            height_flag: args.height_flag,
+            height: args.height,
+            priority: args.priority,
+            label_flag: args.label_flag,
+            label: args.label,
+            fee: args.fee,
+            cost: args.cost,
+            tip_height: args.tip_height,
+            tip_flag: args.tip_flag,
+            tip: args.tip,
+        }
+    }
+}
+
+/// Ids of the queue's set: mostly rising, without repeats.
+fn id_list(rng: &mut Rng, limits: &Limits) -> Vec<[u8; 32]> {
+    let mut ids: Vec<[u8; 32]> = (0..rng.below(8))
+        .map(|_| random::tx_id(rng, limits))
+        .collect();
+    if !rng.once_in(8) {
+        ids.sort();
+        ids.dedup();
+    }
+    ids
+}
+
+#[test]
+#[cfg(exported = "reconcile")]
+fn reconcile() {
+    let mut met = Met::default();
+    many(4 * CASES, |rng| {
+        let lent = lent_queue(rng);
+        let limits = lent.0.limits;
+        let applied: Vec<u8> = match rng.once_in(2) {
+            true => Vec::new(),
+            false => id_list(rng, &limits)
+                .into_iter()
+                .flat_map(|id| {
+                    let height = random::height(rng).0.to_be_bytes();
+                    [&id[..], &height, &random::block_id(rng)].concat()
+                })
+                .collect(),
+        };
+        let applied = sometimes_cut(rng, applied);
+        let available = id_list(rng, &limits).concat();
+        let available = sometimes_cut(rng, available);
+        let tip = random::block_id(rng).to_vec();
+        let tip = sometimes_cut(rng, tip);
+        let (height, caught_up) = (random::height(rng).0, lent_flag(rng));
+        let window = rng.pick(&[0, 1, 2, 10, 31, 32, 100, u32::MAX, u32::MAX]);
+        let args = raw::ReconcileArgs {
+            height,
+            tip: &tip,
+            applied: &applied,
+            caught_up,
+            available: &available,
+            window,
+        };
+        let model_args = calls::ReconcileArgs {
+            height,
+            tip: &tip,
+            applied: &applied,
+            caught_up,
+            available: &available,
+            window,
+        };
+        same_change(
+            &mut met,
+            rng,
+            &lent,
+            |cur, next, out| raw::reconcile(cur, next, &args, out),
+            |cur, next, out| calls::reconcile(cur, next, &model_args, out),
+        );
+    });
+    met.expect(&[2, 3, 4, 5, 15, 101, 102, 103]);
+}
+
+#[test]
+#[cfg(exported = "reopen")]
+fn reopen() {
+    let mut met = Met::default();
+    many(CASES, |rng| {
+        let lent = lent_queue(rng);
+        let ids = id_list(rng, &lent.0.limits).concat();
+        let ids = sometimes_cut(rng, ids);
+        same_change(
+            &mut met,
+            rng,
+            &lent,
+            |cur, next, _| raw::reopen(cur, next, &ids),
+            |cur, next, _| calls::reopen(cur, next, &ids),
+        );
+    });
+    met.expect(&[2, 3, 5, 100, 102]);
+}
+
+#[test]
+#[cfg(exported = "settle")]
+fn settle() {
+    let mut met = Met::default();
+    many(4 * CASES, |rng| {
+        let (queue, cur) = lent_queue(rng);
+        let next = match rng.below(3) {
+            0 => area_to_write(rng, &queue.limits),
+            1 => lent_queue(rng).1,
+            _ => {
+                let mut next = random::queue(rng, queue.limits);
+                next.persisted = random::height(rng);
+                let mut bytes = area::encode(&next);
+                bytes.extend([7; 3]);
+                bytes
+            }
+        };
+        let kind = rng.pick(&[2, 2, 3, 3, 0, 1, 4, u64::MAX]);
+        let outcome = rng.pick(&[0, 1, 0, 1, 2, u64::MAX]);
+        same(
+            &mut met,
+            &next,
+            &[],
+            |next, _| raw::settle(&cur, next, kind, outcome),
+            |next, _| calls::settle(&cur, next, kind, outcome),
+        );
+    });
+    met.expect(&[2, 3, 5, 17, 100]);
+}
+
+#[test]
+#[cfg(exported = "image")]
+fn image_writer() {
+    let mut met = Met::default();
+    many(CASES, |rng| {
+        let (queue, lent) = lent_queue(rng);
+        let out = output(rng, image::encode(&queue).len());
+        let length = rng.u64();
+        let (mut expected, mut written) = (out.clone(), out.clone());
+        let (mut expected_length, mut written_length) = (length, length);
+        let number = calls::image(&lent, &mut expected, &mut expected_length);
+        let given = raw::image(&lent, &mut written, &mut written_length);
+        assert_eq!(common::Number::number(given), number);
+        assert_eq!(written, expected);
+        assert_eq!(written_length, expected_length);
+        met.count(number);
+    });
+    met.expect(&[3, 4, 100]);
+}
+
+#[test]
+#[cfg(exported = "open")]
+fn open() {
+    let mut met = Met::default();
+    many(4 * CASES, |rng| {
+        let limits = random::small_limits(rng);
+        let queue = random::queue(rng, limits);
+        let mut text = image::encode(&queue);
+        let length = text.len();
+        match rng.below(4) {
+            0 => random::damage(rng, &mut text, length),
+            1 => text = image::encode(&random::altered(rng, &queue)),
+            _ => {}
+        }
+        let lent = area_to_write(rng, &limits);
+        same(
+            &mut met,
+            &lent,
+            &[],
+            |lent, _| raw::open(&text, lent),
+            |lent, _| calls::open(&text, lent),
+        );
+    });
+    met.expect(&[2, 16, 100]);
+}
+
+#[test]
+#[cfg(exported = "entry")]
+fn entry() {
+    let mut met = Met::default();
+    many(CASES, |rng| {
+        let (queue, lent) = lent_queue(rng);
+        let id = lent_id(rng, &queue);
+        same_reading(
+            &mut met,
+            rng,
+            &lent,
+            |area, out| raw::entry(area, &id, out),
+            |area, out| calls::entry(area, &id, out),
+        );
+    });
+    met.expect(&[3, 4, 5, 13, 100]);
+}
+
+#[test]
+#[cfg(exported = "signed_bytes")]
+fn signed_bytes() {
+    let mut met = Met::default();
+    many(CASES, |rng| {
+        let (queue, lent) = lent_queue(rng);
+        let id = lent_id(rng, &queue);
+        same_values(
+            &mut met,
+            rng,
+            |[start, length]| raw::signed_bytes(&lent, &id, start, length),
+            |[start, length]| calls::signed_bytes(&lent, &id, start, length),
+        );
+    });
+    met.expect(&[3, 5, 13, 100]);
+}
+
+#[test]
+#[cfg(exported = "selection_entries_at")]
+fn selection_entries_at() {
+    let mut met = Met::default();
+    many(CASES, |rng| {
+        let (_, lent) = lent_queue(rng);
+        let (now, height) = (random::time(rng).0, random::height(rng).0);
+        same_reading(
+            &mut met,
+            rng,
+            &lent,
+            |area, out| raw::selection_entries_at(area, now, height, out),
+            |area, out| calls::selection_entries_at(area, now, height, out),
+        );
+    });
+    met.expect(&[3, 4, 100]);
+}
+
+#[test]
+#[cfg(exported = "due")]
+fn due() {
+    let mut met = Met::default();
+    many(CASES, |rng| {
+        let (_, lent) = lent_queue(rng);
+        let (now, height) = (random::time(rng).0, random::height(rng).0);
+        same_reading(
+            &mut met,
+            rng,
+            &lent,
+            |area, out| raw::due(area, now, height, out),
+            |area, out| calls::due(area, now, height, out),
+        );
+    });
+    met.expect(&[3, 4, 100]);
+}
+
+#[test]
+#[cfg(exported = "deadline_due")]
+fn deadline_due() {
+    let mut met = Met::default();
+    many(CASES, |rng| {
+        let (_, lent) = lent_queue(rng);
+        let (now, height) = (random::time(rng).0, random::height(rng).0);
+        same_values(
+            &mut met,
+            rng,
+            |[value]| raw::deadline_due(&lent, now, height, value),
+            |[value]| calls::deadline_due(&lent, now, height, value),
+        );
+    });
+    met.expect(&[3, 100]);
+}
+
+/// Reading calls that take an area alone and answer bytes.
+macro_rules! byte_readings {
+    ($($call:literal $name:ident;)*) => {$(
+        #[test]
+        #[cfg(exported = $call)]
+        fn $name() {
+            let mut met = Met::default();
+            many(CASES, |rng| {
+                let (_, lent) = lent_queue(rng);
+                same_reading(&mut met, rng, &lent, raw::$name, calls::$name);
+            });
+            met.expect(&[3, 4, 100]);
+        }
+    )*};
+}
+
+byte_readings! {
+    "selection_entries" selection_entries;
+    "observation_cursor" observation_cursor;
+    "record_ids" record_ids;
+    "guarded_ids" guarded_ids;
+    "reserved_inputs" reserved_inputs;
+    "reservation_snapshot" reservation_snapshot;
+    "guard_snapshot" guard_snapshot;
+    "list" list;
+    "confirmations" confirmations;
+}
+
+/// Reading calls that take an area alone and answer one number.
+macro_rules! value_readings {
+    ($($call:literal $name:ident;)*) => {$(
+        #[test]
+        #[cfg(exported = $call)]
+        fn $name() {
+            let mut met = Met::default();
+            many(CASES, |rng| {
+                let (_, lent) = lent_queue(rng);
+                same_values(
+                    &mut met,
+                    rng,
+                    |[value]| raw::$name(&lent, value),
+                    |[value]| calls::$name(&lent, value),
+                );
+            });
+            met.expect(&[3, 100]);
+        }
+    )*};
+}
+
+value_readings! {
+    "revision" revision;
+    "is_empty" is_empty;
+    "observed_height" observed_height;
+}
+
+/// Queues with thousands of records.
+#[test]
+#[cfg(all(
+    exported = "sound",
+    exported = "cancel",
+    exported = "expire",
+    exported = "image",
+    exported = "open",
+    exported = "selection_entries_at"
+))]
+fn many_records() {
+    let limits = Limits::checked(1_024, 65_536, 1_024, 2).unwrap();
+    many(4, |rng| {
+        let queue = random::queue(rng, limits);
+        let lent = area::encode(&queue);
+        assert_eq!(raw::sound(&lent), Ok(()));
+        let id = lent_id(rng, &queue);
+        let next = vec![0xee; limits.need()];
+        let out = vec![0xee; 100_000];
+        let mut met = Met::default();
+        same(
+            &mut met,
+            &next,
+            &out,
+            |next, out| raw::cancel(&lent, next, &id, out),
+            |next, out| calls::cancel(&lent, next, &id, out),
+        );
+        same(
+            &mut met,
+            &next,
+            &out,
+            |next, out| raw::expire(&lent, next, 6, 8, out),
+            |next, out| calls::expire(&lent, next, 6, 8, out),
+        );
+        same(
+            &mut met,
+            &next,
+            &out,
+            |_, out| raw::selection_entries_at(&lent, 3, 4, out),
+            |_, out| calls::selection_entries_at(&lent, 3, 4, out),
+        );
+        let text = image::encode(&queue);
+        let mut written = vec![0; text.len()];
+        let mut length = 0;
+        assert_eq!(raw::image(&lent, &mut written, &mut length), Ok(()));
+        assert!(written == text && length == text.len() as u64);
+        same(
+            &mut met,
+            &next,
+            &[],
+            |next, _| raw::open(&text, next),
+            |next, _| calls::open(&text, next),
+        );
+    });
+}
