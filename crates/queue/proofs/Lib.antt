@@ -13,3 +13,4 @@ pub mod SelectLaws
 pub mod CallLaws
 pub mod CancelLaws
 pub mod ExpireLaws
+pub mod ReopenLaws

@@ -30,3 +30,4 @@ pub mod ReadingAs
 pub mod Writes
 pub mod SelectAs
 pub mod CallsAs
+pub mod Reopens
