@@ -82,6 +82,30 @@ module _ (s : Bytes) (k : ℕ) (h : Small s) (e : k ≡ length s / 32) (z : leng
   unfolding listAt view
   ids-are = ap valOf ids-got
 
+pub lent-mod : (s : Bytes) {n : ℕ} → n ≡ length (view false s 0) → length s % 32 ≡ 0 → n % 32 ≡ 0
+unfolding view
+lent-mod s l z = ap (λ (m : ℕ). m % 32) l ∙ z
+
+-- as they were measured: n bytes, in 32s
+module _ (s : Bytes) {n : ℕ} (l : n ≡ length (view false s 0)) (h : readlaws.Small (view false s 0)) (z : n % 32 ≡ 0) where
+  pub lent-whole : length s % 32 ≡ 0
+  unfolding view
+  lent-whole = ap (λ (m : ℕ). m % 32) (sym l) ∙ z
+
+  lent-many : n / 32 ≡ length s / 32
+  unfolding view
+  lent-many = ap (λ (m : ℕ). m / 32) l
+
+  lent-small : Small s
+  unfolding view
+  lent-small = small-all s h
+
+  pub lent-in : IdsIn s (n / 32)
+  lent-in = ids-in s (n / 32) lent-small lent-many lent-whole
+
+  pub lent-are : idsAt s (n / 32) ≡ items 32 s
+  lent-are = ids-are s (n / 32) lent-small lent-many lent-whole
+
 -- ---- rising ids
 unfoldable pub chainI? : Id → List Id → Bool
 chainI? p [] = true

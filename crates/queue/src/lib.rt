@@ -10,6 +10,7 @@ pub mod limits;
 pub mod logic;
 pub mod put;
 pub mod reading;
+pub mod reopen;
 pub mod rules;
 pub mod scan;
 pub mod select;
