@@ -110,7 +110,7 @@ module _ {cur : Bytes} {a : Area} {q : Queue} (e : readArea cur ≡ some q) (w :
     cursor-some flag tip h i k = rw (e, enough, h, eq-eqb (length tip) 32 i, k)
 
 -- what the writer asks: a tip that is there is an id
-small-all : (s : Bytes) → readlaws.Small s → All (λ b. b < 256) s
+pub small-all : (s : Bytes) → readlaws.Small s → All (λ b. b < 256) s
 small-all [] h = tt
 small-all (b ∷ s) h = (h 0 (omega arith), small-all s (λ j k. h (suc j) (omega arith)))
 

@@ -274,7 +274,7 @@ module _ (c : Change) (id : Id) {s : Bytes} {n at i left acc : ℕ} (x : Scan (f
 div-one : (v : ℕ) → v / 1 ≡ v
 div-one v = omega arith
 
-cut-one : (v x y : Bytes) (k : ℕ) → drop k v ≡ x ++ y → length x ≡ 1 → drop (k + 1) v ≡ y
+pub cut-one : (v x y : Bytes) (k : ℕ) → drop k v ≡ x ++ y → length x ≡ 1 → drop (k + 1) v ≡ y
 cut-one v x y k e h = sym (drop-drop 1 k v) ∙ ap (drop 1) e ∙ drop-at x y 1 h
 
 join3 : (v a b m z w y : Bytes) → drop 35 v ≡ a ++ w → w ≡ b ++ y → y ≡ m ++ z → drop 35 v ≡ (a ++ (b ++ m)) ++ z

@@ -157,7 +157,7 @@ queue-long l m tip recs e h = ap length (sym (front-enc l m tip recs e)) ∙ len
 abbrev queue : ℕ → Limits → ℕ → ℕ → Option Id → ℕ → List Rec → Queue
 queue p l r c t n f = record { persisted = p; limits = l; revision = r; cursor = c; tip = t; counter = n; recs = f }
 
-same-queue : {p p′ r r′ c c′ n n′ : ℕ} {l l′ : Limits} {t t′ : Option Id} {f f′ : List Rec} → p ≡ p′ → l ≡ l′ → r ≡ r′ → c ≡ c′ → t ≡ t′ → n ≡ n′ → f ≡ f′ → queue p l r c t n f ≡ queue p′ l′ r′ c′ t′ n′ f′
+pub same-queue : {p p′ r r′ c c′ n n′ : ℕ} {l l′ : Limits} {t t′ : Option Id} {f f′ : List Rec} → p ≡ p′ → l ≡ l′ → r ≡ r′ → c ≡ c′ → t ≡ t′ → n ≡ n′ → f ≡ f′ → queue p l r c t n f ≡ queue p′ l′ r′ c′ t′ n′ f′
 same-queue {p} {p′} {r} {r′} {c} {c′} {n} {n′} {l} {l′} {t} {t′} {f} {f′} e1 e2 e3 e4 e5 e6 e7 = rw (e1, e2, e3, e4, e5, e6, e7)
 
 pub one-queue : (s : Bytes) {q q′ : Queue} → readArea s ≡ some q → readArea s ≡ some q′ → q ≡ q′

@@ -11,6 +11,7 @@ pub mod logic;
 pub mod pieces;
 pub mod put;
 pub mod reading;
+pub mod reopen;
 pub mod rules;
 pub mod scan;
 pub mod select;

@@ -1,0 +1,30 @@
+use mathlib.Core.Path.{_≡_, refl, sym, ap, _∙_}
+use native.Mathlib.Omega.{arith}
+use mathlib.Core.Bool.{Bool, true, false, _&&_}
+use Prim.Native.Nat.{ℕ, _≤_, _+_, _-_, _*_, _/_, _<_}
+use borrow.Author.Tests.{eq-eqb, ne-eqb}
+use Rattle.queue.specs.Reopens.{reasonF}
+use borrow.Author.Needs.{needs}
+use Rattle.queue.proofs.reopen.reason_again.Statement.{statement}
+use Rattle.queue.proofs.reopen.reason_again.Tie as tie
+use Rattle.queue.proofs.reopen.reason_again.Reads as reads
+use Rattle.queue.proofs.reopen.reason_again.Lts as lts
+
+returns : tie.Need-returns
+unfolding reasonF
+returns c = rw (eq-eqb _ _ (c .before .if1 .taken), c .if2 .taken)
+
+returns-2 : tie.Need-returns-2
+unfolding reasonF
+returns-2 c = rw (eq-eqb _ _ (c .before .if1 .taken), c .if2 .left)
+
+returns-3 : tie.Need-returns-3
+unfolding reasonF
+returns-3 c = rw (ne-eqb _ _ (c .before .before .if1 .left), eq-eqb _ _ (c .if3 .taken))
+
+returns-4 : tie.Need-returns-4
+unfolding reasonF
+returns-4 c = rw (ne-eqb _ _ (c .before .before .if1 .left), ne-eqb _ _ (c .if3 .left))
+
+pub reason-again-spec : {M : Type 1} → statement M
+reason-again-spec = tie.close (tie.spec returns returns-2 returns-3 returns-4)

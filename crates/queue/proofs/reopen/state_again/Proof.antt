@@ -1,0 +1,26 @@
+use mathlib.Core.Path.{_≡_, refl, sym, ap, _∙_}
+use native.Mathlib.Omega.{arith}
+use mathlib.Core.Bool.{Bool, true, false, _&&_}
+use Prim.Native.Nat.{ℕ, _≤_, _+_, _-_, _*_, _/_, _<_}
+use borrow.Author.Tests.{eq-eqb, ne-eqb}
+use Rattle.queue.specs.Reopens.{stateF}
+use borrow.Author.Needs.{needs}
+use Rattle.queue.proofs.reopen.state_again.Statement.{statement}
+use Rattle.queue.proofs.reopen.state_again.Tie as tie
+use Rattle.queue.proofs.reopen.state_again.Reads as reads
+use Rattle.queue.proofs.reopen.state_again.Lts as lts
+
+returns : tie.Need-returns
+unfolding stateF
+returns c = rw (ne-eqb _ _ (c .if1 .taken))
+
+returns-2 : tie.Need-returns-2
+unfolding stateF
+returns-2 c = rw (eq-eqb _ _ (c .before .if1 .left), c .if2 .taken)
+
+returns-3 : tie.Need-returns-3
+unfolding stateF
+returns-3 c = rw (eq-eqb _ _ (c .before .if1 .left), c .if2 .left)
+
+pub state-again-spec : {M : Type 1} → statement M
+state-again-spec = tie.close (tie.spec returns returns-2 returns-3)

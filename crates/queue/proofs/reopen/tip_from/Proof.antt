@@ -1,0 +1,24 @@
+use mathlib.Core.Path.{_≡_, refl, sym, ap, _∙_}
+use native.Mathlib.Omega.{arith}
+use mathlib.Core.Bool.{Bool, true, false, _&&_}
+use Prim.Native.Nat.{ℕ, _≤_, _+_, _-_, _*_, _/_, _<_}
+use Rattle.queue.specs.View.{view}
+use Rattle.queue.proofs.WriteLaws.{tip-room, tip-here, tip-none}
+use borrow.Author.Needs.{needs}
+use Rattle.queue.proofs.reopen.tip_from.Statement.{statement}
+use Rattle.queue.proofs.reopen.tip_from.Tie as tie
+use Rattle.queue.proofs.reopen.tip_from.Reads as reads
+use Rattle.queue.proofs.reopen.tip_from.Lts as lts
+use Rattle.queue.proofs.view.id_at.Reads as id-at-reads
+
+id-at-requires : tie.Need-id-at-requires
+id-at-requires c κs = let h = tip-room (view false (c .before .before .args .s .now) 4) (c .before .before .pre .0) (c .before .before .args .h) (c .before .before .pre .1) (c .before .before .pre .2) (c .if1 .taken) in omega arith
+
+returns : tie.Need-returns
+returns c = λ x w o. tip-here (view false (c .before .before .before .args .s .now) 4) x (c .before .before .before .args .h) w o (c .before .if1 .taken) (c .id-at .ensures)
+
+returns-2 : tie.Need-returns-2
+returns-2 c = λ x w o. tip-none (view false (c .before .before .args .s .now) 4) x (c .before .before .args .h) w _ (c .if1 .left)
+
+pub tip-from-spec : {M : Type 1} → statement M
+tip-from-spec = tie.close (tie.spec id-at-requires returns returns-2)

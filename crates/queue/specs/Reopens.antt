@@ -1,0 +1,86 @@
+-- Reopening as the code goes, and what its parts ask and say.
+use mathlib.Core.Path.{_≡_}
+use mathlib.Core.Bool.{Bool, true, false, cond, _&&_}
+use mathlib.Core.Option.{Option, none, some}
+use mathlib.Core.List.{List, [], _∷_, _++_}
+use Prim.Native.Nat.{ℕ, _+_, _-_, _≤_, _<_}
+use lib.Dec.{eqb}
+use lib.ListN.{length, take, drop}
+use Rattle.queue.specs.Splice.{be}
+use Rattle.queue.specs.Frames.{idC}
+use Rattle.queue.specs.View.{view}
+use Rattle.queue.specs.Reads.{whole, listAt}
+use Rattle.queue.specs.Forms.{queueC}
+use Rattle.queue.specs.Areas.{readArea}
+use Rattle.queue.specs.Opens.{AreaAs}
+use Rattle.queue.specs.paper.Records.{Bytes, Id, Rec, Queue}
+use Rattle.queue.specs.paper.Lists.{map}
+use Rattle.queue.specs.paper.Sound.{need, among?}
+use Rattle.queue.specs.paper.Area.{areaBytes, over}
+use Rattle.queue.specs.paper.Changing.{committed, reopened, listed?, reopen}
+use Rattle.queue.specs.paper.Calls.{Outcome, told, nothingBytes}
+use Rattle.queue.specs.declared.frame.Seen.{Seen}
+use Rattle.queue.specs.declared.frame.Facts.{Facts}
+use Rattle.queue.specs.declared.area.Area.{Area}
+
+-- lent ids: k of them stand in t, these
+abbrev pub IdsIn : Bytes → ℕ → Type 0
+IdsIn t k = whole idC k (view false t 0) 0 ≡ true
+
+abbrev pub idsAt : Bytes → ℕ → List Id
+idsAt t k = listAt idC k (view false t 0) 0
+
+-- is a record that was read listed?
+unfoldable pub listedS : List Id → Seen → Bool
+listedS ids x = eqb (x .facts .state) 2 && among? (x .id) ids
+
+unfoldable pub again : List Id → Rec → Rec
+again ids r = cond (listed? ids r) (reopened r) r
+
+unfoldable pub againQ : List Id → Queue → Queue
+againQ ids q = committed (q .cursor) (q .tip) (q .counter) (map (again ids) (q .recs)) q
+
+-- the state and the reason that a record gets
+unfoldable pub stateF : Facts → ℕ
+stateF f = cond (eqb (f .mark) 0) (cond (f .holder) 0 5) (f .mark)
+
+unfoldable pub reasonF : Facts → ℕ
+reasonF f = cond (eqb (f .mark) 0) (cond (f .holder) 4 3) (cond (eqb (f .mark) 4) 1 2)
+
+-- a record's bytes up to its terms
+unfoldable pub leadBytes : Id → ℕ → ℕ → Bytes
+leadBytes id state reason = (((2 ∷ []) ++ id) ++ be 1 state) ++ be 1 reason
+
+-- the bytes of a record that was read at base, reopened; and of what becomes of it
+unfoldable pub reopenedBytes : Bytes → ℕ → Seen → Bytes
+reopenedBytes s base x =
+    ((leadBytes (x .id) (stateF (x .facts)) (reasonF (x .facts)) ++ take (x .after - 35) (drop (base + 35) s)) ++ be 2 0)
+    ++ take (x .size - (x .mark + 1)) (drop (base + (x .mark + 1)) s)
+
+abbrev pub reopenedLen : Seen → ℕ
+reopenedLen x = x .after + 2 + (x .size - (x .mark + 1))
+
+unfoldable pub againBytes : Bytes → ℕ → Seen → Bool → Bytes
+againBytes s base x hit = cond hit (reopenedBytes s base x) (take (x .size) (drop base s))
+
+-- the parts of a record that was read stand in their order, and in s
+pub record PartsIn (s : Bytes) (base : ℕ) (x : Seen) : Type 0 where
+  pub id : length (x .id) ≡ 32
+  pub up : 35 ≤ x .after
+  pub upPlace : x .after ≤ x .mark
+  pub upBody : x .mark + 10 ≤ x .size
+  pub within : base + x .size ≤ length s
+
+-- a was read from s, and the queue fits once the listed are reopened
+pub record AgainFrom (s : Bytes) (a : Area) (ids : List Id) : Type 0 where
+  pub q : Queue
+  pub is : readArea s ≡ some q
+  pub read : AreaAs s a q
+  pub fits : length (queueC .enc (againQ ids q)) ≤ need (q .limits)
+
+abbrev pub AgainTo : Bytes → List Id → Bytes → Bytes → Type 0
+AgainTo s ids d d′ = (q : Queue) → readArea s ≡ some q → d′ ≡ over (areaBytes (againQ ids q)) d
+
+-- what the rest of a reopening gives back
+abbrev pub ReopenTold : Bytes → List Id → Outcome → Bytes → Type 0
+ReopenTold s ids o next = (q : Queue) → readArea s ≡ some q → o ≡ told nothingBytes next [] (reopen ids q)

@@ -1,0 +1,249 @@
+// Reopening: Mined records whose ids are listed lose their place. Everything that can refuse is decided before a byte is written.
+use super::Answer;
+use super::Kind;
+use super::area::Area;
+use super::area::area_at;
+use super::frame::Facts;
+use super::frame::HeadR;
+use super::frame::Seen;
+use super::frame::id_read;
+use super::frame::rec_at;
+use super::head::Marks;
+use super::head::put_front;
+use super::head::tip_len;
+use super::put::copy_part;
+use super::put::fill_zero;
+use super::put::put_be;
+use super::put::put_id;
+use super::put::put_u8;
+use super::scan::has_id;
+use super::view::cmp_id;
+use super::view::id_at;
+use super::view::size;
+ghost use mathlib.Core.Path.{_≡_};
+ghost use mathlib.Core.Bool.{true, false};
+ghost use mathlib.Core.List.{[]};
+ghost use Prim.Native.Nat.{_+_, _≤_};
+ghost use lib.ListN.{length};
+ghost use Rattle.queue.specs.Codec.{encs};
+ghost use Rattle.queue.specs.Splice.{Put};
+ghost use Rattle.queue.specs.Frames.{recC};
+ghost use Rattle.queue.specs.Reads.{whole, listAt};
+ghost use Rattle.queue.specs.Forms.{formC};
+ghost use Rattle.queue.specs.Writes.{HeadIn, TipIs};
+ghost use Rattle.queue.specs.CallsAs.{AreaIn};
+ghost use Rattle.queue.specs.Reopens.{IdsIn, idsAt, listedS, again, stateF, reasonF, leadBytes, reopenedBytes, reopenedLen, againBytes, PartsIn, AgainFrom, AgainTo, ReopenTold};
+ghost use Rattle.queue.specs.paper.Lists.{any?, map};
+ghost use Rattle.queue.specs.paper.Changing.{listed?};
+ghost use Rattle.queue.specs.paper.Calls.{outcome, rise?, reopenOf};
+
+// Do n lent ids rise strictly?
+pub fn rise(ids: &[u8], n: u64) -> bool
+    requires { ⌜ IdsIn (now ids) n ⌝ }
+    ensures { λ r. ⌜ r ≡ rise? (idsAt (now (ids .entry)) n) ⌝ }
+{
+    if n == 0 {
+        return true;
+    }
+    let y = id_read(ids, false, 0, 0);
+    let mut prev = y.id;
+    let mut i = y.next;
+    let mut left = n - 1;
+    while 0 < left {
+        let x = id_read(ids, false, 0, i);
+        let id = x.id;
+        if cmp_id(prev, id) != 0 {
+            return false;
+        }
+        prev = id;
+        i = x.next;
+        left = left - 1;
+    }
+    true
+}
+
+// Is a record Mined, and one of k lent ids its own?
+fn listed(ids: &[u8], k: u64, x: Seen) -> bool
+    requires { ⌜ IdsIn (now ids) k ⌝ }
+    ensures { λ r. ⌜ r ≡ listedS (idsAt (now (ids .entry)) k) x ⌝ }
+{
+    let f = x.facts;
+    if f.state != 2 {
+        return false;
+    }
+    let id = x.id;
+    has_id(ids, false, 0, 0, k, id)
+}
+
+// Is one of n records at `at` listed?
+fn any_listed(s: &[u8], at: usize, n: u64, ids: &[u8], k: u64) -> bool
+    requires { ⌜ (at ≤ length (now s)) × (whole (formC false recC) n (now s) at ≡ true) × IdsIn (now ids) k ⌝ }
+    ensures { λ r. ⌜ r ≡ any? (listed? (idsAt (now (ids .entry)) k)) (listAt (formC false recC) n (now (s .entry)) at) ⌝ }
+{
+    let mut i = at;
+    let mut left = n;
+    while 0 < left {
+        let x = rec_at(s, false, i);
+        if listed(ids, k, x) {
+            return true;
+        }
+        i = i + x.size;
+        left = left - 1;
+    }
+    false
+}
+
+fn state_again(f: Facts) -> u64
+    ensures { λ r. ⌜ r ≡ stateF f ⌝ }
+{
+    if f.mark != 0 {
+        return f.mark;
+    }
+    if f.holder { 0 } else { 5 }
+}
+
+fn reason_again(f: Facts) -> u64
+    ensures { λ r. ⌜ r ≡ reasonF f ⌝ }
+{
+    if f.mark == 0 {
+        if f.holder {
+            return 4;
+        }
+        return 3;
+    }
+    if f.mark == 4 { 1 } else { 2 }
+}
+
+// A record's bytes up to its terms.
+pub fn put_lead(id: [u8; 32], state: u64, reason: u64, dst: &mut [u8], at: usize) -> usize
+    requires { ⌜ at + 35 ≤ length (now dst) ⌝ }
+    ensures { λ r. ⌜ Put (now (dst .entry)) at (leadBytes id state reason) 35 r (now (dst .exit)) ⌝ }
+{
+    let a = put_u8(dst, at, 2);
+    let b = put_id(dst, a, id);
+    let c = put_be(dst, b, 1, state);
+    put_be(dst, c, 1, reason)
+}
+
+// The record read at base, without place and mark.
+fn put_reopened(src: &[u8], base: usize, x: Seen, dst: &mut [u8], at: usize) -> usize
+    requires { ⌜ PartsIn (now src) base x × (at + reopenedLen x ≤ length (now dst)) ⌝ }
+    ensures { λ r. ⌜ Put (now (dst .entry)) at (reopenedBytes (now (src .entry)) base x) (reopenedLen x) r (now (dst .exit)) ⌝ }
+{
+    let f = x.facts;
+    let id = x.id;
+    let p = x.after;
+    let m = x.mark + 1;
+    let a = put_lead(id, state_again(f), reason_again(f), dst, at);
+    let b = copy_part(src, base + 35, p - 35, dst, a);
+    let c = put_be(dst, b, 2, 0);
+    copy_part(src, base + m, x.size - m, dst, c)
+}
+
+fn put_again(src: &[u8], base: usize, x: Seen, hit: bool, dst: &mut [u8], at: usize) -> usize
+    requires { ⌜ PartsIn (now src) base x × (at + length (againBytes (now src) base x hit) ≤ length (now dst)) ⌝ }
+    ensures { λ r. ⌜ Put (now (dst .entry)) at (againBytes (now (src .entry)) base x hit) (length (againBytes (now (src .entry)) base x hit)) r (now (dst .exit)) ⌝ }
+{
+    if hit {
+        return put_reopened(src, base, x, dst, at);
+    }
+    let n = x.size;
+    copy_part(src, base, n, dst, at)
+}
+
+// n records from `at` of src, those listed reopened, to place `to` of dst.
+fn put_records(
+    src: &[u8],
+    at: usize,
+    n: u64,
+    ids: &[u8],
+    k: u64,
+    dst: &mut [u8],
+    to: usize,
+) -> usize
+    requires { ⌜ (at ≤ length (now src)) × (whole (formC false recC) n (now src) at ≡ true) × IdsIn (now ids) k × (to + length (encs recC (map (again (idsAt (now ids) k)) (listAt (formC false recC) n (now src) at))) ≤ length (now dst)) ⌝ }
+    ensures { λ r. ⌜ Put (now (dst .entry)) to (encs recC (map (again (idsAt (now (ids .entry)) k)) (listAt (formC false recC) n (now (src .entry)) at))) (length (encs recC (map (again (idsAt (now (ids .entry)) k)) (listAt (formC false recC) n (now (src .entry)) at)))) r (now (dst .exit)) ⌝ }
+{
+    let mut i = at;
+    let mut left = n;
+    let mut o = to;
+    while 0 < left {
+        let x = rec_at(src, false, i);
+        let hit = listed(ids, k, x);
+        o = put_again(src, i, x, hit, dst, o);
+        i = i + x.size;
+        left = left - 1;
+    }
+    o
+}
+
+// The tip of an area's cursor; zeros where there is none.
+fn tip_from(s: &[u8], h: HeadR) -> [u8; 32]
+    requires { ⌜ HeadIn (now s) h ⌝ }
+    ensures { λ r. ⌜ TipIs (now (s .entry)) h r ⌝ }
+{
+    if h.tip {
+        return id_at(s, false, 4, 30);
+    }
+    [0u8; 32]
+}
+
+// The queue of src with those listed reopened.
+fn put_opened(src: &[u8], a: Area, ids: &[u8], k: u64, dst: &mut [u8])
+    requires { ⌜ AgainFrom (now src) a (idsAt (now ids) k) × IdsIn (now ids) k × (a .need ≤ length (now dst)) ⌝ }
+    ensures { λ _. ⌜ AgainTo (now (src .entry)) (idsAt (now (ids .entry)) k) (now (dst .entry)) (now (dst .exit)) ⌝ }
+{
+    let x = a.open;
+    let h = x.head;
+    let n = h.counter;
+    let cursor = h.cursor;
+    let tip = tip_from(src, h);
+    let to = 45 + tip_len(h.tip);
+    let e = put_records(src, x.start, h.count, ids, k, dst, to);
+    let marks = Marks {
+        persisted: cursor,
+        revision: std::num::wrapping_add_u64(h.revision, 1),
+        cursor: cursor,
+        tip: h.tip,
+        counter: n,
+        count: h.count,
+    };
+    put_front(h.p, h.b, h.t, h.k, marks, tip, dst);
+    fill_zero(dst, e, a.need);
+}
+
+// No Mined id is kind 0.
+fn reopen_those(cur: &[u8], next: &mut [u8], a: Area, ids: &[u8], k: u64) -> Answer
+    requires { ⌜ AreaIn (now cur) a × IdsIn (now ids) k × (a .need ≤ length (now next)) ⌝ }
+    ensures { λ r. ⌜ ReopenTold (now (cur .entry)) (idsAt (now (ids .entry)) k) (outcome r (now (next .exit)) []) (now (next .entry)) ⌝ }
+{
+    let o = a.open;
+    let h = o.head;
+    if !any_listed(cur, o.start, h.count, ids, k) {
+        return Answer::Done(Kind::Nothing);
+    }
+    put_opened(cur, a, ids, k, next);
+    Answer::Done(Kind::Whole)
+}
+
+// Reopening. Refusals 3, 2, 5.
+pub fn reopen(cur: &[u8], next: &mut [u8], ids: &[u8]) -> Answer
+    ensures { λ r. ⌜ outcome r (now (next .exit)) [] ≡ reopenOf (now (cur .entry)) (now (next .entry)) (now (ids .entry)) ⌝ }
+{
+    let a = area_at(cur);
+    if !a.ok {
+        return Answer::Refused(3);
+    }
+    if next.len() < a.need {
+        return Answer::Refused(2);
+    }
+    let n = size(ids, false, 0);
+    if n % 32 != 0 {
+        return Answer::Refused(5);
+    }
+    let k = (n / 32) as u64;
+    if !rise(ids, k) {
+        return Answer::Refused(5);
+    }
+    reopen_those(cur, next, a, ids, k)
+}
