@@ -8,7 +8,6 @@ use std::{env, fs};
 const NOT_EXPORTED_YET: &[&str] = &[
     "admit",
     "reconcile",
-    "reopen",
     "reserved_inputs",
     "reservation_snapshot",
     "guard_snapshot",

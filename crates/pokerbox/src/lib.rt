@@ -21,12 +21,13 @@ use queue::reading::observation_cursor;
 use queue::reading::observed_height;
 use queue::reading::revision;
 use queue::reading::signed_place;
+use queue::reopen::reopen;
 use queue::select::selection_at;
 ghost use mathlib.Core.Path.{_≡_};
 ghost use mathlib.Core.List.{[]};
 ghost use Prim.Native.Nat.{_≤_};
 ghost use Rattle.queue.specs.Opens.{limits};
-ghost use Rattle.queue.specs.paper.Calls.{number, kindNumber, freshOf, soundOf, cancelOf, expireOf, setCursorOf, settleOf, entryOf, selectionAtOf, recordIdsOf, guardedIdsOf, listOf, confirmationsOf, dueOf, observationCursorOf, revisionOf, observedHeightOf, isEmptyOf, deadlineDueOf};
+ghost use Rattle.queue.specs.paper.Calls.{number, kindNumber, freshOf, soundOf, cancelOf, expireOf, reopenOf, setCursorOf, settleOf, entryOf, selectionAtOf, recordIdsOf, guardedIdsOf, listOf, confirmationsOf, dueOf, observationCursorOf, revisionOf, observedHeightOf, isEmptyOf, deadlineDueOf};
 ghost use Rattle.image.specs.paper.Image.{imageOf, openOf};
 ghost use Rattle.pokerbox.specs.paper.Exports.{given, ofOutcome, ofWritten, ofImaged, ofNumbered, Placed};
 
@@ -97,6 +98,14 @@ pub extern "C" fn pokerbox_expire(
     ensures { λ r. ⌜ given r (now (next .exit)) (now (out .exit)) ≡ ofOutcome (expireOf (now (cur .entry)) (now (next .entry)) (now (out .entry)) time height) ⌝ }
 {
     number(expire(cur, next, time, height, out))
+}
+
+// Reopening. 3, 2, 5.
+#[no_mangle]
+pub extern "C" fn pokerbox_reopen(cur: &[u8], next: &mut [u8], ids: &[u8]) -> u64
+    ensures { λ r. ⌜ given r (now (next .exit)) [] ≡ ofOutcome (reopenOf (now (cur .entry)) (now (next .entry)) (now (ids .entry))) ⌝ }
+{
+    number(reopen(cur, next, ids))
 }
 
 // Cursor setting. 3, 2, 5.

@@ -59,6 +59,10 @@ uint64_t pokerbox_cancel(const uint8_t *cur, size_t cur_len, uint8_t *next, size
 uint64_t pokerbox_expire(const uint8_t *cur, size_t cur_len, uint8_t *next, size_t next_len,
                          uint64_t now, uint32_t height, uint8_t *out, size_t out_len);
 
+/* Reopens the Mined records of `ids`, 32 bytes each, strictly rising. */
+uint64_t pokerbox_reopen(const uint8_t *cur, size_t cur_len, uint8_t *next, size_t next_len,
+                         const uint8_t *ids, size_t ids_len);
+
 /* Sets the observation cursor. */
 uint64_t pokerbox_set_cursor(const uint8_t *cur, size_t cur_len, uint8_t *next, size_t next_len,
                              uint32_t height, uint8_t tip_flag, const uint8_t *tip,
@@ -142,8 +146,6 @@ uint64_t pokerbox_reconcile(const uint8_t *cur, size_t cur_len, uint8_t *next, s
                             const uint8_t *applied, size_t applied_len, uint8_t caught_up,
                             const uint8_t *available, size_t available_len, uint32_t window,
                             uint8_t *out, size_t out_len);
-uint64_t pokerbox_reopen(const uint8_t *cur, size_t cur_len, uint8_t *next, size_t next_len,
-                         const uint8_t *ids, size_t ids_len);
 uint64_t pokerbox_reserved_inputs(const uint8_t *area, size_t area_len, uint8_t *out,
                                   size_t out_len);
 uint64_t pokerbox_reservation_snapshot(const uint8_t *area, size_t area_len, uint8_t *out,
