@@ -14,3 +14,4 @@ pub mod CallLaws
 pub mod CancelLaws
 pub mod ExpireLaws
 pub mod ReopenLaws
+pub mod AdmitLaws

@@ -31,3 +31,4 @@ pub mod Writes
 pub mod SelectAs
 pub mod CallsAs
 pub mod Reopens
+pub mod Admitting
