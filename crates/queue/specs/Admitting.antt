@@ -5,14 +5,19 @@ use mathlib.Core.Option.{Option, none, some}
 use mathlib.Core.List.{List, [], _∷_, _++_}
 use Prim.Native.Nat.{ℕ, _+_, _-_, _/_, _%_, _^_, _≤_, _<_}
 use lib.Dec.{eqb}
-use lib.ListN.{length}
+use lib.ListN.{length, take, drop}
 use Rattle.queue.specs.Codec.{be}
+use Rattle.queue.specs.Forms.{queueC}
+use Rattle.queue.specs.Areas.{readArea}
+use Rattle.queue.specs.Opens.{AreaAs}
 use Rattle.queue.specs.paper.Records.{Bytes, Id, Terms, Held, Rec, Queue}
 use Rattle.queue.specs.paper.Lists.{filter}
-use Rattle.queue.specs.paper.Area.{flagged}
-use Rattle.queue.specs.paper.Changing.{named?, put, newRec}
+use Rattle.queue.specs.paper.Sound.{need}
+use Rattle.queue.specs.paper.Area.{flagged, areaBytes, over}
+use Rattle.queue.specs.paper.Changing.{named?, put, newRec, committed}
 use Rattle.queue.specs.paper.Calls.{items, given, AdmitArgs, admission}
 use Rattle.queue.specs.declared.admit.Asked.{Asked}
+use Rattle.queue.specs.declared.area.Area.{Area}
 
 abbrev pub argsOf : Asked → Bytes → Bytes → Bytes → Bytes → Bytes → Bytes → AdmitArgs
 argsOf x id ins outs bytes label tip = record {
@@ -95,3 +100,22 @@ putF r false l = put r l
 
 abbrev pub recIf : Bool → Rec → List Rec
 recIf b r = cond b (r ∷ []) []
+
+-- a record as it stands, or nothing
+unfoldable pub keepBytes : Bool → Bytes → ℕ → ℕ → Bytes
+keepBytes keep s base n = cond keep (take n (drop base s)) []
+
+-- the queue with r in it, under that cursor
+unfoldable pub withR : ℕ → Option Id → Rec → Queue → Queue
+withR height tip r q = committed height tip (q .counter) (put r (q .recs)) q
+
+-- a was read from s, and the queue fits with r in it
+pub record WithFrom (s : Bytes) (a : Area) (height : ℕ) (tip : Option Id) (r : Rec) : Type 0 where
+  pub q : Queue
+  pub is : readArea s ≡ some q
+  pub read : AreaAs s a q
+  pub fits : length (queueC .enc (withR height tip r q)) ≤ need (q .limits)
+  pub small : height < 4294967296
+
+abbrev pub WithTo : Bytes → ℕ → Option Id → Rec → Bytes → Bytes → Type 0
+WithTo s height tip r d d′ = (q : Queue) → readArea s ≡ some q → d′ ≡ over (areaBytes (withR height tip r q)) d
