@@ -325,7 +325,7 @@ step-count Drop r = refl
 step-count Keep r = refl
 step-count (End a b n) r = refl
 
-encs-append : (a b : List Rec) → encs recC (a ++ b) ≡ encs recC a ++ encs recC b
+pub encs-append : (a b : List Rec) → encs recC (a ++ b) ≡ encs recC a ++ encs recC b
 unfolding encs
 encs-append [] b = refl
 encs-append (r ∷ a) b = rw (encs-append a b) (sym (append-assoc (recC .enc r) (encs recC a) (encs recC b)))

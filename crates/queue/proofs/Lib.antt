@@ -15,3 +15,4 @@ pub mod CancelLaws
 pub mod ExpireLaws
 pub mod PieceLaws
 pub mod ReopenLaws
+pub mod AdmitLaws

@@ -55,7 +55,7 @@ use Rattle.queue.proofs.SelectLaws.{map-length}
 use Rattle.queue.proofs.CallLaws.{small-all}
 
 -- ---- lent ids
-pieces-join : (k : ℕ) (s : Bytes) → length s ≡ k * 32 → concat (pieces 32 k s) ≡ s
+pub pieces-join : (k : ℕ) (s : Bytes) → length s ≡ k * 32 → concat (pieces 32 k s) ≡ s
 pieces-join zero s h = none s h
   where
     none : (s : Bytes) → length s ≡ 0 → [] ≡ s
@@ -64,6 +64,10 @@ pieces-join zero s h = none s h
 pieces-join (suc k) s h =
     let l = length-drop 32 s in
     ap (λ (y : Bytes). take 32 s ++ y) (pieces-join k (drop 32 s) (omega arith)) ∙ take-append-drop 32 s
+
+pub pieces-many : (k : ℕ) (s : Bytes) → length (pieces 32 k s) ≡ k
+pieces-many zero s = refl
+pieces-many (suc k) s = ap suc (pieces-many k (drop 32 s))
 
 module _ (s : Bytes) (k : ℕ) (h : Small s) (e : k ≡ length s / 32) (z : length s % 32 ≡ 0) where
   ids-got : decs idC k s ≡ got (items 32 s) []

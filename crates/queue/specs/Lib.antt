@@ -32,3 +32,4 @@ pub mod SelectAs
 pub mod CallsAs
 pub mod PiecesAs
 pub mod Reopens
+pub mod Admitting

@@ -1,5 +1,6 @@
 // The private transaction queue in a lent area.
 
+pub mod admit;
 pub mod area;
 pub mod calls;
 pub mod finish;

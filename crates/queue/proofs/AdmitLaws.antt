@@ -1,0 +1,383 @@
+-- Admission: a new record's bytes, and the walk that puts it in its place. Assumes nothing.
+use mathlib.Core.Path.{_≡_, refl, ap, sym, _∙_}
+use mathlib.Core.Bool.{Bool, true, false, cond, not, _&&_, _||_}
+use mathlib.Core.Option.{Option, none, some}
+use mathlib.Core.List.{List, [], _∷_, _++_, append-assoc, append-nil}
+use Prim.Native.Nat.{ℕ, zero, suc, _+_, _-_, _*_, _/_, _%_, _^_, _≤_, _<_}
+use native.Mathlib.Omega.{arith}
+use native.Mathlib.Nat.{div-add-mod'}
+use lib.Dec.{ltb, leb, eqb}
+use lib.ListN.{length, drop, take, replicate, length-append, length-drop}
+use lib.Seq.{take-all, length-take-le}
+use borrow.Author.Tests.{lt-ltb, le-ltb, eq-eqb, ne-eqb}
+use Rattle.queue.specs.Codec as codec
+use Rattle.queue.specs.Codec.{Codec, cases, encs, be-length}
+use Rattle.queue.specs.Splice.{Put, be}
+use Rattle.queue.specs.Frames.{recC}
+use Rattle.queue.specs.View.{view}
+use Rattle.queue.specs.Reads.{Reads, whole, listAt}
+use Rattle.queue.specs.ReadLaws.{Turn, none-left}
+use Rattle.queue.specs.Forms.{formC, queueC, turn-in}
+use Rattle.queue.specs.Areas.{readArea}
+use Rattle.queue.specs.Sounds.{Fit}
+use Rattle.queue.specs.Opens.{limits, AreaAs, AreaIs}
+use Rattle.queue.specs.Fronts.{tipOf, tipSize, frontBytes, queueOf}
+use Rattle.queue.specs.Finishing.{picked}
+use Rattle.queue.specs.Plain.{rec-plain}
+use Rattle.queue.specs.Reopens.{leadBytes}
+use Rattle.queue.specs.Admitting.{argsOf, newOf, optLen, labelSize, termsLen, heldLen, newLen, newTerms, heldOf, TermsFit, HeldFit, putF, recIf, keepBytes, withR, WithFrom, WithTo}
+use Rattle.queue.specs.paper.Records.{Bytes, Id, Limits, Terms, Held, Rec, Queue}
+use Rattle.queue.specs.paper.Lists.{one, filter, insert, concat, count}
+use Rattle.queue.specs.paper.Ids.{cmpL, below?}
+use Rattle.queue.specs.paper.Sound.{need}
+use Rattle.queue.specs.paper.Area.{flagged, termsBytes, placeBytes, heldBytes, recBytes, areaBytes, over}
+use Rattle.queue.specs.paper.Changing.{named?, put, newRec, committed}
+use Rattle.queue.specs.paper.Calls.{items, pieces, given, admission}
+use Rattle.queue.specs.declared.admit.Asked.{Asked}
+use Rattle.queue.specs.declared.frame.Seen.{Seen}
+use Rattle.queue.specs.declared.frame.Height.{Height}
+use Rattle.queue.specs.declared.area.Area.{Area}
+use Rattle.queue.specs.declared.head.Marks.{Marks}
+use Rattle.queue.specs.declared.finish.Change.the-variants.{Named}
+use Rattle.queue.proofs.Turns.{SeenIn, ReadsRec}
+use Rattle.queue.proofs.PutLaws as puts
+use Rattle.queue.proofs.PutLaws.{then, recast, kept, Left, begun, onward, nothing}
+use Rattle.queue.proofs.ByteLaws.{be-same}
+use Rattle.queue.proofs.FinishLaws.{encs-append, raw-after, raw-within}
+use Rattle.queue.proofs.FrontLaws.{area-done}
+use Rattle.queue.proofs.WriteLaws.{fit, one-queue, same-queue, the-limits, queue-long}
+use Rattle.queue.proofs.ReopenLaws.{pieces-join, pieces-many}
+
+all-of : (s : Bytes) → take (length s) (drop 0 s) ≡ s
+all-of s = take-all (length s) s (omega arith)
+
+-- ---- flagged parts
+pub opt-put : {d d₁ d₂ : Bytes} {at a r : ℕ} (flag w v : ℕ) → flag ≡ 1 → v < 256 ^ w → Put d at (1 ∷ []) 1 a d₁ → Put d₁ a (be w v) w r d₂ → Put d at (flagged (codec.be w) (given flag v)) (optLen flag w) r d₂
+opt-put flag w v e h p q = rw (eq-eqb flag 1 e) (recast (then p q) (ap (λ (y : Bytes). 1 ∷ y) (be-same w v h)) refl refl)
+
+pub opt-none : {d d₁ : Bytes} {at r : ℕ} (flag w v : ℕ) → (flag ≡ 1 → ⊥) → Put d at (0 ∷ []) 1 r d₁ → Put d at (flagged (codec.be w) (given flag v)) (optLen flag w) r d₁
+opt-none flag w v e p = rw (ne-eqb flag 1 e) p
+
+pub opt-long : (flag w n at k : ℕ) → flag ≡ 1 → at + cond (eqb flag 1) (n + w) 1 ≤ k → at + (n + w) ≤ k
+opt-long flag w n at k e h = rw (eq-eqb flag 1 e) at h
+
+pub opt-short : (flag w n at k : ℕ) → (flag ≡ 1 → ⊥) → at + cond (eqb flag 1) (n + w) 1 ≤ k → at + 1 ≤ k
+opt-short flag w n at k e h = rw (ne-eqb flag 1 e) at h
+
+pub label-put : {d d₁ d₂ d₃ : Bytes} {at a b r : ℕ} (flag : ℕ) (l : Bytes) → flag ≡ 1 → length l ≤ 200 → Put d at (1 ∷ []) 1 a d₁ → Put d₁ a (be 1 (length l)) 1 b d₂ → Put d₂ b (take (length l) (drop 0 l)) (length l) r d₃
+    → Put d at (flagged (λ y. codec.be 1 (length y) ++ y) (given flag l)) (labelSize flag l) r d₃
+label-put flag l e h p q t = rw (eq-eqb flag 1 e) (recast (then (then p q) t) (ap (λ (y : Bytes). 1 ∷ y) (two (be-same 1 (length l) (omega arith)) (all-of l))) (omega arith) refl)
+  where
+    two : {x x′ y y′ : Bytes} → x ≡ x′ → y ≡ y′ → x ++ y ≡ x′ ++ y′
+    two e f = cc
+
+pub label-none : {d d₁ : Bytes} {at r : ℕ} (flag : ℕ) (l : Bytes) → (flag ≡ 1 → ⊥) → Put d at (0 ∷ []) 1 r d₁ → Put d at (flagged (λ y. codec.be 1 (length y) ++ y) (given flag l)) (labelSize flag l) r d₁
+label-none flag l e p = rw (ne-eqb flag 1 e) p
+
+-- ---- terms
+eight : {a a′ d d′ f f′ g g′ h h′ : Bytes} (b c e : Bytes) → a ≡ a′ → d ≡ d′ → f ≡ f′ → g ≡ g′ → h ≡ h′
+    → ((((((a ++ b) ++ c) ++ d) ++ e) ++ f) ++ g) ++ h ≡ a′ ++ (b ++ (c ++ (d′ ++ (e ++ (f′ ++ (g′ ++ h′))))))
+eight {a} {a′} {d} {d′} {f} {f′} {g} {g′} {h} {h′} b c e p q r s t = cc (rejoin a′ b c d′ e f′ g′ h′)
+  where
+    rejoin : (a b c d e f g h : Bytes) → ((((((a ++ b) ++ c) ++ d) ++ e) ++ f) ++ g) ++ h ≡ a ++ (b ++ (c ++ (d ++ (e ++ (f ++ (g ++ h))))))
+    rejoin a b c d e f g h = simp append-assoc
+
+pub terms-put : {d d₁ d₂ d₃ d₄ d₅ d₆ d₇ d₈ : Bytes} {at p1 p2 p3 p4 p5 p6 p7 r : ℕ} (x : Asked) (label : Bytes) (n : ℕ) → TermsFit x label n
+    → Put d at (be 8 (x .now .0)) 8 p1 d₁ → Put d₁ p1 (flagged (codec.be 8) (given (x .timeflag) (x .time .0))) (optLen (x .timeflag) 8) p2 d₂
+    → Put d₂ p2 (flagged (codec.be 4) (given (x .heightflag) (x .height .0))) (optLen (x .heightflag) 4) p3 d₃ → Put d₃ p3 (be 4 (x .priority)) 4 p4 d₄
+    → Put d₄ p4 (flagged (λ y. codec.be 1 (length y) ++ y) (given (x .labelflag) label)) (labelSize (x .labelflag) label) p5 d₅
+    → Put d₅ p5 (be 8 (x .fee)) 8 p6 d₆ → Put d₆ p6 (be 4 n) 4 p7 d₇ → Put d₇ p7 (be 8 (x .cost)) 8 r d₈
+    → Put d at (termsBytes (newTerms x label n)) (termsLen x label) r d₈
+unfolding termsBytes
+terms-put x label n f a b c e g h i j =
+    recast (then (then (then (then (then (then (then a b) c) e) g) h) i) j)
+    (eight (flagged (codec.be 8) (given (x .timeflag) (x .time .0))) (flagged (codec.be 4) (given (x .heightflag) (x .height .0))) (flagged (λ y. codec.be 1 (length y) ++ y) (given (x .labelflag) label))
+    (be-same 8 (x .now .0) (f .now)) (be-same 4 (x .priority) (f .priority)) (be-same 8 (x .fee) (f .fee)) (be-same 4 n (f .size)) (be-same 8 (x .cost) (f .cost)))
+    (omega arith) refl
+
+-- ---- what it holds
+items-join : (s : Bytes) → length s % 32 ≡ 0 → concat (items 32 s) ≡ s
+unfolding items
+items-join s h = let d = div-add-mod' (length s) 32 in pieces-join (length s / 32) s (omega arith)
+
+items-many : (s : Bytes) → length (items 32 s) ≡ length s / 32
+unfolding items
+items-many s = pieces-many (length s / 32) s
+
+seven : {b b′ c c′ d d′ e e′ f f′ g g′ : Bytes} → b ≡ b′ → c ≡ c′ → d ≡ d′ → e ≡ e′ → f ≡ f′ → g ≡ g′
+    → ((((((1 ∷ []) ++ b) ++ c) ++ d) ++ e) ++ f) ++ g ≡ 1 ∷ (b′ ++ (c′ ++ (d′ ++ (e′ ++ (f′ ++ g′)))))
+seven {b} {b′} {c} {c′} {d} {d′} {e} {e′} {f} {f′} {g} {g′} p q r s t u = ap (λ (y : Bytes). 1 ∷ y) (inner b c d e f g ∙ outer)
+  where
+    inner : (b c d e f g : Bytes) → ((((b ++ c) ++ d) ++ e) ++ f) ++ g ≡ b ++ (c ++ (d ++ (e ++ (f ++ g))))
+    inner b c d e f g = simp append-assoc
+
+    outer : b ++ (c ++ (d ++ (e ++ (f ++ g)))) ≡ b′ ++ (c′ ++ (d′ ++ (e′ ++ (f′ ++ g′))))
+    outer = cc
+
+pub held-put : {x x₁ x₂ x₃ x₄ x₅ x₆ x₇ : Bytes} {at p1 p2 p3 p4 p5 p6 r : ℕ} (ins outs bytes : Bytes) → HeldFit ins outs bytes
+    → Put x at (1 ∷ []) 1 p1 x₁ → Put x₁ p1 (be 2 (length ins / 32)) 2 p2 x₂ → Put x₂ p2 (take (length ins) (drop 0 ins)) (length ins) p3 x₃
+    → Put x₃ p3 (be 2 (length outs / 32)) 2 p4 x₄ → Put x₄ p4 (take (length outs) (drop 0 outs)) (length outs) p5 x₅
+    → Put x₅ p5 (be 4 (length bytes)) 4 p6 x₆ → Put x₆ p6 (take (length bytes) (drop 0 bytes)) (length bytes) r x₇
+    → Put x at (flagged heldBytes (some (heldOf ins outs bytes))) (heldLen ins outs bytes) r x₇
+unfolding heldBytes
+held-put ins outs bytes f a b c d e g h =
+    recast (then (then (then (then (then (then a b) c) d) e) g) h)
+    (seven (be-same 2 (length ins / 32) (f .fewIns) ∙ ap (codec.be 2) (sym (items-many ins))) (all-of ins ∙ sym (items-join ins (f .wholeIns)))
+    (be-same 2 (length outs / 32) (f .fewOuts) ∙ ap (codec.be 2) (sym (items-many outs))) (all-of outs ∙ sym (items-join outs (f .wholeOuts)))
+    (be-same 4 (length bytes) (f .fewBytes)) (all-of bytes))
+    (omega arith) refl
+
+-- ---- the whole record
+lead-zero : (i : Id) → leadBytes i 0 0 ≡ 2 ∷ (i ++ (0 ∷ 0 ∷ []))
+unfolding leadBytes
+lead-zero i = ap (λ (y : Bytes). 2 ∷ y) (append-assoc i (be 1 0) (be 1 0))
+
+regroup : (i t h : Bytes) → ((2 ∷ (i ++ (0 ∷ 0 ∷ []))) ++ t) ++ (replicate 10 0 ++ h) ≡ 2 ∷ (i ++ (0 ∷ 0 ∷ (t ++ (replicate 10 0 ++ h))))
+regroup i t h = ap (λ (y : Bytes). 2 ∷ y) (inner i (0 ∷ 0 ∷ []) t (replicate 10 0 ++ h))
+  where
+    inner : (i z t h : Bytes) → ((i ++ z) ++ t) ++ h ≡ i ++ (z ++ (t ++ h))
+    inner i z t h = simp append-assoc
+
+new-shape : (x : Asked) (id ins outs bytes label : Bytes) → 2 ∷ (id ++ (0 ∷ 0 ∷ (termsBytes (newTerms x label (length bytes)) ++ (replicate 10 0 ++ flagged heldBytes (some (heldOf ins outs bytes)))))) ≡ recBytes (newOf x id ins outs bytes label)
+unfolding recBytes newOf newRec placeBytes
+new-shape x id ins outs bytes label = refl
+
+pub new-put : {d d₁ d₂ d₃ d₄ : Bytes} {at a b c r : ℕ} (x : Asked) (id ins outs bytes label : Bytes)
+    → Put d at (leadBytes id 0 0) 35 a d₁ → Put d₁ a (termsBytes (newTerms x label (length bytes))) (termsLen x label) b d₂ → Put d₂ b (replicate (b + 10 - b) 0) (b + 10 - b) c d₃
+    → Put d₃ c (flagged heldBytes (some (heldOf ins outs bytes))) (heldLen ins outs bytes) r d₄
+    → Put d at (recC .enc (newOf x id ins outs bytes label)) (newLen x ins outs bytes label) r d₄
+new-put {b = b} x id ins outs bytes label p q s t =
+    let z : b + 10 - b ≡ 10 = omega arith in
+    recast (then (then (then p q) s) t)
+    (append-assoc (leadBytes id 0 0 ++ termsBytes (newTerms x label (length bytes))) (replicate (b + 10 - b) 0) (flagged heldBytes (some (heldOf ins outs bytes)))
+    ∙ rw (z, lead-zero id) (regroup id (termsBytes (newTerms x label (length bytes))) (flagged heldBytes (some (heldOf ins outs bytes))))
+    ∙ new-shape x id ins outs bytes label ∙ sym (rec-plain (newOf x id ins outs bytes label)))
+    (omega arith) refl
+
+-- ---- the paper's put, one record at a time
+module _ (r x : Rec) (l : List Rec) where
+  keeps : named? (r .id) x ≡ false → filter (λ y. not (named? (r .id) y)) (x ∷ l) ≡ x ∷ filter (λ y. not (named? (r .id) y)) l
+  keeps h = rw h
+
+  skips : named? (r .id) x ≡ true → filter (λ y. not (named? (r .id) y)) (x ∷ l) ≡ filter (λ y. not (named? (r .id) y)) l
+  skips h = rw h
+
+  first : below? (r .id) (x .id) ≡ true → insert (λ y z. below? (y .id) (z .id)) r (x ∷ l) ≡ r ∷ x ∷ l
+  first h = rw h
+
+  later : below? (r .id) (x .id) ≡ false → insert (λ y z. below? (y .id) (z .id)) r (x ∷ l) ≡ x ∷ insert (λ y z. below? (y .id) (z .id)) r l
+  later h = rw h
+
+pub put-turn : (r x : Rec) (l : List Rec) (c : ℕ) → c ≡ cmpL (r .id) (x .id) → (placed : Bool) → putF r placed (x ∷ l) ≡ recIf (not placed && eqb c 0) r ++ (recIf (not (eqb c 1)) x ++ putF r (placed || eqb c 0) l)
+unfolding putF
+put-turn r x l zero e true = keeps r x l (ne-eqb (cmpL (r .id) (x .id)) 1 (λ h. let z : _≡_ {A = ℕ} 0 1 = e ∙ h in absurd (let y : ⊥ = omega arith in y)))
+put-turn r x l (suc zero) e true = skips r x l (eq-eqb (cmpL (r .id) (x .id)) 1 (sym e))
+put-turn r x l (suc (suc c)) e true =
+    let m : eqb (suc (suc c)) 1 ≡ false = ne-eqb (suc (suc c)) 1 (λ h. absurd (let y : ⊥ = omega arith in y)) in
+    rw m (keeps r x l (ne-eqb (cmpL (r .id) (x .id)) 1 (λ h. let z : suc (suc c) ≡ 1 = e ∙ h in absurd (let y : ⊥ = omega arith in y))))
+put-turn r x l zero e false =
+    ap (insert (λ y z. below? (y .id) (z .id)) r) (keeps r x l (ne-eqb (cmpL (r .id) (x .id)) 1 (λ h. let z : _≡_ {A = ℕ} 0 1 = e ∙ h in absurd (let y : ⊥ = omega arith in y))))
+    ∙ first r x (filter (λ y. not (named? (r .id) y)) l) (eq-eqb (cmpL (r .id) (x .id)) 0 (sym e))
+put-turn r x l (suc zero) e false = ap (insert (λ y z. below? (y .id) (z .id)) r) (skips r x l (eq-eqb (cmpL (r .id) (x .id)) 1 (sym e)))
+put-turn r x l (suc (suc c)) e false =
+    let n : eqb (suc (suc c)) 0 ≡ false = ne-eqb (suc (suc c)) 0 (λ h. absurd (let y : ⊥ = omega arith in y)) in
+    let m : eqb (suc (suc c)) 1 ≡ false = ne-eqb (suc (suc c)) 1 (λ h. absurd (let y : ⊥ = omega arith in y)) in
+    rw (n, m) (ap (insert (λ y z. below? (y .id) (z .id)) r) (keeps r x l (ne-eqb (cmpL (r .id) (x .id)) 1 (λ h. let z : suc (suc c) ≡ 1 = e ∙ h in absurd (let y : ⊥ = omega arith in y))))
+    ∙ later r x (filter (λ y. not (named? (r .id) y)) l) (ne-eqb (cmpL (r .id) (x .id)) 0 (λ h. let z : suc (suc c) ≡ 0 = e ∙ h in absurd (let y : ⊥ = omega arith in y))))
+
+-- ---- how long a new record is
+opt-size : (flag w v : ℕ) → length (flagged (codec.be w) (given flag v)) ≡ optLen flag w
+opt-size flag w v = let e = be-length w v in cases (eqb flag 1) (λ t. rw t (omega arith)) (λ t. rw t (omega arith))
+
+label-size : (flag : ℕ) (l : Bytes) → length (flagged (λ y. codec.be 1 (length y) ++ y) (given flag l)) ≡ labelSize flag l
+label-size flag l = let e = length-append (codec.be 1 (length l)) l in let f = be-length 1 (length l) in cases (eqb flag 1) (λ t. rw t (omega arith)) (λ t. rw t (omega arith))
+
+pub terms-size : (x : Asked) (label : Bytes) (n : ℕ) → length (termsBytes (newTerms x label n)) ≡ termsLen x label
+unfolding termsBytes
+terms-size x label n =
+    let a = be-length 8 (x .now .0) in let b = opt-size (x .timeflag) 8 (x .time .0) in let c = opt-size (x .heightflag) 4 (x .height .0) in
+    let d = be-length 4 (x .priority) in let e = label-size (x .labelflag) label in let f = be-length 8 (x .fee) in let g = be-length 4 n in let h = be-length 8 (x .cost) in
+    sizes (codec.be 8 (x .now .0)) (flagged (codec.be 8) (given (x .timeflag) (x .time .0))) (flagged (codec.be 4) (given (x .heightflag) (x .height .0))) (codec.be 4 (x .priority)) (flagged (λ y. codec.be 1 (length y) ++ y) (given (x .labelflag) label)) (codec.be 8 (x .fee)) (codec.be 4 n) (codec.be 8 (x .cost)) ∙ omega arith
+  where
+    sizes : (a b c d e f g h : Bytes) → length (a ++ (b ++ (c ++ (d ++ (e ++ (f ++ (g ++ h))))))) ≡ length a + (length b + (length c + (length d + (length e + (length f + (length g + length h))))))
+    sizes a b c d e f g h = simp length-append
+
+held-size : (ins outs bytes : Bytes) → HeldFit ins outs bytes → length (flagged heldBytes (some (heldOf ins outs bytes))) ≡ heldLen ins outs bytes
+unfolding heldBytes
+held-size ins outs bytes f =
+    let a = be-length 2 (length (items 32 ins)) in let b = ap length (items-join ins (f .wholeIns)) in let c = be-length 2 (length (items 32 outs)) in let d = ap length (items-join outs (f .wholeOuts)) in let e = be-length 4 (length bytes) in
+    ap suc (sizes (codec.be 2 (length (items 32 ins))) (concat (items 32 ins)) (codec.be 2 (length (items 32 outs))) (concat (items 32 outs)) (codec.be 4 (length bytes)) bytes) ∙ omega arith
+  where
+    sizes : (a b c d e f : Bytes) → length (a ++ (b ++ (c ++ (d ++ (e ++ f))))) ≡ length a + (length b + (length c + (length d + (length e + length f))))
+    sizes a b c d e f = simp length-append
+
+pub new-long : (x : Asked) (id ins outs bytes label : Bytes) → length id ≡ 32 → HeldFit ins outs bytes → length (recC .enc (newOf x id ins outs bytes label)) ≡ newLen x ins outs bytes label
+new-long x id ins outs bytes label l f =
+    let t = terms-size x label (length bytes) in let h = held-size ins outs bytes f in
+    let a = length-append id (0 ∷ 0 ∷ (termsBytes (newTerms x label (length bytes)) ++ (replicate 10 0 ++ flagged heldBytes (some (heldOf ins outs bytes))))) in
+    let b = length-append (termsBytes (newTerms x label (length bytes))) (replicate 10 0 ++ flagged heldBytes (some (heldOf ins outs bytes))) in
+    ap length (rec-plain (newOf x id ins outs bytes label) ∙ sym (new-shape x id ins outs bytes label)) ∙ omega arith
+
+pub new-id : (x : Asked) (id ins outs bytes label : Bytes) → newOf x id ins outs bytes label .id ≡ id
+unfolding newOf newRec
+new-id x id ins outs bytes label = refl
+
+-- ---- the new record, where it is due
+pub due-yes : (r : Rec) {due : Bool} → due ≡ true → encs recC (recIf due r) ≡ recC .enc r
+unfolding encs
+due-yes r e = rw e (append-nil (recC .enc r))
+
+pub due-no : (r : Rec) {due : Bool} → due ≡ false → encs recC (recIf due r) ≡ []
+unfolding encs
+due-no r e = rw e
+
+pub due-room : (r : Rec) {due : Bool} (o k n : ℕ) → due ≡ true → length (recC .enc r) ≡ n → o + length (encs recC (recIf due r)) ≤ k → o + n ≤ k
+due-room r o k n e l h = let a = ap length (due-yes r e) in omega arith
+
+pub due-none : (r : Rec) {due : Bool} (d : Bytes) (at : ℕ) → due ≡ false → Put d at (encs recC (recIf due r)) (length (encs recC (recIf due r))) at d
+due-none r d at e = rw (due-no r e) (nothing d at)
+
+-- ---- a record that stays
+pub keep-yes : (s : Bytes) (base n : ℕ) {keep : Bool} → keep ≡ true → keepBytes keep s base n ≡ take n (drop base s)
+unfolding keepBytes
+keep-yes s base n e = rw e
+
+pub keep-room : (s : Bytes) (base n : ℕ) {keep : Bool} (o k : ℕ) → keep ≡ true → base + n ≤ length s → o + length (keepBytes keep s base n) ≤ k → o + n ≤ k
+keep-room s base n o k e l h = let a = ap length (keep-yes s base n e) in let b = length-take-le n (drop base s) (omega (arith, length-drop base s)) in omega arith
+
+pub keep-none : (s : Bytes) (base n : ℕ) {keep : Bool} (d : Bytes) (at : ℕ) → keep ≡ false → Put d at (keepBytes keep s base n) (length (keepBytes keep s base n)) at d
+unfolding keepBytes
+keep-none s base n d at e = rw e (nothing d at)
+
+keep-is : (s : Bytes) (i : ℕ) {ok : Bool} {x : Seen} {r : Rec} (keep : Bool) → SeenIn false s i ok (x .size) x r → encs recC (recIf keep r) ≡ keepBytes keep s i (x .size)
+unfolding keepBytes encs view
+keep-is s i {r = r} true w = append-nil (recC .enc r) ∙ sym (w .1 .bytes)
+keep-is s i false w = refl
+
+-- ---- the walk that writes
+module _ (s : Bytes) (at n : ℕ) (r : Rec) (to : ℕ) (d₀ : Bytes) where
+  pub record Placing (dst : Bytes) (i left o : ℕ) (placed : Bool) : Type 0 where
+    pub within : i ≤ length s
+    pub all : whole (formC false recC) left s i ≡ true
+    pub long : length dst ≡ length d₀
+    pub rest : Left d₀ to (encs recC (putF r false (listAt (formC false recC) n s at))) dst o (encs recC (putF r placed (listAt (formC false recC) left s i)))
+
+  pub placing : at ≤ length s → whole (formC false recC) n s at ≡ true → Placing d₀ at n to false
+  placing h w = record { within = h; all = w; long = refl; rest = begun _ _ _ }
+
+  module _ {dst : Bytes} {i left o : ℕ} {placed : Bool} (g : Placing dst i left o placed) where
+    place-turn : {ok : Bool} {x : Seen} → 0 < left → ReadsRec false s i ok (x .size) x → Turn (formC false recC) s left i (i + x .size) (SeenIn false s i ok (x .size) x)
+    place-turn {ok} {x} p y = rw (raw-after s i (x .size)) (turn-in false left (g .within) (g .all) p y)
+
+    pub place-in : {ok : Bool} {x : Seen} → 0 < left → ReadsRec false s i ok (x .size) x → i + x .size ≤ length s
+    place-in p y = raw-within (place-turn p y .is)
+
+    module _ {ok due : Bool} {x : Seen} {c : ℕ} (p : 0 < left) (y : ReadsRec false s i ok (x .size) x) (e : c ≡ cmpL (r .id) (x .id)) (f : due ≡ (not placed && eqb c 0)) where
+      split : encs recC (putF r placed (listAt (formC false recC) left s i)) ≡ encs recC (recIf due r) ++ (keepBytes (not (eqb c 1)) s i (x .size) ++ encs recC (putF r (placed || eqb c 0) (listAt (formC false recC) (left - 1) s (i + x .size))))
+      split =
+          let t = place-turn p y in
+          let R = listAt (formC false recC) (left - 1) s (i + x .size) in
+          let k : c ≡ cmpL (r .id) (t .item .id) = e ∙ ap (cmpL (r .id)) (t .is .0 .id) in
+          ap (λ l. encs recC (putF r placed l)) (t .list)
+          ∙ ap (encs recC) (put-turn r (t .item) (listAt (formC false recC) (left - 1) s (i + x .size)) c k placed)
+          ∙ encs-append (recIf (not placed && eqb c 0) r) (recIf (not (eqb c 1)) (t .item) ++ putF r (placed || eqb c 0) (listAt (formC false recC) (left - 1) s (i + x .size)))
+          ∙ two (ap (λ (b : Bool). encs recC (recIf b r)) (sym f))
+          (encs-append (recIf (not (eqb c 1)) (t .item)) (putF r (placed || eqb c 0) (listAt (formC false recC) (left - 1) s (i + x .size)))
+          ∙ ap (λ (b : Bytes). b ++ encs recC (putF r (placed || eqb c 0) (listAt (formC false recC) (left - 1) s (i + x .size)))) (keep-is s i (not (eqb c 1)) (t .is)))
+        where
+          two : {x x′ y y′ : Bytes} → x ≡ x′ → y ≡ y′ → x ++ y ≡ x′ ++ y′
+          two e f = cc
+
+      abbrev others : Bytes
+      others = encs recC (putF r (placed || eqb c 0) (listAt (formC false recC) (left - 1) s (i + x .size)))
+
+      fits-both : to + length (encs recC (putF r false (listAt (formC false recC) n s at))) ≤ length d₀ → o + (length (encs recC (recIf due r)) + length (keepBytes (not (eqb c 1)) s i (x .size))) ≤ length dst
+      fits-both h = omega (arith, g .rest .pos, g .long, ap length split, length-append (encs recC (recIf due r)) (keepBytes (not (eqb c 1)) s i (x .size) ++ others), length-append (keepBytes (not (eqb c 1)) s i (x .size)) others)
+
+      pub place-room : to + length (encs recC (putF r false (listAt (formC false recC) n s at))) ≤ length d₀ → o + length (encs recC (recIf due r)) ≤ length dst
+      place-room h = let k = fits-both h in omega arith
+
+      module _ {dst₁ : Bytes} {q : ℕ} (u : Put dst o (encs recC (recIf due r)) (length (encs recC (recIf due r))) q dst₁) where
+        pub place-room-2 : to + length (encs recC (putF r false (listAt (formC false recC) n s at))) ≤ length d₀ → q + length (keepBytes (not (eqb c 1)) s i (x .size)) ≤ length dst₁
+        place-room-2 h = let k = fits-both h in omega (arith, u .next, kept u)
+
+        pub place-go : {dst₂ : Bytes} {m z : ℕ} {b : Bool} → Put dst₁ q (keepBytes (not (eqb c 1)) s i (x .size)) m z dst₂ → b ≡ (placed || eqb c 0) → Placing dst₂ (i + x .size) (left - 1) z b
+        place-go w v = let t = place-turn p y in rw v (record { within = t .within; all = t .rest; long = kept w ∙ kept u ∙ g .long; rest = onward (onward (rw split at (g .rest)) u) w })
+
+    -- at the end the new record is due unless it stands
+    last : left ≡ 0 → encs recC (putF r placed (listAt (formC false recC) left s i)) ≡ encs recC (recIf (not placed) r)
+    unfolding putF
+    last z = ap (λ l. encs recC (putF r placed l)) (none-left (formC false recC) s left i z .0) ∙ go placed
+      where
+        go : (b : Bool) → encs recC (putF r b []) ≡ encs recC (recIf (not b) r)
+        go true = refl
+        go false = refl
+
+    pub last-room : left ≡ 0 → to + length (encs recC (putF r false (listAt (formC false recC) n s at))) ≤ length d₀ → o + length (encs recC (recIf (not placed) r)) ≤ length dst
+    last-room z h = omega (arith, g .rest .pos, g .long, ap length (last z))
+
+    pub place-end : {dst′ : Bytes} {m q : ℕ} → left ≡ 0 → Put dst o (encs recC (recIf (not placed) r)) m q dst′ → Put d₀ to (encs recC (putF r false (listAt (formC false recC) n s at))) (length (encs recC (putF r false (listAt (formC false recC) n s at)))) q dst′
+    place-end z u = puts.done (onward (rw (last z ∙ sym (append-nil (encs recC (recIf (not placed) r)))) at (g .rest)) u)
+
+-- ---- how many records there are then
+insert-long : (lt : Rec → Rec → Bool) (r : Rec) (l : List Rec) → length (insert lt r l) ≡ suc (length l)
+insert-long lt r [] = refl
+insert-long lt r (x ∷ l) = let i = insert-long lt r l in cases (lt r x) (λ t. rw t) (λ t. rw t (ap suc i))
+
+filter-long : (p : Rec → Bool) (l : List Rec) → length (filter (λ x. not (p x)) l) + count p l ≡ length l
+filter-long p [] = refl
+filter-long p (x ∷ l) = let i = filter-long p l in cases (p x) (λ t. rw t (omega arith)) (λ t. rw t (omega arith))
+
+pub put-long : (r : Rec) (l : List Rec) → length (putF r false l) + count (named? (r .id)) l ≡ length l + 1
+unfolding putF
+put-long r l =
+    let a = insert-long (λ x y. below? (x .id) (y .id)) r (filter (λ x. not (named? (r .id) x)) l) in
+    let b = filter-long (named? (r .id)) l in omega arith
+
+-- ---- the whole area
+module _ {s : Bytes} {a : Area} (cursor : Height) (has : Bool) (tip : Id) {r : Rec} (w : WithFrom s a (cursor .0) (tipOf has tip) r) where
+  abbrev pub Limz : Limits
+  Limz = limits (a .open .head .p) (a .open .head .b) (a .open .head .t) (a .open .head .k)
+
+  abbrev pub recsWith : List Rec
+  recsWith = putF r false (listAt (formC false recC) (a .open .head .count) s (a .open .start))
+
+  pub with-asks : (a .open .start ≤ length s) × (whole (formC false recC) (a .open .head .count) s (a .open .start) ≡ true)
+  with-asks = let g = w .read .store in (omega (arith, g .up, g .ends), g .all)
+
+  module _ {id : Id} {m : ℕ} (ri : r .id ≡ id) (c : m ≡ count (picked Named id) (listAt (formC false recC) (a .open .head .count) s (a .open .start))) where
+    with-many : a .open .head .count + 1 - m ≡ length recsWith
+    unfolding picked
+    with-many =
+        let L = w .read .store .list in
+        let k : m ≡ count (named? (r .id)) (listAt (formC false recC) (a .open .head .count) s (a .open .start)) = c ∙ ap (λ i. count (named? i) (listAt (formC false recC) (a .open .head .count) s (a .open .start))) (sym ri) in
+        let p = put-long r (listAt (formC false recC) (a .open .head .count) s (a .open .start)) in
+        let z = ap length L ∙ w .read .store .count in omega arith
+
+    pub with-few : a .open .head .count + 1 - m < 4294967296
+    with-few = let f = fit (w .read) .sound in omega (arith, f .few, f .range .P-high, f .range .T-high, w .read .store .count)
+
+    module _ {revision : ℕ} (e : revision ≡ (a .open .head .revision + 1) % 2 ^ 64) (l : length tip ≡ 32) where
+      abbrev pub marksWith : Marks
+      marksWith = record { persisted = cursor; revision = revision; cursor = cursor; tip = has; counter = a .open .head .counter; count = a .open .head .count + 1 - m }
+
+      with-is : queueOf Limz marksWith tip recsWith ≡ withR (cursor .0) (tipOf has tip) r (w .q)
+      unfolding withR committed putF
+      with-is =
+          let st = w .read .store in
+          same-queue refl (sym (the-limits (w .read))) (e ∙ ap (λ v. (v + 1) % 2 ^ 64) (sym (st .head .revision))) refl refl (sym (st .head .counter)) (ap (put r) (st .list))
+
+      with-fits : length (queueC .enc (queueOf Limz marksWith tip recsWith)) ≤ need Limz
+      with-fits = let u = ap (λ v. length (queueC .enc v)) with-is in let v = ap need (the-limits (w .read)) in let y = w .fits in omega arith
+
+      pub with-room : 45 + tipSize has + length (encs recC recsWith) ≤ a .need
+      with-room =
+          let q = queue-long Limz marksWith tip recsWith with-many l in
+          let v = ap need (the-limits (w .read)) in let y = with-fits in omega (arith, w .read .need)
+
+      pub with-done : {d d₁ d₂ d₃ : Bytes} {o y y′ to : ℕ} {q′ : Queue} → readArea s ≡ some q′ → a .need ≤ length d → to ≡ 45 + tipSize has
+          → Put d to (encs recC recsWith) (length (encs recC recsWith)) o d₁ → Put d₁ 0 (frontBytes Limz marksWith tip) (45 + tipSize has) y d₂ → Put d₂ o (replicate (a .need - o) 0) (a .need - o) y′ d₃
+          → d₃ ≡ over (areaBytes (withR (cursor .0) (tipOf has tip) r q′)) d
+      with-done {d} f g h p1 p2 p3 =
+          area-done Limz marksWith tip recsWith with-many with-fits (w .read .need ∙ ap need (the-limits (w .read))) g p1 (recast p2 refl (sym h) refl) p3
+          ∙ ap (λ v. over (areaBytes v) d) (with-is ∙ ap (withR (cursor .0) (tipOf has tip) r) (one-queue s (w .is) f))

@@ -1,0 +1,28 @@
+use mathlib.Core.Path.{_≡_, refl, sym, ap, _∙_}
+use native.Mathlib.Omega.{arith}
+use mathlib.Core.Bool.{Bool, true, false, _&&_}
+use Prim.Native.Nat.{ℕ, _≤_, _+_, _-_, _*_, _/_, _<_}
+use lib.ListN.{length}
+use Rattle.queue.proofs.PutLaws.{sized}
+use Rattle.queue.proofs.AdmitLaws.{keep-yes, keep-room, keep-none}
+use borrow.Author.Needs.{needs}
+use Rattle.queue.proofs.admit.put_keep.Statement.{statement}
+use Rattle.queue.proofs.admit.put_keep.Tie as tie
+use Rattle.queue.proofs.admit.put_keep.Reads as reads
+use Rattle.queue.proofs.admit.put_keep.Lts as lts
+use Rattle.queue.proofs.put.copy_part.Reads as copy-part-reads
+
+copy-part-requires : tie.Need-copy-part-requires
+copy-part-requires c κs = (c .before .before .before .before .pre .0, keep-room (c .before .before .before .before .args .src .now) (c .before .before .before .before .args .base) (c .before .before .before .before .args .n) _ _ (c .before .if1 .taken) (c .before .before .before .before .pre .0) (c .before .before .before .before .pre .1))
+
+same-length : tie.Need-same-length
+same-length c = search needs
+
+returns : tie.Need-returns
+returns c = sized (c .before .before .copy-part .ensures) (keep-yes (c .before .before .before .before .before .before .before .args .src .now) (c .before .before .before .before .before .before .before .args .base) (c .before .before .before .before .before .before .before .args .n) (c .before .before .before .before .if1 .taken))
+
+returns-2 : tie.Need-returns-2
+returns-2 c = keep-none (c .before .before .before .args .src .now) (c .before .before .before .args .base) (c .before .before .before .args .n) _ _ (c .if1 .left)
+
+pub put-keep-spec : {M : Type 1} → statement M
+put-keep-spec = tie.close (tie.spec copy-part-requires same-length returns returns-2)

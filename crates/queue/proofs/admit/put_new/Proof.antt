@@ -1,0 +1,48 @@
+use mathlib.Core.Path.{_≡_, refl, sym, ap, _∙_}
+use native.Mathlib.Omega.{arith}
+use mathlib.Core.Bool.{Bool, true, false, _&&_}
+use Prim.Native.Nat.{ℕ, _≤_, _+_, _-_, _*_, _/_, _<_}
+use lib.ListN.{length}
+use Rattle.queue.proofs.AdmitLaws.{new-put}
+use borrow.Author.Needs.{needs}
+use Rattle.queue.proofs.admit.put_new.Statement.{statement}
+use Rattle.queue.proofs.admit.put_new.Tie as tie
+use Rattle.queue.proofs.admit.put_new.Reads as reads
+use Rattle.queue.proofs.admit.put_new.Lts as lts
+use Rattle.queue.proofs.admit.put_held.Reads as put-held-reads
+use Rattle.queue.proofs.admit.put_terms.Reads as put-terms-reads
+use Rattle.queue.proofs.put.fill_zero.Reads as fill-zero-reads
+use Rattle.queue.proofs.reopen.put_lead.Reads as put-lead-reads
+
+put-lead-requires : tie.Need-put-lead-requires
+put-lead-requires c κs = search needs
+
+put-terms-requires : tie.Need-put-terms-requires
+put-terms-requires c κs = search needs
+
+add-fill-zero : tie.Need-add-fill-zero
+add-fill-zero c = search needs
+
+fill-zero-requires : tie.Need-fill-zero-requires
+fill-zero-requires c κs = search needs
+
+put-held-requires : tie.Need-put-held-requires
+put-held-requires c κs = search needs
+
+same-length : tie.Need-same-length
+same-length c = search needs
+
+returns : tie.Need-returns
+returns c = new-put (c .before .before .before .before .before .before .before .before .before .before .before .before .before .before .before .before .before .before .before .before .before .args .x) (c .before .before .before .before .before .before .before .before .before .before .before .before .before .before .before .before .before .before .before .before .before .args .id) (c .before .before .before .before .before .before .before .before .before .before .before .before .before .before .before .before .before .before .before .before .before .args .inputs .now) (c .before .before .before .before .before .before .before .before .before .before .before .before .before .before .before .before .before .before .before .before .before .args .outputs .now) (c .before .before .before .before .before .before .before .before .before .before .before .before .before .before .before .before .before .before .before .before .before .args .bytes .now) (c .before .before .before .before .before .before .before .before .before .before .before .before .before .before .before .before .before .before .before .before .before .args .label .now) (c .before .before .before .before .before .before .before .before .before .before .before .before .before .before .put-lead .ensures) (c .before .before .before .before .before .before .before .before .before .before .put-terms .ensures) (c .before .before .before .before .before .before .fill-zero .ensures) (c .before .before .put-held .ensures)
+
+pub put-new-spec : {M : Type 1} → statement M
+put-new-spec =
+    tie.close
+    (tie.spec
+    put-lead-requires
+    put-terms-requires
+    add-fill-zero
+    fill-zero-requires
+    put-held-requires
+    same-length
+    returns)

@@ -1,0 +1,121 @@
+-- Admission as the code goes, and what its parts ask and say.
+use mathlib.Core.Path.{_≡_}
+use mathlib.Core.Bool.{Bool, true, false, cond, not, _&&_, _||_}
+use mathlib.Core.Option.{Option, none, some}
+use mathlib.Core.List.{List, [], _∷_, _++_}
+use Prim.Native.Nat.{ℕ, _+_, _-_, _/_, _%_, _^_, _≤_, _<_}
+use lib.Dec.{eqb}
+use lib.ListN.{length, take, drop}
+use Rattle.queue.specs.Codec.{be}
+use Rattle.queue.specs.Forms.{queueC}
+use Rattle.queue.specs.Areas.{readArea}
+use Rattle.queue.specs.Opens.{AreaAs}
+use Rattle.queue.specs.paper.Records.{Bytes, Id, Terms, Held, Rec, Queue}
+use Rattle.queue.specs.paper.Lists.{filter}
+use Rattle.queue.specs.paper.Sound.{need}
+use Rattle.queue.specs.paper.Area.{flagged, areaBytes, over}
+use Rattle.queue.specs.paper.Changing.{named?, put, newRec, committed}
+use Rattle.queue.specs.paper.Calls.{items, given, AdmitArgs, admission}
+use Rattle.queue.specs.declared.admit.Asked.{Asked}
+use Rattle.queue.specs.declared.area.Area.{Area}
+
+abbrev pub argsOf : Asked → Bytes → Bytes → Bytes → Bytes → Bytes → Bytes → AdmitArgs
+argsOf x id ins outs bytes label tip = record {
+  id = id;
+  inputs = ins;
+  outputs = outs;
+  bytes = bytes;
+  now = x .now .0;
+  timeFlag = x .timeflag;
+  time = x .time .0;
+  heightFlag = x .heightflag;
+  height = x .height .0;
+  priority = x .priority;
+  labelFlag = x .labelflag;
+  label = label;
+  fee = x .fee;
+  cost = x .cost;
+  tipHeight = x .tipheight .0;
+  tipFlag = x .tipflag;
+  tip = tip;
+}
+
+-- the record that comes of them; the tip has no part in it
+unfoldable pub newOf : Asked → Bytes → Bytes → Bytes → Bytes → Bytes → Rec
+newOf x id ins outs bytes label = newRec (admission (argsOf x id ins outs bytes label []))
+
+-- how long its parts are
+abbrev pub optLen : ℕ → ℕ → ℕ
+optLen flag w = cond (eqb flag 1) (1 + w) 1
+
+abbrev pub labelSize : ℕ → Bytes → ℕ
+labelSize flag label = cond (eqb flag 1) (2 + length label) 1
+
+abbrev pub termsLen : Asked → Bytes → ℕ
+termsLen x label = 32 + (optLen (x .timeflag) 8 + (optLen (x .heightflag) 4 + labelSize (x .labelflag) label))
+
+abbrev pub heldLen : Bytes → Bytes → Bytes → ℕ
+heldLen ins outs bytes = 9 + (length ins + (length outs + length bytes))
+
+abbrev pub newLen : Asked → Bytes → Bytes → Bytes → Bytes → ℕ
+newLen x ins outs bytes label = 45 + (termsLen x label + heldLen ins outs bytes)
+
+abbrev pub newTerms : Asked → Bytes → ℕ → Terms
+newTerms x label n = record {
+  created = x .now .0;
+  due = given (x .timeflag) (x .time .0);
+  dueHeight = given (x .heightflag) (x .height .0);
+  priority = x .priority;
+  label = given (x .labelflag) label;
+  fee = x .fee;
+  size = n;
+  cost = x .cost;
+}
+
+abbrev pub heldOf : Bytes → Bytes → Bytes → Held
+heldOf ins outs bytes = record { ins = items 32 ins; outs = items 32 outs; bytes = bytes }
+
+-- they fit their fields
+pub record TermsFit (x : Asked) (label : Bytes) (n : ℕ) : Type 0 where
+  pub now : x .now .0 < 256 ^ 8
+  pub time : x .time .0 < 256 ^ 8
+  pub height : x .height .0 < 256 ^ 4
+  pub priority : x .priority < 256 ^ 4
+  pub short : x .labelflag ≡ 1 → length label ≤ 200
+  pub fee : x .fee < 256 ^ 8
+  pub size : n < 256 ^ 4
+  pub cost : x .cost < 256 ^ 8
+
+pub record HeldFit (ins outs bytes : Bytes) : Type 0 where
+  pub wholeIns : length ins % 32 ≡ 0
+  pub wholeOuts : length outs % 32 ≡ 0
+  pub fewIns : length ins / 32 < 65536
+  pub fewOuts : length outs / 32 < 65536
+  pub fewBytes : length bytes < 256 ^ 4
+
+-- the paper's put, one record at a time: placed says that the new record stands already
+unfoldable pub putF : Rec → Bool → List Rec → List Rec
+putF r true l = filter (λ x. not (named? (r .id) x)) l
+putF r false l = put r l
+
+abbrev pub recIf : Bool → Rec → List Rec
+recIf b r = cond b (r ∷ []) []
+
+-- a record as it stands, or nothing
+unfoldable pub keepBytes : Bool → Bytes → ℕ → ℕ → Bytes
+keepBytes keep s base n = cond keep (take n (drop base s)) []
+
+-- the queue with r in it, under that cursor
+unfoldable pub withR : ℕ → Option Id → Rec → Queue → Queue
+withR height tip r q = committed height tip (q .counter) (put r (q .recs)) q
+
+-- a was read from s, and the queue fits with r in it
+pub record WithFrom (s : Bytes) (a : Area) (height : ℕ) (tip : Option Id) (r : Rec) : Type 0 where
+  pub q : Queue
+  pub is : readArea s ≡ some q
+  pub read : AreaAs s a q
+  pub fits : length (queueC .enc (withR height tip r q)) ≤ need (q .limits)
+  pub small : height < 4294967296
+
+abbrev pub WithTo : Bytes → ℕ → Option Id → Rec → Bytes → Bytes → Type 0
+WithTo s height tip r d d′ = (q : Queue) → readArea s ≡ some q → d′ ≡ over (areaBytes (withR height tip r q)) d
