@@ -1,4 +1,4 @@
-// Admission. Everything that can refuse is decided before a byte is written.
+// The record that an admission puts among the others, and the area with it. The call over them is still to come.
 use super::area::Area;
 use super::finish::Change;
 use super::finish::hits;
