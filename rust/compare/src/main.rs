@@ -130,7 +130,10 @@ fn compare<S: Side>(side: &S, settings: &Settings, folder: &std::path::Path) -> 
             .limits
             .unwrap_or_else(|| generate::limits(&mut rng));
         if let Err(found) = random_list(side, folder, &mut rng, limits, &mut counts) {
-            println!("A difference, in the list with seed {seed}; the smallest list found:");
+            println!(
+                "A difference after {} events, in the list with seed {seed}; the smallest list found:",
+                counts.steps
+            );
             let (list, found) = shrink(side, folder, *found);
             println!("{list}\n{found}");
             return false;

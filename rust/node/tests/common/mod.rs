@@ -31,6 +31,13 @@ impl Number for Result<(), Error> {
     }
 }
 
+/// The model's calls give numbers.
+impl Number for u64 {
+    fn number(self) -> u64 {
+        self
+    }
+}
+
 /// How often each number was met.
 #[derive(Default)]
 pub struct Met(BTreeMap<u64, u64>);

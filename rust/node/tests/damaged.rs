@@ -1,0 +1,295 @@
+//! Random and damaged areas and images, lent to every exported call: refused with 3 or 16 exactly
+//! when the model's decoder finds no sound queue in them, and nothing lent is changed by a refusal.
+//! `POKERBOX_DAMAGED_CASES` sets the number of cases; `damaged.sh` runs some under valgrind.
+
+// Some parts wait for calls that are not exported yet.
+#![cfg_attr(not(all_exported), allow(dead_code))]
+
+mod common;
+mod every;
+
+use common::{area_to_write, lent_id, many, Met};
+use every::Args;
+use model::random::{self, Rng};
+use model::{area, calls, image, Queue};
+use pokerbox::raw;
+
+fn cases() -> u64 {
+    match std::env::var("POKERBOX_DAMAGED_CASES") {
+        Ok(text) => text.parse().expect("a number of cases"),
+        Err(_) => 4_000,
+    }
+}
+
+/// Checks counts of answers only in a run that is long enough for them.
+fn expect(met: &Met, numbers: &[u64]) {
+    if cases() >= 4_000 {
+        met.expect(numbers);
+    }
+}
+
+fn sound_queue(rng: &mut Rng) -> Queue {
+    let limits = random::small_limits(rng);
+    random::queue(rng, limits)
+}
+
+/// Bytes that may or may not be a sound queue's area, with no room after them.
+fn damaged_area(rng: &mut Rng) -> Vec<u8> {
+    let queue = sound_queue(rng);
+    let good = area::encode(&queue);
+    let used = used_length(&good);
+    let mut bytes = good;
+    match rng.below(10) {
+        0 => bytes = noise(rng),
+        1 => bytes = area::encode(&random::altered(rng, &queue)),
+        2 => {
+            let other = area::encode(&sound_queue(rng));
+            bytes = spliced(rng, &bytes, used, &other);
+        }
+        3 => bytes.truncate(rng.up_to(used)),
+        4 => {
+            // The header with noise after it.
+            let from = rng.up_to(used);
+            for byte in &mut bytes[from..used] {
+                *byte = rng.u64() as u8;
+            }
+        }
+        5 | 6 => put_extreme(rng, &mut bytes, used),
+        7 => {}
+        _ => {
+            for _ in 0..1 + rng.below(3) {
+                random::damage(rng, &mut bytes, used);
+            }
+        }
+    }
+    bytes
+}
+
+/// Without the zeros at the end.
+fn used_length(bytes: &[u8]) -> usize {
+    bytes
+        .iter()
+        .rposition(|byte| *byte != 0)
+        .map_or(0, |at| at + 1)
+}
+
+fn noise(rng: &mut Rng) -> Vec<u8> {
+    let length = match rng.below(4) {
+        0 => rng.below(4),
+        1 => rng.below(80),
+        _ => rng.below(4_000),
+    };
+    let mut bytes = rng.bytes(length);
+    // Often with the kind of a header frame, so that more of it is read.
+    if length > 4 && rng.once_in(2) {
+        bytes[4] = 1;
+    }
+    bytes
+}
+
+/// The front of one and the back of the other.
+fn spliced(rng: &mut Rng, front: &[u8], used: usize, back: &[u8]) -> Vec<u8> {
+    let at = rng.up_to(used);
+    let from = if rng.once_in(2) {
+        at
+    } else {
+        rng.below(back.len())
+    };
+    [&front[..at], &back[from.min(back.len())..]].concat()
+}
+
+/// A field that may be a count or a length becomes very large, or small.
+fn put_extreme(rng: &mut Rng, bytes: &mut [u8], used: usize) {
+    let width = rng.pick(&[1, 2, 4, 8]).min(used.max(1));
+    let at = rng.up_to(used.saturating_sub(width));
+    let field = &mut bytes[at..at + width];
+    match rng.below(4) {
+        0 => field.fill(0xff),
+        1 => field.fill(0),
+        2 => {
+            field.fill(0xff);
+            field[0] = 0x7f;
+        }
+        _ => {
+            field.fill(0);
+            field[0] = 0x80;
+        }
+    }
+}
+
+fn args(rng: &mut Rng, queue: &Queue) -> Args {
+    let mut ids: Vec<_> = (0..rng.below(5))
+        .map(|_| random::tx_id(rng, &queue.limits))
+        .collect();
+    ids.sort();
+    ids.dedup();
+    Args {
+        id: lent_id(rng, queue),
+        ids: ids.concat(),
+        now: random::time(rng).0,
+        height: random::height(rng).0,
+        kind: rng.pick(&[2, 3, 0, u64::MAX]),
+        outcome: rng.pick(&[0, 1, 2]),
+    }
+}
+
+/// Lends the area to every call.
+#[test]
+fn areas() {
+    let (mut met, calls) = (Met::default(), every::calls());
+    many(cases(), |rng| {
+        let lent = damaged_area(rng);
+        let sound = area::decode(&lent);
+        let queue = sound.clone().unwrap_or_else(|| sound_queue(rng));
+        let args = args(rng, &queue);
+        let next = area_to_write(rng, &queue.limits);
+        let length = every::VALUES + rng.below(3_000);
+        let out = rng.bytes(length);
+        for call in &calls {
+            let (mut library_next, mut library_out) = (next.clone(), out.clone());
+            let before = lent.clone();
+            let number = (call.library)(&args, &lent, &mut library_next, &mut library_out);
+            assert!(lent == before, "{}: the lent area was changed", call.name);
+            let refused = number < 100 && number != 17;
+            if refused || !call.changes {
+                assert!(library_next == next, "{}: next was changed", call.name);
+            }
+            if refused {
+                assert!(library_out == out, "{}: a refusal wrote", call.name);
+            }
+            if sound.is_none() {
+                assert_eq!(number, 3, "{} of an area that is not sound", call.name);
+            } else if call.name != "settle" {
+                // Settling may find that its next area is not sound.
+                assert_ne!(number, 3, "{} of a sound area", call.name);
+            }
+            let (mut model_next, mut model_out) = (next.clone(), out.clone());
+            let expected = (call.model)(&args, &lent, &mut model_next, &mut model_out);
+            assert_eq!(number, expected, "{}", call.name);
+            assert!(library_next == model_next, "{}: the next area", call.name);
+            assert!(library_out == model_out, "{}: the output", call.name);
+        }
+        met.count(if sound.is_none() { 3 } else { 100 });
+    });
+    expect(&met, &[3, 100]);
+}
+
+/// Lends the area as settling's next area.
+#[test]
+#[cfg(exported = "settle")]
+fn next_areas() {
+    let mut met = Met::default();
+    many(cases(), |rng| {
+        let cur = area::encode(&sound_queue(rng));
+        let next = damaged_area(rng);
+        let (kind, outcome) = (rng.pick(&[2, 3]), rng.pick(&[0, 1]));
+        common::same(
+            &mut met,
+            &next,
+            &[],
+            |next, _| raw::settle(&cur, next, kind, outcome),
+            |next, _| calls::settle(&cur, next, kind, outcome),
+        );
+        if (kind, outcome) != (2, 1) {
+            let number =
+                common::Number::number(raw::settle(&cur, &mut next.clone(), kind, outcome));
+            assert_eq!(number == 3, area::decode(&next).is_none());
+        }
+    });
+    expect(&met, &[2, 3, 17, 100]);
+}
+
+/// Bytes that may or may not be a sound queue's image.
+fn damaged_image(rng: &mut Rng) -> Vec<u8> {
+    let queue = sound_queue(rng);
+    let mut text = image::encode(&queue);
+    let length = text.len();
+    match rng.below(12) {
+        0 => text = noise(rng),
+        1 => text = image::encode(&random::altered(rng, &queue)),
+        2 => {
+            let other = image::encode(&sound_queue(rng));
+            text = spliced(rng, &text, length, &other);
+        }
+        3 => text.truncate(rng.up_to(length)),
+        4 => text = area::encode(&queue),
+        5 | 6 => put_digits(rng, &mut text),
+        7 => {
+            let at = rng.below(length);
+            text[at] = rng.pick(b"\n\r 0fFgG/:`@\0");
+        }
+        8 => text.to_ascii_uppercase().clone_into(&mut text),
+        9 => {}
+        _ => {
+            for _ in 0..1 + rng.below(3) {
+                random::damage(rng, &mut text, length);
+            }
+        }
+    }
+    text
+}
+
+/// A field that may be a count or a length becomes very large, or small.
+fn put_digits(rng: &mut Rng, text: &mut [u8]) {
+    let width = 2 * rng.pick(&[1, 2, 4, 8]);
+    // Frames begin at even places in the first line alone.
+    let at = rng.below(text.len() - width);
+    let digit = rng.pick(b"f0f8");
+    for place in &mut text[at..at + width] {
+        if *place != b'\n' {
+            *place = digit;
+        }
+    }
+}
+
+#[test]
+#[cfg(exported = "open")]
+fn images() {
+    let mut met = Met::default();
+    many(4 * cases(), |rng| {
+        let text = damaged_image(rng);
+        let queue = image::decode(&text);
+        let limits = match &queue {
+            Some(queue) => queue.limits,
+            None => random::small_limits(rng),
+        };
+        let lent = area_to_write(rng, &limits);
+        let before = text.clone();
+        common::same(
+            &mut met,
+            &lent,
+            &[],
+            |lent, _| raw::open(&text, lent),
+            |lent, _| calls::open(&text, lent),
+        );
+        assert!(text == before, "the lent image was changed");
+        let number = common::Number::number(raw::open(&text, &mut lent.clone()));
+        assert_eq!(number == 16, queue.is_none());
+    });
+    expect(&met, &[2, 16, 100]);
+}
+
+/// Areas of no bytes, and all limits that a header may claim, in an area too short for them.
+#[test]
+fn short_areas() {
+    let calls = every::calls();
+    let mut rng = Rng::new(1);
+    let args = args(&mut rng, &sound_queue(&mut Rng::new(2)));
+    for limit in [0, 1, 2, 127, 128, 1_024, 16_777_216, 1 << 31, u32::MAX] {
+        for length in [0, 1, 3, 4, 5, 20, 21, 45, 46, 47, 511, 2_177] {
+            let mut bytes = vec![0, 0, 0, 0, 1];
+            for _ in 0..4 {
+                bytes.extend(limit.to_be_bytes());
+            }
+            bytes.resize(length, 0);
+            let lent = bytes.clone();
+            assert!(area::decode(&lent).is_none());
+            for call in &calls {
+                let (mut next, mut out) = (vec![7; 4_000], vec![7; 400]);
+                let number = (call.library)(&args, &lent, &mut next, &mut out);
+                assert_eq!(number, 3, "{} of {length} bytes", call.name);
+                assert!(next == [7; 4_000] && out == [7; 400] && lent == bytes);
+            }
+        }
+    }
+}

@@ -1,0 +1,139 @@
+//! The stack that calls use: every exported call, on small queues and on large ones, in a thread
+//! with little stack. `POKERBOX_STACK` sets another number of bytes, to find how few are enough;
+//! with too few the process ends.
+
+// Some parts wait for calls that are not exported yet.
+#![cfg_attr(not(all_exported), allow(dead_code))]
+
+mod common;
+mod every;
+
+use every::Args;
+use model::random::{self, Rng};
+use model::{area, calls, image, Limits, Queue, State};
+use pokerbox::raw;
+
+/// The power of two above 64 KiB, which is enough; 32 KiB is not.
+const STACK: usize = 1 << 17;
+
+fn stack() -> usize {
+    match std::env::var("POKERBOX_STACK") {
+        Ok(text) => text.parse().expect("a number of bytes"),
+        Err(_) => STACK,
+    }
+}
+
+/// What every call is lent, and room for what it writes.
+struct Lent {
+    queue: Queue,
+    area: Vec<u8>,
+    image: Vec<u8>,
+    args: Args,
+    next: Vec<u8>,
+    out: Vec<u8>,
+}
+
+impl Lent {
+    fn new(rng: &mut Rng, queue: Queue) -> Self {
+        let pending = queue
+            .records
+            .iter()
+            .rfind(|record| record.state == State::Queued);
+        let id = pending.map_or([0; 32], |record| record.id);
+        let ids: Vec<_> = queue.records.iter().map(|record| record.id).collect();
+        let image = image::encode(&queue);
+        Lent {
+            area: area::encode(&queue),
+            args: Args {
+                id: id.to_vec(),
+                ids: ids.concat(),
+                now: rng.pick(&[0, u64::MAX]),
+                height: rng.pick(&[0, u32::MAX]),
+                kind: rng.pick(&[2, 3]),
+                outcome: rng.pick(&[0, 1]),
+            },
+            next: vec![0; queue.limits.need()],
+            // No answer is longer than the image.
+            out: vec![0; image.len() + 16],
+            image,
+            queue,
+        }
+    }
+
+    /// The numbers that all calls give back, by the library or by the model.
+    fn numbers(&mut self, library: bool) -> Vec<(&'static str, u64)> {
+        let mut numbers = Vec::new();
+        for call in every::calls() {
+            // Settling gets a sound next area.
+            self.next.copy_from_slice(&self.area);
+            let made = if library { call.library } else { call.model };
+            let number = made(&self.args, &self.area, &mut self.next, &mut self.out);
+            numbers.push((call.name, number));
+        }
+        #[cfg(exported = "open")]
+        numbers.push(("open", self.open(library)));
+        #[cfg(exported = "fresh")]
+        numbers.push(("fresh", self.fresh(library)));
+        numbers
+    }
+
+    #[cfg(exported = "open")]
+    fn open(&mut self, library: bool) -> u64 {
+        match library {
+            true => common::Number::number(raw::open(&self.image, &mut self.next)),
+            false => calls::open(&self.image, &mut self.next),
+        }
+    }
+
+    #[cfg(exported = "fresh")]
+    fn fresh(&mut self, library: bool) -> u64 {
+        let limits = &self.queue.limits;
+        let [p, b, t, k] = [
+            limits.pending,
+            limits.bytes,
+            limits.tombstones,
+            limits.inputs,
+        ];
+        let [p, b, t, k] = [p, b, t, k].map(u64::from);
+        match library {
+            true => common::Number::number(raw::fresh(p, b, t, k, &mut self.next)),
+            false => calls::fresh(p, b, t, k, &mut self.next),
+        }
+    }
+}
+
+fn in_little_stack(mut lent: Lent) {
+    let expected = lent.numbers(false);
+    let thread = std::thread::Builder::new().stack_size(stack());
+    let given = thread.spawn(move || lent.numbers(true)).expect("a thread");
+    assert_eq!(given.join().expect("no panic"), expected);
+}
+
+#[test]
+fn small_queues() {
+    for seed in 0..50 {
+        let mut rng = Rng::new(seed);
+        let limits = random::small_limits(&mut rng);
+        let queue = random::queue(&mut rng, limits);
+        in_little_stack(Lent::new(&mut rng, queue));
+    }
+}
+
+/// Some hundred records with up to 128 inputs and outputs.
+#[test]
+fn large_limits() {
+    let limits = Limits::checked(1_024, 65_536, 1_024, 128).expect("limits in range");
+    let mut rng = Rng::new(1);
+    let mut queue = random::queue(&mut rng, limits);
+    queue.records.truncate(300);
+    in_little_stack(Lent::new(&mut rng, queue));
+}
+
+/// As many records as there can be.
+#[test]
+fn many_records() {
+    let limits = Limits::checked(1_024, 65_536, 1_024, 2).expect("limits in range");
+    let mut rng = Rng::new(1);
+    let queue = random::queue(&mut rng, limits);
+    in_little_stack(Lent::new(&mut rng, queue));
+}
