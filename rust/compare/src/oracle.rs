@@ -311,12 +311,14 @@ impl Oracle {
     }
 }
 
-fn set_limits(limits: &Limits) {
+/// Sets this thread's limits of the oracle.
+pub fn set_limits(limits: &Limits) {
     let [p, b, t] = [limits.pending, limits.bytes, limits.tombstones].map(|limit| limit as usize);
     limits::set(p, b, t);
 }
 
-fn register(id: &Id, holder: &Holder) {
+/// Makes the transaction known to the oracle.
+pub fn register(id: &Id, holder: &Holder) {
     registry::register(Transaction {
         id: *id,
         bytes: holder.bytes.clone(),
@@ -374,7 +376,7 @@ fn refusal_of(reason: &str) -> u64 {
 
 // From the oracle's values to document 01's.
 
-fn hex(id: &Id) -> String {
+pub fn hex(id: &Id) -> String {
     id.iter().map(|byte| format!("{byte:02x}")).collect()
 }
 
@@ -535,7 +537,8 @@ fn whole_record(record: &Record) -> WholeRecord {
     }
 }
 
-fn whole_store(queue: &Queue) -> WholeStore {
+/// The queue as the oracle has it.
+pub fn whole_store(queue: &Queue) -> WholeStore {
     WholeStore {
         version: 1,
         records: queue.records.iter().map(whole_record).collect(),

@@ -61,6 +61,11 @@ pub fn persist(queue: &PrivateTransactionQueue) -> Result<(), String> {
     queue.persist(&queue.lock())
 }
 
+/// The bytes that a write puts into the file.
+pub fn json(queue: &PrivateTransactionQueue) -> Vec<u8> {
+    serde_json::to_vec(&*queue.lock()).unwrap()
+}
+
 /// Replace the store in memory; nothing is written.
 pub fn set_whole_store(queue: &PrivateTransactionQueue, whole: WholeStore) {
     let mut store = queue.lock();

@@ -1,0 +1,416 @@
+//! The same work by the exported calls and by `PrivateTransactionQueue`, as a table of medians.
+
+use std::hint::black_box;
+use std::path::{Path, PathBuf};
+use std::time::{Duration, Instant};
+
+use compare::oracle::{hex, register, set_limits, whole_store};
+use model::random::nth_id;
+use model::{
+    area, image, FinishNumber, Height, Holder, Id, Limits, Queue, Reason, Record, State, TimeMs,
+    Withdrawn,
+};
+use pokerbox::raw;
+use reference::private_queue::inspect::{self, WholeStore};
+use reference::private_queue::PrivateTransactionQueue;
+
+const INPUTS: usize = 2;
+const OUTPUTS: usize = 2;
+const SIGNED_BYTES: usize = 300;
+/// The time at which one record is due.
+const DUE: u64 = 5;
+/// Runs of one work: at least and at most, and no more after so long.
+const LEAST: usize = 5;
+const MOST: usize = 201;
+const ENOUGH: Duration = Duration::from_millis(200);
+
+fn main() {
+    let folder = std::env::args()
+        .nth(1)
+        .map_or(std::env::temp_dir(), PathBuf::from);
+    let path = folder.join(format!("pokerbox-bench-{}.json", std::process::id()));
+    // K 2 and B 1 MiB: room for the records, without much unused area.
+    let limits = Limits::checked(1_024, 1 << 20, 1_024, 2).expect("limits in range");
+    println!(
+        "Limits P {}, B {}, T {}, K {}: an area of {} bytes. Microseconds, medians of {LEAST} to {MOST} runs.\n",
+        limits.pending, limits.bytes, limits.tombstones, limits.inputs, limits.need()
+    );
+    for (records, tombstones) in [(10, 0), (100, 0), (1_000, 0), (1_000, 1_024)] {
+        Bench::new(limits, records, tombstones, &path).run();
+    }
+    let _ = std::fs::remove_file(&path);
+}
+
+/// One queue on both sides.
+struct Bench<'a> {
+    queue: Queue,
+    area: Vec<u8>,
+    image: Vec<u8>,
+    next: Vec<u8>,
+    out: Vec<u8>,
+    /// A pending record without a deadline.
+    id: Id,
+    oracle: PrivateTransactionQueue,
+    store: WholeStore,
+    path: &'a Path,
+}
+
+/// Without, if one side has no such work.
+struct Row {
+    work: String,
+    library: Option<f64>,
+    oracle: Option<f64>,
+}
+
+fn record(n: usize, state: State) -> Record {
+    let pending = state == State::Queued;
+    let boxes = |from: usize| (0..from).map(|at| nth_id(n * INPUTS + at)).collect();
+    Record {
+        id: nth_id(n),
+        state,
+        reason: if pending {
+            Reason::None
+        } else {
+            Reason::Cancelled
+        },
+        created: TimeMs(n as u64),
+        time_deadline: (n == 1).then_some(TimeMs(DUE)),
+        height_deadline: None,
+        priority: (n % 5) as i32,
+        label: None,
+        fee: 1_000_000,
+        size: SIGNED_BYTES as u32,
+        cost: 9,
+        mined: None,
+        withdrawn: Withdrawn::No,
+        finish: FinishNumber(0),
+        holder: pending.then(|| Holder {
+            inputs: boxes(INPUTS),
+            outputs: boxes(OUTPUTS),
+            bytes: (0..SIGNED_BYTES).map(|at| (n + at) as u8).collect(),
+        }),
+    }
+}
+
+fn queue(limits: Limits, records: usize, tombstones: usize) -> Queue {
+    let mut queue = Queue::fresh(limits);
+    queue
+        .records
+        .extend((0..records).map(|n| record(n, State::Queued)));
+    for n in 0..tombstones {
+        let mut tombstone = record(records + n, State::Cancelled);
+        tombstone.finish = FinishNumber(n as u64 + 1);
+        queue.records.push(tombstone);
+    }
+    queue.counter = FinishNumber(tombstones as u64);
+    queue.cursor = Height(100);
+    queue.persisted = Height(100);
+    queue.records.sort_by_key(|record| record.id);
+    queue
+}
+
+/// The median time of `work`, each run after `ready`.
+fn median(mut ready: impl FnMut(), mut work: impl FnMut()) -> f64 {
+    let mut times = Vec::new();
+    let start = Instant::now();
+    while times.len() < LEAST || (times.len() < MOST && start.elapsed() < ENOUGH) {
+        ready();
+        let begin = Instant::now();
+        work();
+        times.push(begin.elapsed());
+    }
+    times.sort();
+    times[times.len() / 2].as_secs_f64() * 1e6
+}
+
+impl<'a> Bench<'a> {
+    fn new(limits: Limits, records: usize, tombstones: usize, path: &'a Path) -> Self {
+        let queue = queue(limits, records, tombstones);
+        set_limits(&limits);
+        for record in &queue.records {
+            if let Some(holder) = &record.holder {
+                register(&record.id, holder);
+            }
+        }
+        let image = image::encode(&queue);
+        let mut oracle = PrivateTransactionQueue::default();
+        let store = whole_store(&queue);
+        inspect::set_whole_store(&oracle, store.clone());
+        // A file for opening; without a path, commits write none.
+        inspect::set_path(&mut oracle, path);
+        inspect::persist(&oracle).expect("a file for opening");
+        let oracle = PrivateTransactionQueue::default();
+        inspect::set_whole_store(&oracle, store.clone());
+        Bench {
+            area: area::encode(&queue),
+            next: vec![0; limits.need()],
+            out: vec![0; 2 * image.len() + 1_000],
+            image,
+            id: nth_id(2),
+            queue,
+            oracle,
+            store,
+            path,
+        }
+    }
+
+    fn run(&mut self) {
+        assert_eq!(raw::sound(&self.area), Ok(()));
+        let pending = self.queue.pending().count();
+        println!(
+            "### {pending} records, {} tombstones\n",
+            self.queue.tombstones().count()
+        );
+        println!("| work | library | Rust | library / Rust |\n|---|---:|---:|---:|");
+        let mut rows = self.changing();
+        rows.extend(self.parts());
+        rows.extend(self.readings());
+        for row in rows {
+            let number = |time: Option<f64>| time.map_or("-".into(), |time| format!("{time:.1}"));
+            let ratio = row.library.zip(row.oracle);
+            let ratio = ratio.map(|(library, oracle)| library / oracle.max(0.01));
+            let (library, oracle) = (number(row.library), number(row.oracle));
+            println!(
+                "| {} | {library} | {oracle} | {} |",
+                row.work,
+                number(ratio)
+            );
+        }
+        println!();
+    }
+
+    /// The Rust's time of a work that starts with the queue.
+    fn oracle(&self, work: impl Fn(&PrivateTransactionQueue)) -> Option<f64> {
+        Some(median(
+            || inspect::set_whole_store(&self.oracle, self.store.clone()),
+            || work(&self.oracle),
+        ))
+    }
+
+    fn changing(&mut self) -> Vec<Row> {
+        let limits = self.queue.limits;
+        let [p, b, t, k] = [
+            limits.pending,
+            limits.bytes,
+            limits.tombstones,
+            limits.inputs,
+        ]
+        .map(u64::from);
+        let id = hex(&self.id);
+        let mut rows = Vec::new();
+        rows.push(Row {
+            work: "fresh".into(),
+            oracle: Some(median(
+                || (),
+                || {
+                    black_box(PrivateTransactionQueue::default());
+                },
+            )),
+            library: Some(median(
+                || (),
+                || raw::fresh(p, b, t, k, &mut self.next).expect("fresh"),
+            )),
+        });
+        rows.push(Row {
+            work: "cancel and image / JSON".into(),
+            oracle: self.oracle(|queue| {
+                queue.cancel(&id).expect("cancelled");
+                black_box(inspect::json(queue));
+            }),
+            library: Some(median(
+                || (),
+                || {
+                    let out = &mut self.out;
+                    raw::cancel(&self.area, &mut self.next, &self.id, out).expect("cancelled");
+                    raw::image(&self.next, out, &mut 0).expect("an image");
+                },
+            )),
+        });
+        rows.push(Row {
+            work: "expire (one) and image / JSON".into(),
+            oracle: self.oracle(|queue| {
+                assert_eq!(queue.expire(DUE, 0).expect("expired").len(), 1);
+                black_box(inspect::json(queue));
+            }),
+            library: Some(median(
+                || (),
+                || {
+                    let out = &mut self.out;
+                    raw::expire(&self.area, &mut self.next, DUE, 0, out).expect("expired");
+                    raw::image(&self.next, out, &mut 0).expect("an image");
+                },
+            )),
+        });
+        rows.push(Row {
+            work: "set_cursor (no image)".into(),
+            oracle: self.oracle(|queue| queue.set_observation_cursor(7, None)),
+            library: Some(median(
+                || (),
+                || {
+                    raw::set_cursor(&self.area, &mut self.next, 7, 0, &[]).expect("set");
+                },
+            )),
+        });
+        rows.push(Row {
+            work: "open".into(),
+            oracle: Some(median(
+                || (),
+                || {
+                    black_box(PrivateTransactionQueue::open(self.path).expect("opened"));
+                },
+            )),
+            library: Some(median(
+                || (),
+                || {
+                    raw::open(&self.image, &mut self.next).expect("opened");
+                },
+            )),
+        });
+        rows
+    }
+
+    /// Where the time goes.
+    fn parts(&mut self) -> Vec<Row> {
+        let id = hex(&self.id);
+        let mut rows = Vec::new();
+        rows.push(Row {
+            work: "part: sound, the area's check alone".into(),
+            library: Some(median(|| (), || raw::sound(&self.area).expect("sound"))),
+            oracle: None,
+        });
+        rows.push(Row {
+            work: "part: a plain copy of the area / the store's clone".into(),
+            library: Some(median(
+                || (),
+                || self.next.copy_from_slice(black_box(&self.area)),
+            )),
+            oracle: Some(median(
+                || (),
+                || {
+                    black_box(inspect::whole_store(black_box(&self.oracle)));
+                },
+            )),
+        });
+        rows.push(Row {
+            work: "part: cancel alone, with its check".into(),
+            library: Some(median(
+                || (),
+                || {
+                    raw::cancel(&self.area, &mut self.next, &self.id, &mut self.out).expect("done");
+                },
+            )),
+            oracle: self.oracle(|queue| {
+                queue.cancel(&id).expect("cancelled");
+            }),
+        });
+        rows.push(Row {
+            work: "part: image with its check / JSON".into(),
+            library: Some(median(
+                || (),
+                || {
+                    raw::image(&self.area, &mut self.out, &mut 0).expect("an image");
+                },
+            )),
+            oracle: self.oracle(|queue| {
+                black_box(inspect::json(queue));
+            }),
+        });
+        for (outcome, work) in [(0, "settle kept, kind 2"), (1, "settle failed, kind 2")] {
+            self.next.copy_from_slice(&self.area);
+            rows.push(Row {
+                work: format!("part: {work}"),
+                library: Some(median(
+                    || (),
+                    || {
+                        let _ = black_box(raw::settle(&self.area, &mut self.next, 2, outcome));
+                    },
+                )),
+                oracle: None,
+            });
+        }
+        rows
+    }
+
+    fn readings(&mut self) -> Vec<Row> {
+        let (mut rows, mut value) = (Vec::new(), 0);
+        let (id, text) = (self.id, hex(&self.id));
+        inspect::set_whole_store(&self.oracle, self.store.clone());
+        let (area, out, oracle) = (&self.area, &mut self.out, &self.oracle);
+        macro_rules! reading {
+            ($name:literal, $library:expr, $oracle:expr) => {
+                rows.push(Row {
+                    work: $name.into(),
+                    library: Some(median(|| (), || $library.expect("answered"))),
+                    oracle: Some(median(
+                        || (),
+                        || {
+                            black_box($oracle);
+                        },
+                    )),
+                });
+            };
+        }
+        reading!(
+            "revision",
+            raw::revision(area, &mut value),
+            oracle.revision()
+        );
+        reading!(
+            "is_empty",
+            raw::is_empty(area, &mut value),
+            oracle.is_empty()
+        );
+        reading!(
+            "deadline_due",
+            raw::deadline_due(area, 0, 0, &mut value),
+            oracle.deadline_due(0, 0)
+        );
+        reading!(
+            "observed_height",
+            raw::observed_height(area, &mut value),
+            oracle.observed_height()
+        );
+        reading!(
+            "observation_cursor",
+            raw::observation_cursor(area, out),
+            oracle.observation_cursor()
+        );
+        reading!(
+            "record_ids",
+            raw::record_ids(area, out),
+            oracle.record_ids()
+        );
+        reading!(
+            "guarded_ids",
+            raw::guarded_ids(area, out),
+            oracle.guarded_ids()
+        );
+        reading!("list", raw::list(area, out), oracle.list());
+        reading!("entry", raw::entry(area, &id, out), oracle.entry(&text));
+        reading!(
+            "selection_entries",
+            raw::selection_entries(area, out),
+            oracle.selection_entries()
+        );
+        reading!(
+            "selection_entries_at",
+            raw::selection_entries_at(area, DUE, 0, out),
+            oracle.selection_entries_at(DUE, 0)
+        );
+        reading!("due", raw::due(area, DUE, 0, out), oracle.due(DUE, 0));
+        reading!(
+            "confirmations",
+            raw::confirmations(area, out),
+            oracle.confirmations()
+        );
+        rows.push(Row {
+            work: "signed_bytes".into(),
+            library: Some(median(
+                || (),
+                || raw::signed_bytes(area, &id, &mut value, &mut 0).expect("answered"),
+            )),
+            oracle: None,
+        });
+        rows
+    }
+}
