@@ -9,7 +9,7 @@ use native.Mathlib.Nat.{div-add-mod'}
 use lib.Dec.{ltb, leb, eqb}
 use lib.ListN.{length, drop, take, replicate, length-append, length-drop}
 use lib.Seq.{take-all, length-take-le}
-use borrow.Author.Tests.{lt-ltb, le-ltb, eq-eqb, ne-eqb}
+use borrow.Author.Tests.{lt-ltb, le-ltb, le-leb, lt-leb, eq-eqb, ne-eqb}
 use Rattle.queue.specs.Codec as codec
 use Rattle.queue.specs.Codec.{Codec, cases, encs, be-length}
 use Rattle.queue.specs.Splice.{Put, be}
@@ -19,32 +19,38 @@ use Rattle.queue.specs.Reads.{Reads, whole, listAt}
 use Rattle.queue.specs.ReadLaws.{Turn, none-left}
 use Rattle.queue.specs.Forms.{formC, queueC, turn-in}
 use Rattle.queue.specs.Areas.{readArea}
+use Rattle.queue.specs.Lists.{all-map, total-split}
 use Rattle.queue.specs.Sounds.{Fit}
+use Rattle.queue.specs.Admits.{held-split, weight-split}
+use Rattle.queue.specs.CallsAs.{AreaIn}
+use Rattle.queue.specs.Rules.{sum}
 use Rattle.queue.specs.Opens.{limits, AreaAs, AreaIs}
 use Rattle.queue.specs.Fronts.{tipOf, tipSize, frontBytes, queueOf}
 use Rattle.queue.specs.Finishing.{picked}
 use Rattle.queue.specs.Plain.{rec-plain}
 use Rattle.queue.specs.Reopens.{leadBytes}
-use Rattle.queue.specs.Admitting.{argsOf, newOf, optLen, labelSize, termsLen, heldLen, newLen, newTerms, heldOf, TermsFit, HeldFit, putF, recIf, keepBytes, withR, WithFrom, WithTo}
+use Rattle.queue.specs.Admitting.{argsOf, newOf, optLen, labelSize, termsLen, heldLen, newLen, newTerms, heldOf, TermsFit, HeldFit, putF, recIf, keepBytes, withR, WithFrom, WithTo, roomOf, RoomIs, entryNewLen}
 use Rattle.queue.specs.paper.Records.{Bytes, Id, Limits, Terms, Held, Rec, Queue}
 use Rattle.queue.specs.paper.Lists.{one, filter, insert, concat, count}
 use Rattle.queue.specs.paper.Ids.{cmpL, below?}
-use Rattle.queue.specs.paper.Sound.{need}
+use Rattle.queue.specs.paper.Sound.{need, holder?, pending?, mined?, content, holders, minedHolders, minedBytes}
 use Rattle.queue.specs.paper.Area.{flagged, termsBytes, placeBytes, heldBytes, recBytes, areaBytes, over}
-use Rattle.queue.specs.paper.Changing.{named?, put, newRec, committed}
-use Rattle.queue.specs.paper.Calls.{items, pieces, given, admission}
+use Rattle.queue.specs.paper.Changing.{named?, put, newRec, committed, pendings, pendingBytes}
+use Rattle.queue.specs.paper.Calls.{items, pieces, given, admission, entryBytes}
 use Rattle.queue.specs.declared.admit.Asked.{Asked}
 use Rattle.queue.specs.declared.frame.Seen.{Seen}
 use Rattle.queue.specs.declared.frame.Height.{Height}
 use Rattle.queue.specs.declared.area.Area.{Area}
 use Rattle.queue.specs.declared.head.Marks.{Marks}
 use Rattle.queue.specs.declared.finish.Change.the-variants.{Named}
+use Rattle.queue.specs.declared.rules.Query.the-variants.{Holders, HeldBytes, MinedHolders, MinedBytes}
 use Rattle.queue.proofs.Turns.{SeenIn, ReadsRec}
 use Rattle.queue.proofs.PutLaws as puts
 use Rattle.queue.proofs.PutLaws.{then, recast, kept, Left, begun, onward, nothing}
 use Rattle.queue.proofs.ByteLaws.{be-same}
 use Rattle.queue.proofs.FinishLaws.{encs-append, raw-after, raw-within}
 use Rattle.queue.proofs.FrontLaws.{area-done}
+use Rattle.queue.proofs.OpenLaws.{holders-sum, bytes-sum, mined-sum, minedBytes-sum}
 use Rattle.queue.proofs.WriteLaws.{fit, one-queue, same-queue, the-limits, queue-long}
 use Rattle.queue.proofs.ReopenLaws.{pieces-join, pieces-many}
 
@@ -318,6 +324,72 @@ module _ (s : Bytes) (at n : ℕ) (r : Rec) (to : ℕ) (d₀ : Bytes) where
 
     pub place-end : {dst′ : Bytes} {m q : ℕ} → left ≡ 0 → Put dst o (encs recC (recIf (not placed) r)) m q dst′ → Put d₀ to (encs recC (putF r false (listAt (formC false recC) n s at))) (length (encs recC (putF r false (listAt (formC false recC) n s at)))) q dst′
     place-end z u = puts.done (onward (rw (last z ∙ sym (append-nil (encs recC (recIf (not placed) r)))) at (g .rest)) u)
+
+-- ---- room for one more
+module _ {s : Bytes} {a : Area} (w : AreaIn s a) where
+  abbrev listed : List Rec
+  listed = listAt (formC false recC) (a .open .head .count) s (a .open .start)
+
+  pub tally-asks : (a .open .start ≤ length s) × (whole (formC false recC) (a .open .head .count) s (a .open .start) ≡ true) × (a .open .head .count < 4294967296)
+  tally-asks = let g = w .read .store in (omega (arith, g .up, g .ends), g .all, g .head .countSmall)
+
+  pub many-is : {h g : ℕ} → h ≡ sum Holders (listAt (formC false recC) (a .open .head .count) s (a .open .start)) → g ≡ sum MinedHolders (listAt (formC false recC) (a .open .head .count) s (a .open .start)) → h ≡ pendings (w .q .recs) + g
+  many-is e f =
+      let l = w .read .store .list in
+      let u = total-split (λ r. one (holder? r)) (λ r. one (pending? (r .state))) (λ r. one (mined? r && holder? r)) (w .q .recs) (all-map (w .q .recs) (λ r h. held-split (r .state) (holder? r) (h .held)) (fit (w .read) .sound .right)) in
+      e ∙ ap (sum Holders) l ∙ holders-sum (w .q .recs) ∙ u ∙ ap (λ k. pendings (w .q .recs) + k) (sym (f ∙ ap (sum MinedHolders) l ∙ mined-sum (w .q .recs)))
+
+  pub bytes-is : {h g : ℕ} → h ≡ sum HeldBytes (listAt (formC false recC) (a .open .head .count) s (a .open .start)) → g ≡ sum MinedBytes (listAt (formC false recC) (a .open .head .count) s (a .open .start)) → h ≡ pendingBytes (w .q .recs) + g
+  bytes-is e f =
+      let l = w .read .store .list in
+      let u = total-split (λ r. length (content (r .body))) (λ r. cond (pending? (r .state)) (length (content (r .body))) 0) (λ r. cond (mined? r) (length (content (r .body))) 0) (w .q .recs) (all-map (w .q .recs) (λ r h. weight-split (r .state) (r .body) (h .held)) (fit (w .read) .sound .right)) in
+      e ∙ ap (sum HeldBytes) l ∙ bytes-sum (w .q .recs) ∙ u ∙ ap (λ k. pendingBytes (w .q .recs) + k) (sym (f ∙ ap (sum MinedBytes) l ∙ minedBytes-sum (w .q .recs)))
+
+  module _ (n : ℕ) {h : ℕ} (g : ℕ) (e : h ≡ pendings (w .q .recs) + g) where
+    pub room-10 : a .open .head .p ≤ h - g → RoomIs s n 10
+    unfolding roomOf
+    room-10 k q f = let p : w .q .limits .P ≡ a .open .head .p = w .read .store .head .P in rw (← (one-queue s (w .is) f), le-leb (w .q .limits .P) (pendings (w .q .recs)) (omega arith))
+
+    module _ (k : h - g < a .open .head .p) where
+      few : leb (w .q .limits .P) (pendings (w .q .recs)) ≡ false
+      few = let p : w .q .limits .P ≡ a .open .head .p = w .read .store .head .P in lt-leb (w .q .limits .P) (pendings (w .q .recs)) (omega arith)
+
+      pub room-11 : a .open .head .b < n → RoomIs s n 11
+      unfolding roomOf
+      room-11 j q f = let b : w .q .limits .B ≡ a .open .head .b = w .read .store .head .B in rw (← (one-queue s (w .is) f), few, lt-ltb (w .q .limits .B) (pendingBytes (w .q .recs) + n) (omega arith))
+
+      module _ (j : n ≤ a .open .head .b) {i : ℕ} (r : ℕ) (y : i ≡ pendingBytes (w .q .recs) + r) where
+        pub room-11′ : a .open .head .b - n < i - r → RoomIs s n 11
+        unfolding roomOf
+        room-11′ z q f = let b : w .q .limits .B ≡ a .open .head .b = w .read .store .head .B in rw (← (one-queue s (w .is) f), few, lt-ltb (w .q .limits .B) (pendingBytes (w .q .recs) + n) (omega arith))
+
+        pub room-0 : i - r ≤ a .open .head .b - n → RoomIs s n 0
+        unfolding roomOf
+        room-0 z q f = let b : w .q .limits .B ≡ a .open .head .b = w .read .store .head .B in rw (← (one-queue s (w .is) f), few, le-ltb (w .q .limits .B) (pendingBytes (w .q .recs) + n) (omega arith))
+
+-- ---- the entry of a new record
+entry-shape : (x : Asked) (id ins outs bytes label : Bytes) → id ++ (0 ∷ 0 ∷ (termsBytes (newTerms x label (length bytes)) ++ (0 ∷ (codec.be 2 (length (items 32 ins)) ++ concat (items 32 ins))))) ≡ entryBytes (newOf x id ins outs bytes label)
+unfolding entryBytes newOf newRec placeBytes
+entry-shape x id ins outs bytes label = refl
+
+pub entry-put : {d d₁ d₂ d₃ d₄ d₅ d₆ : Bytes} {p1 p2 p3 p4 p5 r : ℕ} (x : Asked) (id ins outs bytes label : Bytes) → HeldFit ins outs bytes
+    → Put d 0 id 32 p1 d₁ → Put d₁ p1 (be 2 0) 2 p2 d₂ → Put d₂ p2 (termsBytes (newTerms x label (length bytes))) (termsLen x label) p3 d₃ → Put d₃ p3 (0 ∷ []) 1 p4 d₄
+    → Put d₄ p4 (be 2 (length ins / 32)) 2 p5 d₅ → Put d₅ p5 (take (length ins) (drop 0 ins)) (length ins) r d₆
+    → Put d 0 (entryBytes (newOf x id ins outs bytes label)) (entryNewLen x ins label) r d₆
+entry-put x id ins outs bytes label f a b c e g h =
+    recast (then (then (then (then (then a b) c) e) g) h)
+    (glue id (termsBytes (newTerms x label (length bytes))) (be-same 2 (length ins / 32) (f .fewIns) ∙ ap (codec.be 2) (sym (items-many ins))) (all-of ins ∙ sym (items-join ins (f .wholeIns)))
+    ∙ entry-shape x id ins outs bytes label)
+    (omega arith) refl
+  where
+    inner : (i z t y n c : Bytes) → ((((i ++ z) ++ t) ++ y) ++ n) ++ c ≡ i ++ (z ++ (t ++ (y ++ (n ++ c))))
+    inner i z t y n c = simp append-assoc
+
+    two : {x x′ y y′ : Bytes} → x ≡ x′ → y ≡ y′ → x ++ y ≡ x′ ++ y′
+    two e f = cc
+
+    glue : (i t : Bytes) {n n′ c c′ : Bytes} → n ≡ n′ → c ≡ c′ → ((((i ++ be 2 0) ++ t) ++ (0 ∷ [])) ++ n) ++ c ≡ i ++ (0 ∷ 0 ∷ (t ++ (0 ∷ (n′ ++ c′))))
+    glue i t {n} {n′} {c} {c′} e f = inner i (be 2 0) t (0 ∷ []) n c ∙ ap (λ (y : Bytes). i ++ (0 ∷ 0 ∷ (t ++ (0 ∷ y)))) (two e f)
 
 -- ---- how many records there are then
 insert-long : (lt : Rec → Rec → Bool) (r : Rec) (l : List Rec) → length (insert lt r l) ≡ suc (length l)

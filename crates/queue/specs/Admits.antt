@@ -51,7 +51,7 @@ label-ok none h k = tt
 label-ok (some l) h k = (h, omega arith)
 
 -- a holder is pending or Mined, and a pending record is a holder
-held-split : (s : ℕ) (h : Bool) → heldRight? s h ≡ true → one h ≡ one (pending? s) + one (eqb s mined && h)
+pub held-split : (s : ℕ) (h : Bool) → heldRight? s h ≡ true → one h ≡ one (pending? s) + one (eqb s mined && h)
 held-split s true e = cases (pending? s)
     (λ t. rw (t, pending-mined s t))
     (λ t. let z : ((pending? s && true) || (((eqb s cancelled || eqb s expired) && false) || eqb s mined)) ≡ eqb s mined = rw (t, and-false (eqb s cancelled || eqb s expired)) in
@@ -62,7 +62,7 @@ held-split s false e = cases (pending? s)
     (λ _ u. let z = eqb-true s 3 u in false-true (rw z at e)))
     (λ t. rw (t, and-false (eqb s mined)))
 
-weight-split : (s : ℕ) (b : Option Held) → heldRight? s (isSome b) ≡ true → length (content b) ≡ cond (pending? s) (length (content b)) 0 + cond (eqb s mined) (length (content b)) 0
+pub weight-split : (s : ℕ) (b : Option Held) → heldRight? s (isSome b) ≡ true → length (content b) ≡ cond (pending? s) (length (content b)) 0 + cond (eqb s mined) (length (content b)) 0
 weight-split s none e = cases (pending? s) (λ t. rw t (cases (eqb s mined) (λ u. rw u) (λ u. rw u))) (λ t. rw t (cases (eqb s mined) (λ u. rw u) (λ u. rw u)))
 weight-split s (some h) e = let z = held-split s true e in cases (pending? s)
     (λ t. rw (t, pending-mined s t) (omega arith))

@@ -4,7 +4,7 @@ use mathlib.Core.Bool.{Bool, true, false, cond, not, _&&_, _||_}
 use mathlib.Core.Option.{Option, none, some}
 use mathlib.Core.List.{List, [], _∷_, _++_}
 use Prim.Native.Nat.{ℕ, _+_, _-_, _/_, _%_, _^_, _≤_, _<_}
-use lib.Dec.{eqb}
+use lib.Dec.{ltb, leb, eqb}
 use lib.ListN.{length, take, drop}
 use Rattle.queue.specs.Codec.{be}
 use Rattle.queue.specs.Forms.{queueC}
@@ -14,7 +14,7 @@ use Rattle.queue.specs.paper.Records.{Bytes, Id, Terms, Held, Rec, Queue
 use Rattle.queue.specs.paper.Lists.{filter}
 use Rattle.queue.specs.paper.Sound.{need}
 use Rattle.queue.specs.paper.Area.{flagged, areaBytes, over}
-use Rattle.queue.specs.paper.Changing.{named?, put, newRec, committed}
+use Rattle.queue.specs.paper.Changing.{named?, put, newRec, committed, pendings, pendingBytes}
 use Rattle.queue.specs.paper.Calls.{items, given, AdmitArgs, admission}
 use Rattle.queue.specs.declared.admit.Asked.{Asked}
 use Rattle.queue.specs.declared.area.Area.{Area}
@@ -119,3 +119,13 @@ pub record WithFrom (s : Bytes) (a : Area) (height : ℕ) (tip : Option Id) (r :
 
 abbrev pub WithTo : Bytes → ℕ → Option Id → Rec → Bytes → Bytes → Type 0
 WithTo s height tip r d d′ = (q : Queue) → readArea s ≡ some q → d′ ≡ over (areaBytes (withR height tip r q)) d
+
+-- 10 or 11, or 0: room for one more record of n bytes
+unfoldable pub roomOf : Queue → ℕ → ℕ
+roomOf q n = cond (leb (q .limits .P) (pendings (q .recs))) 10 (cond (ltb (q .limits .B) (pendingBytes (q .recs) + n)) 11 0)
+
+abbrev pub RoomIs : Bytes → ℕ → ℕ → Type 0
+RoomIs s n r = (q : Queue) → readArea s ≡ some q → r ≡ roomOf q n
+
+abbrev pub entryNewLen : Asked → Bytes → Bytes → ℕ
+entryNewLen x ins label = 37 + (termsLen x label + length ins)

@@ -4,6 +4,7 @@ use super::finish::Change;
 use super::finish::hits;
 use super::frame::Height;
 use super::frame::Time;
+use super::frame::id_read;
 use super::frame::rec_at;
 use super::head::Marks;
 use super::head::put_front;
@@ -13,8 +14,12 @@ use super::logic::either;
 use super::put::copy_part;
 use super::put::fill_zero;
 use super::put::put_be;
+use super::put::put_id;
 use super::put::put_u8;
 use super::reopen::put_lead;
+use super::rules::Query;
+use super::scan::tally;
+use super::scan::used_in;
 use super::view::cmp_id;
 ghost use mathlib.Core.Path.{_≡_};
 ghost use mathlib.Core.Bool.{true, false};
@@ -28,9 +33,12 @@ ghost use Rattle.queue.specs.Frames.{recC};
 ghost use Rattle.queue.specs.Reads.{whole, listAt};
 ghost use Rattle.queue.specs.Forms.{formC};
 ghost use Rattle.queue.specs.Fronts.{tipOf};
-ghost use Rattle.queue.specs.Admitting.{newOf, optLen, labelSize, termsLen, heldLen, newLen, newTerms, heldOf, TermsFit, HeldFit, putF, recIf, keepBytes, WithFrom, WithTo};
+ghost use Rattle.queue.specs.Admitting.{newOf, optLen, labelSize, termsLen, heldLen, newLen, newTerms, heldOf, TermsFit, HeldFit, putF, recIf, keepBytes, WithFrom, WithTo, RoomIs, entryNewLen};
+ghost use Rattle.queue.specs.CallsAs.{AreaIn};
+ghost use Rattle.queue.specs.Reopens.{IdsIn, idsAt};
+ghost use Rattle.queue.specs.paper.Sound.{clash?};
 ghost use Rattle.queue.specs.paper.Area.{flagged, termsBytes, heldBytes};
-ghost use Rattle.queue.specs.paper.Calls.{given};
+ghost use Rattle.queue.specs.paper.Calls.{given, entryBytes};
 
 // The numbers that an admission is asked with.
 pub struct Asked {
@@ -239,4 +247,69 @@ fn put_with(
     };
     put_front(h.p, h.b, h.t, h.k, marks, tip, dst);
     fill_zero(dst, e, a.need);
+}
+
+// Is there room for one more pending record of n bytes? 10 or 11 where there is not, else 0.
+fn room_for(s: &[u8], a: Area, n: u64) -> u64
+    requires { ⌜ AreaIn (now s) a ⌝ }
+    ensures { λ r. ⌜ RoomIs (now (s .entry)) n r ⌝ }
+{
+    let o = a.open;
+    let h = o.head;
+    let b = h.b;
+    let held = tally(s, false, o.start, h.count, Query::Holders);
+    let mined = tally(s, false, o.start, h.count, Query::MinedHolders);
+    if h.p <= held - mined {
+        return 10;
+    }
+    if b < n {
+        return 11;
+    }
+    let all = tally(s, false, o.start, h.count, Query::HeldBytes);
+    let rest = tally(s, false, o.start, h.count, Query::MinedBytes);
+    if b - n < all - rest {
+        return 11;
+    }
+    0
+}
+
+// Is one of m lent ids an input of one of the n records at `at`?
+fn ids_clash(ids: &[u8], m: u64, s: &[u8], at: usize, n: u64) -> bool
+    requires { ⌜ IdsIn (now ids) m × (at ≤ length (now s)) × (whole (formC false recC) n (now s) at ≡ true) ⌝ }
+    ensures { λ r. ⌜ r ≡ clash? (idsAt (now (ids .entry)) m) (listAt (formC false recC) n (now (s .entry)) at) ⌝ }
+{
+    let mut i: usize = 0;
+    let mut left = m;
+    while 0 < left {
+        let x = id_read(ids, false, 0, i);
+        let id = x.id;
+        if used_in(s, false, at, n, id) {
+            return true;
+        }
+        i = x.next;
+        left = left - 1;
+    }
+    false
+}
+
+// The entry of the new record.
+fn put_told(
+    x: Asked,
+    id: [u8; 32],
+    inputs: &[u8],
+    outputs: &[u8],
+    bytes: &[u8],
+    label: &[u8],
+    dst: &mut [u8],
+) -> usize
+    requires { ⌜ TermsFit x (now label) (length (now bytes)) × HeldFit (now inputs) (now outputs) (now bytes) × (entryNewLen x (now inputs) (now label) ≤ length (now dst)) ⌝ }
+    ensures { λ r. ⌜ Put (now (dst .entry)) 0 (entryBytes (newOf x id (now (inputs .entry)) (now (outputs .entry)) (now (bytes .entry)) (now (label .entry)))) (entryNewLen x (now (inputs .entry)) (now (label .entry))) r (now (dst .exit)) ⌝ }
+{
+    let n = inputs.len();
+    let a = put_id(dst, 0, id);
+    let b = put_be(dst, a, 2, 0);
+    let c = put_terms(x, label, bytes.len() as u64, dst, b);
+    let d = put_u8(dst, c, 0);
+    let e = put_be(dst, d, 2, (n / 32) as u64);
+    copy_part(inputs, 0, n, dst, e)
 }

@@ -1,0 +1,54 @@
+use mathlib.Core.Path.{_≡_, refl, sym, ap, _∙_}
+use native.Mathlib.Omega.{arith}
+use mathlib.Core.Bool.{Bool, true, false, _&&_}
+use Prim.Native.Nat.{ℕ, _≤_, _+_, _-_, _*_, _/_, _<_}
+use lib.ListN.{length}
+use Rattle.queue.proofs.PutLaws.{kept}
+use Rattle.queue.proofs.AdmitLaws.{entry-put}
+use borrow.Author.Needs.{needs}
+use Rattle.queue.proofs.admit.put_told.Statement.{statement}
+use Rattle.queue.proofs.admit.put_told.Tie as tie
+use Rattle.queue.proofs.admit.put_told.Reads as reads
+use Rattle.queue.proofs.admit.put_told.Lts as lts
+use Rattle.queue.proofs.admit.put_terms.Reads as put-terms-reads
+use Rattle.queue.proofs.put.copy_part.Reads as copy-part-reads
+use Rattle.queue.proofs.put.put_be.Reads as put-be-reads
+use Rattle.queue.proofs.put.put_id.Reads as put-id-reads
+use Rattle.queue.proofs.put.put_u8.Reads as put-u8-reads
+
+put-id-requires : tie.Need-put-id-requires
+put-id-requires c κs = search needs
+
+put-be-requires : tie.Need-put-be-requires
+put-be-requires c κs = omega (arith, c .before .before .before .before .before .before .before .before .before .before .pre .2, c .before .before .before .put-id .ensures .next, kept (c .before .before .before .put-id .ensures))
+
+put-terms-requires : tie.Need-put-terms-requires
+put-terms-requires c κs = (c .before .before .before .before .before .before .before .before .before .before .before .before .before .before .pre .0, omega (arith, c .before .before .before .before .before .before .before .before .before .before .before .before .before .before .pre .2, c .before .before .before .before .before .before .before .put-id .ensures .next, kept (c .before .before .before .before .before .before .before .put-id .ensures), c .before .before .before .put-be .ensures .next, kept (c .before .before .before .put-be .ensures)))
+
+put-u8-requires : tie.Need-put-u8-requires
+put-u8-requires c κs = omega (arith, c .before .before .before .before .before .before .before .before .before .before .before .before .before .before .before .before .before .before .pre .2, c .before .before .before .before .before .before .before .before .before .before .before .put-id .ensures .next, kept (c .before .before .before .before .before .before .before .before .before .before .before .put-id .ensures), c .before .before .before .before .before .before .before .put-be .ensures .next, kept (c .before .before .before .before .before .before .before .put-be .ensures), c .before .before .before .put-terms .ensures .next, kept (c .before .before .before .put-terms .ensures))
+
+put-be-requires-2 : tie.Need-put-be-requires-2
+put-be-requires-2 c κs = omega (arith, c .before .before .before .before .before .before .before .before .before .before .before .before .before .before .before .before .before .before .before .before .before .before .pre .2, c .before .before .before .before .before .before .before .before .before .before .before .before .before .before .before .put-id .ensures .next, kept (c .before .before .before .before .before .before .before .before .before .before .before .before .before .before .before .put-id .ensures), c .before .before .before .before .before .before .before .before .before .before .before .put-be .ensures .next, kept (c .before .before .before .before .before .before .before .before .before .before .before .put-be .ensures), c .before .before .before .before .before .before .before .put-terms .ensures .next, kept (c .before .before .before .before .before .before .before .put-terms .ensures), c .before .before .before .put-u8 .ensures .next, kept (c .before .before .before .put-u8 .ensures))
+
+copy-part-requires : tie.Need-copy-part-requires
+copy-part-requires c κs = (omega arith, omega (arith, c .before .before .before .before .before .before .before .before .before .before .before .before .before .before .before .before .before .before .before .before .before .before .before .before .before .before .pre .2, c .before .before .before .before .before .before .before .before .before .before .before .before .before .before .before .before .before .before .before .put-id .ensures .next, kept (c .before .before .before .before .before .before .before .before .before .before .before .before .before .before .before .before .before .before .before .put-id .ensures), c .before .before .before .before .before .before .before .before .before .before .before .before .before .before .before .put-be .ensures .next, kept (c .before .before .before .before .before .before .before .before .before .before .before .before .before .before .before .put-be .ensures), c .before .before .before .before .before .before .before .before .before .before .before .put-terms .ensures .next, kept (c .before .before .before .before .before .before .before .before .before .before .before .put-terms .ensures), c .before .before .before .before .before .before .before .put-u8 .ensures .next, kept (c .before .before .before .before .before .before .before .put-u8 .ensures), c .before .before .before .put-be2 .ensures .next, kept (c .before .before .before .put-be2 .ensures)))
+
+same-length : tie.Need-same-length
+same-length c = search needs
+
+returns : tie.Need-returns
+returns c = entry-put (c .before .before .before .before .before .before .before .before .before .before .before .before .before .before .before .before .before .before .before .before .before .before .before .before .before .before .before .before .before .args .x) (c .before .before .before .before .before .before .before .before .before .before .before .before .before .before .before .before .before .before .before .before .before .before .before .before .before .before .before .before .before .args .id) (c .before .before .before .before .before .before .before .before .before .before .before .before .before .before .before .before .before .before .before .before .before .before .before .before .before .before .before .before .before .args .inputs .now) (c .before .before .before .before .before .before .before .before .before .before .before .before .before .before .before .before .before .before .before .before .before .before .before .before .before .before .before .before .before .args .outputs .now) (c .before .before .before .before .before .before .before .before .before .before .before .before .before .before .before .before .before .before .before .before .before .before .before .before .before .before .before .before .before .args .bytes .now) (c .before .before .before .before .before .before .before .before .before .before .before .before .before .before .before .before .before .before .before .before .before .before .before .before .before .before .before .before .before .args .label .now) (c .before .before .before .before .before .before .before .before .before .before .before .before .before .before .before .before .before .before .before .before .before .before .before .before .before .before .before .before .before .pre .1) (c .before .before .before .before .before .before .before .before .before .before .before .before .before .before .before .before .before .before .before .before .before .before .put-id .ensures) (c .before .before .before .before .before .before .before .before .before .before .before .before .before .before .before .before .before .before .put-be .ensures) (c .before .before .before .before .before .before .before .before .before .before .before .before .before .before .put-terms .ensures) (c .before .before .before .before .before .before .before .before .before .before .put-u8 .ensures) (c .before .before .before .before .before .before .put-be2 .ensures) (c .before .before .copy-part .ensures)
+
+pub put-told-spec : {M : Type 1} → statement M
+put-told-spec =
+    tie.close
+    (tie.spec
+    put-id-requires
+    put-be-requires
+    put-terms-requires
+    put-u8-requires
+    put-be-requires-2
+    copy-part-requires
+    same-length
+    returns)
