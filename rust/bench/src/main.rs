@@ -55,7 +55,7 @@ struct Bench<'a> {
     path: &'a Path,
 }
 
-/// Without, if one side has no such work.
+/// Microseconds; none where a side has no such work.
 struct Row {
     work: String,
     library: Option<f64>,
@@ -166,7 +166,11 @@ impl<'a> Bench<'a> {
         rows.extend(self.parts());
         rows.extend(self.readings());
         for row in rows {
-            let number = |time: Option<f64>| time.map_or("-".into(), |time| format!("{time:.1}"));
+            let number = |value: Option<f64>| match value {
+                Some(value) if value < 10.0 => format!("{value:.2}"),
+                Some(value) => format!("{value:.0}"),
+                None => "-".into(),
+            };
             let ratio = row.library.zip(row.oracle);
             let ratio = ratio.map(|(library, oracle)| library / oracle.max(0.01));
             let (library, oracle) = (number(row.library), number(row.oracle));
