@@ -62,6 +62,8 @@ fn damaged_area(rng: &mut Rng) -> Vec<u8> {
             }
         }
     }
+    // So that valgrind sees a read behind the end.
+    bytes.shrink_to_fit();
     bytes
 }
 
@@ -226,6 +228,7 @@ fn damaged_image(rng: &mut Rng) -> Vec<u8> {
             }
         }
     }
+    text.shrink_to_fit();
     text
 }
 
