@@ -1,14 +1,18 @@
 //! The same work by the exported calls and by `PrivateTransactionQueue`, as a table of medians.
 
+use std::collections::{BTreeMap, BTreeSet};
 use std::hint::black_box;
 use std::path::{Path, PathBuf};
 use std::time::{Duration, Instant};
 
-use compare::oracle::{hex, register, set_limits, whole_store};
+use compare::oracle::{hex, options_of, pool_entry, register, set_limits, whole_store};
+use compare::side::{Library, Reading, Side};
+use model::calls::{AdmitArgs, ReconcileArgs};
 use model::random::nth_id;
+use model::rules::{reserved_inputs, Admission};
 use model::{
-    area, image, FinishNumber, Height, Holder, Id, Limits, Queue, Reason, Record, State, TimeMs,
-    Withdrawn,
+    area, image, Confirmation, FinishNumber, Height, Holder, Id, Limits, Queue, Reason, Record,
+    State, TimeMs, Withdrawn,
 };
 use pokerbox::raw;
 use reference::private_queue::inspect::{self, WholeStore};
@@ -50,6 +54,9 @@ struct Bench<'a> {
     out: Vec<u8>,
     /// A pending record without a deadline.
     id: Id,
+    /// The same queue with that record Mined.
+    mined_area: Vec<u8>,
+    mined_store: WholeStore,
     oracle: PrivateTransactionQueue,
     store: WholeStore,
     path: &'a Path,
@@ -109,6 +116,23 @@ fn queue(limits: Limits, records: usize, tombstones: usize) -> Queue {
     queue
 }
 
+fn is_exported(call: &str) -> bool {
+    !pokerbox::not_exported_yet().contains(&call)
+}
+
+/// The queue with this record Mined.
+fn with_mined(queue: &Queue, id: &Id) -> Queue {
+    let mut queue = queue.clone();
+    let mut records = queue.records.iter_mut();
+    let record = records.find(|record| record.id == *id).expect("a record");
+    record.state = State::Mined;
+    record.mined = Some(Confirmation {
+        height: Height(99),
+        block: nth_id(0),
+    });
+    queue
+}
+
 /// The median time of `work`, each run after `ready`.
 fn median(mut ready: impl FnMut(), mut work: impl FnMut()) -> f64 {
     let mut times = Vec::new();
@@ -141,12 +165,16 @@ impl<'a> Bench<'a> {
         inspect::persist(&oracle).expect("a file for opening");
         let oracle = PrivateTransactionQueue::default();
         inspect::set_whole_store(&oracle, store.clone());
+        let id = nth_id(2);
+        let mined = with_mined(&queue, &id);
         Bench {
             area: area::encode(&queue),
             next: vec![0; limits.need()],
             out: vec![0; 2 * image.len() + 1_000],
             image,
-            id: nth_id(2),
+            id,
+            mined_area: area::encode(&mined),
+            mined_store: whole_store(&mined),
             queue,
             oracle,
             store,
@@ -163,6 +191,12 @@ impl<'a> Bench<'a> {
         );
         println!("| work | library | Rust | library / Rust |\n|---|---:|---:|---:|");
         let mut rows = self.changing();
+        if is_exported("admit") {
+            rows.push(self.admission());
+        }
+        if is_exported("reconcile") {
+            rows.push(self.reconciliation());
+        }
         rows.extend(self.parts());
         rows.extend(self.readings());
         for row in rows {
@@ -193,14 +227,9 @@ impl<'a> Bench<'a> {
 
     fn changing(&mut self) -> Vec<Row> {
         let limits = self.queue.limits;
-        let [p, b, t, k] = [
-            limits.pending,
-            limits.bytes,
-            limits.tombstones,
-            limits.inputs,
-        ]
-        .map(u64::from);
+        let [p, b, t, k] = limits.numbers();
         let id = hex(&self.id);
+        let ids = BTreeSet::from([id.clone()]);
         let mut rows = Vec::new();
         rows.push(Row {
             work: "fresh".into(),
@@ -246,6 +275,24 @@ impl<'a> Bench<'a> {
             )),
         });
         rows.push(Row {
+            work: "reopen (one) and image / JSON".into(),
+            oracle: Some(median(
+                || inspect::set_whole_store(&self.oracle, self.mined_store.clone()),
+                || {
+                    assert_eq!(self.oracle.reopen_rolled_back(&ids), Ok(true));
+                    black_box(inspect::json(&self.oracle));
+                },
+            )),
+            library: Some(median(
+                || (),
+                || {
+                    let out = &mut self.out;
+                    raw::reopen(&self.mined_area, &mut self.next, &self.id).expect("reopened");
+                    raw::image(&self.next, out, &mut 0).expect("an image");
+                },
+            )),
+        });
+        rows.push(Row {
             work: "set_cursor (no image)".into(),
             oracle: self.oracle(|queue| queue.set_observation_cursor(7, None)),
             library: Some(median(
@@ -271,6 +318,104 @@ impl<'a> Bench<'a> {
             )),
         });
         rows
+    }
+
+    /// One more transaction of the same size.
+    fn admission(&mut self) -> Row {
+        let new = self.queue.records.len();
+        let holder = record(new, State::Queued).holder.expect("a holder");
+        let given = Admission {
+            id: nth_id(new),
+            inputs: holder.inputs,
+            outputs: holder.outputs,
+            signed: holder.bytes,
+            now: TimeMs(DUE),
+            time_deadline: None,
+            height_deadline: None,
+            priority: 0,
+            label: None,
+            fee: 1_000_000,
+            cost: 9,
+            tip_height: Height(100),
+            tip: None,
+        };
+        let (inputs, outputs) = (given.inputs.concat(), given.outputs.concat());
+        let args = AdmitArgs {
+            id: &given.id,
+            inputs: &inputs,
+            outputs: &outputs,
+            signed: &given.signed,
+            now: given.now.0,
+            time_flag: 0,
+            time: 0,
+            height_flag: 0,
+            height: 0,
+            priority: 0,
+            label_flag: 0,
+            label: &[],
+            fee: given.fee,
+            cost: given.cost,
+            tip_height: given.tip_height.0,
+            tip_flag: 0,
+            tip: &[],
+        };
+        let entry = pool_entry(&given);
+        Row {
+            work: "admit and image / JSON".into(),
+            oracle: self.oracle(|queue| {
+                let options = options_of(&given);
+                let admitted = queue.admit_at_tip(&entry, options, DUE, 100, None);
+                admitted.expect("admitted");
+                black_box(inspect::json(queue));
+            }),
+            library: Some(median(
+                || (),
+                || {
+                    let out = &mut self.out;
+                    let number = Library.admit(&self.area, &mut self.next, &args, out);
+                    assert_eq!(number, 102);
+                    raw::image(&self.next, out, &mut 0).expect("an image");
+                },
+            )),
+        }
+    }
+
+    /// One record is found in a block, all inputs are available.
+    fn reconciliation(&mut self) -> Row {
+        let (block, window) = (nth_id(0), 720);
+        let height = 101u32;
+        let found = BTreeMap::from([(hex(&self.id), (height, hex(&block)))]);
+        let applied = [&self.id[..], &height.to_be_bytes(), &block].concat();
+        let inputs = reserved_inputs(&self.queue);
+        let available: Vec<u8> = inputs.iter().flatten().copied().collect();
+        let args = ReconcileArgs {
+            height,
+            tip: &block,
+            applied: &applied,
+            caught_up: 1,
+            available: &available,
+            window,
+        };
+        let tip = hex(&block);
+        Row {
+            work: "reconcile (one found) and image / JSON".into(),
+            oracle: self.oracle(|queue| {
+                let is_available = |id: &Id| inputs.contains(id);
+                let tip = tip.clone();
+                let done = queue.reconcile(height, tip, &found, true, is_available, window);
+                assert!(done.expect("reconciled").changed);
+                black_box(inspect::json(queue));
+            }),
+            library: Some(median(
+                || (),
+                || {
+                    let out = &mut self.out;
+                    let number = Library.reconcile(&self.area, &mut self.next, &args, out);
+                    assert_eq!(number, 102);
+                    raw::image(&self.next, out, &mut 0).expect("an image");
+                },
+            )),
+        }
     }
 
     /// Where the time goes.
@@ -319,14 +464,18 @@ impl<'a> Bench<'a> {
                 black_box(inspect::json(queue));
             }),
         });
-        for (outcome, work) in [(0, "settle kept, kind 2"), (1, "settle failed, kind 2")] {
+        for (kind, outcome, work) in [
+            (2, 0, "settle kept, kind 2"),
+            (2, 1, "settle failed, kind 2"),
+            (3, 1, "settle failed, kind 3"),
+        ] {
             self.next.copy_from_slice(&self.area);
             rows.push(Row {
                 work: format!("part: {work}"),
                 library: Some(median(
                     || (),
                     || {
-                        let _ = black_box(raw::settle(&self.area, &mut self.next, 2, outcome));
+                        let _ = black_box(raw::settle(&self.area, &mut self.next, kind, outcome));
                     },
                 )),
                 oracle: None,
@@ -402,9 +551,33 @@ impl<'a> Bench<'a> {
             oracle.selection_entries_at(DUE, 0)
         );
         reading!("due", raw::due(area, DUE, 0, out), oracle.due(DUE, 0));
+        /// A reading call that may not be exported yet.
+        macro_rules! reading_if_exported {
+            ($reading:expr, $oracle:expr) => {
+                if is_exported($reading.name()) {
+                    rows.push(Row {
+                        work: $reading.name().into(),
+                        library: Some(median(
+                            || (),
+                            || assert_eq!(Library.read($reading, area, out), Some(100)),
+                        )),
+                        oracle: Some(median(
+                            || (),
+                            || {
+                                black_box($oracle);
+                            },
+                        )),
+                    });
+                }
+            };
+        }
+        reading_if_exported!(Reading::ReservedInputs, oracle.reserved_inputs());
+        reading_if_exported!(Reading::ReservationSnapshot, oracle.reservation_snapshot());
+        reading_if_exported!(Reading::GuardSnapshot, oracle.guard_snapshot());
+        inspect::set_whole_store(oracle, self.mined_store.clone());
         reading!(
-            "confirmations",
-            raw::confirmations(area, out),
+            "confirmations (one)",
+            raw::confirmations(&self.mined_area, out),
             oracle.confirmations()
         );
         rows.push(Row {

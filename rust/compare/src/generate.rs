@@ -68,7 +68,7 @@ fn call(rng: &mut Rng, queue: &Queue) -> Call {
 }
 
 /// The id of a record mostly.
-fn record_id(rng: &mut Rng, queue: &Queue) -> Id {
+pub(crate) fn record_id(rng: &mut Rng, queue: &Queue) -> Id {
     if queue.records.is_empty() || rng.once_in(4) {
         return random::tx_id(rng, &queue.limits);
     }

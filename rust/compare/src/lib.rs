@@ -7,9 +7,11 @@
 //! - [`unit`]: runs events on areas as a node does.
 //! - [`oracle`]: runs events on the oracle.
 //! - [`run`]: compares the two after each event.
+//! - [`fixed`]: the fixed list that a Rattle program replays.
 //! - [`shrink`]: makes a list that shows a difference smaller.
 
 pub mod counts;
+pub mod fixed;
 pub mod generate;
 pub mod list;
 pub mod oracle;

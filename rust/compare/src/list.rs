@@ -43,6 +43,14 @@ pub enum Write {
 }
 
 impl Write {
+    pub const ALL: [Write; 5] = [
+        Write::Kept,
+        Write::NotCreated,
+        Write::NotRenamed,
+        Write::CutBeforeRename,
+        Write::CutAfterRename,
+    ];
+
     pub fn name(self) -> &'static str {
         match self {
             Write::Kept => "kept",

@@ -173,41 +173,10 @@ impl Oracle {
     }
 
     fn admit(&self, given: &Admission) -> Answer {
-        let entry = Entry::new(
-            Digest32::from_bytes(given.id),
-            Arc::from(given.signed.clone()),
-            given
-                .inputs
-                .iter()
-                .copied()
-                .map(Digest32::from_bytes)
-                .collect(),
-            given
-                .outputs
-                .iter()
-                .copied()
-                .map(Digest32::from_bytes)
-                .collect(),
-            Vec::new(),
-            given.fee,
-            0,
-            given.signed.len() as u32,
-            given.cost,
-            TxSource::Wallet,
-        );
-        let options = PrivateTransactionOptions {
-            expires_at_ms: given.time_deadline.map(|time| time.0),
-            expires_at_height: given.height_deadline.map(|height| height.0),
-            priority: given.priority,
-            label: given
-                .label
-                .clone()
-                .map(|label| String::from_utf8(label).expect("labels are UTF-8")),
-        };
         let before = self.queue.revision();
         let answer = answer_entry(self.queue.admit_at_tip(
-            &entry,
-            options,
+            &pool_entry(given),
+            options_of(given),
             given.now.0,
             given.tip_height.0,
             given.tip.as_ref().map(hex),
@@ -311,6 +280,36 @@ impl Oracle {
     }
 }
 
+/// The transaction as the oracle is given it.
+pub fn pool_entry(given: &Admission) -> Entry {
+    let digests = |ids: &[Id]| ids.iter().copied().map(Digest32::from_bytes).collect();
+    Entry::new(
+        Digest32::from_bytes(given.id),
+        Arc::from(given.signed.clone()),
+        digests(&given.inputs),
+        digests(&given.outputs),
+        Vec::new(),
+        given.fee,
+        0,
+        given.signed.len() as u32,
+        given.cost,
+        TxSource::Wallet,
+    )
+}
+
+/// The rest of what an admission is given.
+pub fn options_of(given: &Admission) -> PrivateTransactionOptions {
+    PrivateTransactionOptions {
+        expires_at_ms: given.time_deadline.map(|time| time.0),
+        expires_at_height: given.height_deadline.map(|height| height.0),
+        priority: given.priority,
+        label: given
+            .label
+            .clone()
+            .map(|label| String::from_utf8(label).expect("labels are UTF-8")),
+    }
+}
+
 /// Sets this thread's limits of the oracle.
 pub fn set_limits(limits: &Limits) {
     let [p, b, t] = [limits.pending, limits.bytes, limits.tombstones].map(|limit| limit as usize);
@@ -377,7 +376,11 @@ fn refusal_of(reason: &str) -> u64 {
 // From the oracle's values to document 01's.
 
 pub fn hex(id: &Id) -> String {
-    id.iter().map(|byte| format!("{byte:02x}")).collect()
+    hex_bytes(id)
+}
+
+pub fn hex_bytes(bytes: &[u8]) -> String {
+    bytes.iter().map(|byte| format!("{byte:02x}")).collect()
 }
 
 fn id_of(hex: &str) -> Id {

@@ -208,7 +208,7 @@ fn padded(answer: &[u8], length: usize) -> Vec<u8> {
 }
 
 /// The number that the model gives for the call.
-fn model_number(call: &Call, queue: &Queue) -> u64 {
+pub(crate) fn model_number(call: &Call, queue: &Queue) -> u64 {
     use model::rules;
     let refusal = match call {
         Call::Admit(given) => rules::admit(queue, given).err(),

@@ -68,14 +68,7 @@ impl<'s, S: Side> Unit<'s, S> {
         let (call, number) = match &self.stored {
             Some(text) => ("open", self.side.open(text, &mut self.current)),
             None => {
-                let limits = &self.first_limits;
-                let [p, b, t, k] = [
-                    limits.pending,
-                    limits.bytes,
-                    limits.tombstones,
-                    limits.inputs,
-                ]
-                .map(u64::from);
+                let [p, b, t, k] = self.first_limits.numbers();
                 ("fresh", self.side.fresh(p, b, t, k, &mut self.current))
             }
         };
@@ -259,7 +252,7 @@ fn expect(call: &str, number: u64, expected: u64) -> Result<(), Fault> {
     Ok(())
 }
 
-fn optional_id(id: &Option<Id>) -> &[u8] {
+pub(crate) fn optional_id(id: &Option<Id>) -> &[u8] {
     id.as_ref().map_or(&[], |id| id)
 }
 

@@ -35,7 +35,7 @@ impl Cards {
             events: Vec::new(),
             probe: (TimeMs(0), Height(0)),
         };
-        let pair = Pair::new(&Model, &folder.0, &list).map_err(|found| found.to_string());
+        let pair = Pair::new(&Model, folder.path(), &list).map_err(|found| found.to_string());
         Cards {
             pair: pair.unwrap(),
             _folder: folder,

@@ -18,7 +18,7 @@ fn lists<S: Side>(side: &S, folder: &Folder, count: u64) -> Result<Counts, Found
     for seed in 0..count {
         let mut rng = Rng::new(seed);
         let limits = generate::limits(&mut rng);
-        random_list(side, &folder.0, &mut rng, limits, &mut counts)?;
+        random_list(side, folder.path(), &mut rng, limits, &mut counts)?;
     }
     Ok(counts)
 }
@@ -28,7 +28,7 @@ fn no_difference<S: Side>(side: &S, name: &str, count: u64) -> Counts {
     match lists(side, &folder, count) {
         Ok(counts) => counts,
         Err(found) => {
-            let (list, found) = shrink(side, &folder.0, *found);
+            let (list, found) = shrink(side, folder.path(), *found);
             panic!("{list}\n{found}");
         }
     }
@@ -66,7 +66,7 @@ fn noticed<S: Side>(side: &S, name: &str) -> List {
     let Err(found) = lists(side, &folder, 500) else {
         panic!("{name} was not noticed");
     };
-    shrink(side, &folder.0, *found).0
+    shrink(side, folder.path(), *found).0
 }
 
 /// Settles a failed cursor write as kept.

@@ -37,13 +37,7 @@ pub fn broken_rule(queue: &Queue) -> Option<&'static str> {
 }
 
 fn limits_in_range(limits: &Limits) -> bool {
-    let [p, b, t, k] = [
-        limits.pending,
-        limits.bytes,
-        limits.tombstones,
-        limits.inputs,
-    ]
-    .map(u64::from);
+    let [p, b, t, k] = limits.numbers();
     Limits::checked(p, b, t, k).is_some()
 }
 

@@ -44,9 +44,15 @@ impl Limits {
         })
     }
 
+    /// P, B, T and K as a call is given them.
+    pub fn numbers(&self) -> [u64; 4] {
+        [self.pending, self.bytes, self.tombstones, self.inputs].map(u64::from)
+    }
+
     /// The bytes that an area needs: 2B + 2P × (512 + 64K) + 512T + 512.
     pub fn need(&self) -> usize {
-        let [p, b, t, k] = [self.pending, self.bytes, self.tombstones, self.inputs]
+        let [p, b, t, k] = self
+            .numbers()
             .map(|limit| usize::try_from(limit).expect("a limit fits"));
         2 * b + 2 * p * (512 + 64 * k) + 512 * t + 512
     }

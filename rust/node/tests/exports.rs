@@ -22,13 +22,7 @@ fn fresh() {
     let mut met = Met::default();
     many(CASES, |rng| {
         let limits = random::small_limits(rng);
-        let mut numbers = [
-            limits.pending,
-            limits.bytes,
-            limits.tombstones,
-            limits.inputs,
-        ]
-        .map(u64::from);
+        let mut numbers = limits.numbers();
         if rng.once_in(3) {
             let tops = [1_024, 16_777_216, 1_024, 128];
             let at = rng.below(4);
@@ -466,40 +460,32 @@ fn signed_bytes() {
     met.expect(&[3, 5, 13, 100]);
 }
 
-#[test]
-#[cfg(exported = "selection_entries_at")]
-fn selection_entries_at() {
-    let mut met = Met::default();
-    many(CASES, |rng| {
-        let (_, lent) = lent_queue(rng);
-        let (now, height) = (random::time(rng).0, random::height(rng).0);
-        same_reading(
-            &mut met,
-            rng,
-            &lent,
-            |area, out| raw::selection_entries_at(area, now, height, out),
-            |area, out| calls::selection_entries_at(area, now, height, out),
-        );
-    });
-    met.expect(&[3, 4, 100]);
+/// Reading calls that take an area, a time and a height and answer bytes.
+macro_rules! moment_readings {
+    ($($call:literal $name:ident;)*) => {$(
+        #[test]
+        #[cfg(exported = $call)]
+        fn $name() {
+            let mut met = Met::default();
+            many(CASES, |rng| {
+                let (_, lent) = lent_queue(rng);
+                let (now, height) = (random::time(rng).0, random::height(rng).0);
+                same_reading(
+                    &mut met,
+                    rng,
+                    &lent,
+                    |area, out| raw::$name(area, now, height, out),
+                    |area, out| calls::$name(area, now, height, out),
+                );
+            });
+            met.expect(&[3, 4, 100]);
+        }
+    )*};
 }
 
-#[test]
-#[cfg(exported = "due")]
-fn due() {
-    let mut met = Met::default();
-    many(CASES, |rng| {
-        let (_, lent) = lent_queue(rng);
-        let (now, height) = (random::time(rng).0, random::height(rng).0);
-        same_reading(
-            &mut met,
-            rng,
-            &lent,
-            |area, out| raw::due(area, now, height, out),
-            |area, out| calls::due(area, now, height, out),
-        );
-    });
-    met.expect(&[3, 4, 100]);
+moment_readings! {
+    "selection_entries_at" selection_entries_at;
+    "due" due;
 }
 
 #[test]

@@ -87,14 +87,7 @@ impl Lent {
 
     #[cfg(exported = "fresh")]
     fn fresh(&mut self, library: bool) -> u64 {
-        let limits = &self.queue.limits;
-        let [p, b, t, k] = [
-            limits.pending,
-            limits.bytes,
-            limits.tombstones,
-            limits.inputs,
-        ];
-        let [p, b, t, k] = [p, b, t, k].map(u64::from);
+        let [p, b, t, k] = self.queue.limits.numbers();
         match library {
             true => common::Number::number(raw::fresh(p, b, t, k, &mut self.next)),
             false => calls::fresh(p, b, t, k, &mut self.next),

@@ -1,18 +1,6 @@
-//! A folder for one test, removed at its end.
+//! What the tests share.
 
-pub struct Folder(pub std::path::PathBuf);
+#[path = "../../../node/tests/common/folder.rs"]
+mod folder;
 
-impl Folder {
-    pub fn new(name: &str) -> Self {
-        let folder = std::env::temp_dir().join(format!("pokerbox-{name}-{}", std::process::id()));
-        let _ = std::fs::remove_dir_all(&folder);
-        std::fs::create_dir_all(&folder).expect("a folder for the test");
-        Folder(folder)
-    }
-}
-
-impl Drop for Folder {
-    fn drop(&mut self) {
-        let _ = std::fs::remove_dir_all(&self.0);
-    }
-}
+pub use folder::Folder;

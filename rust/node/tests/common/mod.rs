@@ -2,11 +2,16 @@
 
 #![allow(dead_code)]
 
+mod folder;
+
 use std::collections::BTreeMap;
 
 use model::random::{self, Rng};
 use model::{area, Limits, Queue};
 use pokerbox::{Error, Kind};
+
+#[allow(unused_imports)]
+pub use folder::Folder;
 
 /// The number that an exported call gave back.
 pub trait Number {
@@ -239,26 +244,4 @@ pub fn same_values<const N: usize>(
         assert_eq!(values, before, "a refusal wrote");
     }
     met.count(number);
-}
-
-/// A folder for one test, removed at its end.
-pub struct Folder(std::path::PathBuf);
-
-impl Folder {
-    pub fn new(name: &str) -> Self {
-        let folder = std::env::temp_dir().join(format!("pokerbox-{name}-{}", std::process::id()));
-        let _ = std::fs::remove_dir_all(&folder);
-        std::fs::create_dir_all(&folder).expect("a folder for the test");
-        Folder(folder)
-    }
-
-    pub fn path(&self) -> &std::path::Path {
-        &self.0
-    }
-}
-
-impl Drop for Folder {
-    fn drop(&mut self) {
-        let _ = std::fs::remove_dir_all(&self.0);
-    }
 }

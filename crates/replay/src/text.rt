@@ -1,0 +1,122 @@
+// The list's lines read, and answers written. What is not there reads as 0, or as no bytes.
+use queue::put::copy_part;
+use queue::put::copy_view;
+use queue::put::put_text;
+use queue::view::be;
+use queue::view::size;
+ghost use Prim.Native.Nat.{_≤_};
+ghost use lib.ListN.{length};
+
+pub fn least(a: usize, b: usize) -> usize
+    ensures { λ r. ⌜ (r ≤ a) × (r ≤ b) ⌝ }
+{
+    if a < b { a } else { b }
+}
+
+// The first byte of a line says which step it is.
+pub fn letter(line: &[u8]) -> u8 {
+    if 0 < line.len() {
+        return line[0];
+    }
+    0
+}
+
+// All bytes from at on.
+pub fn rest(s: &[u8], at: usize) -> &[u8] {
+    if at <= s.len() {
+        return &s[at..];
+    }
+    s
+}
+
+// At most n bytes from at on.
+pub fn part(s: &[u8], at: usize, n: usize) -> &[u8] {
+    let t = rest(s, at);
+    if n <= t.len() {
+        return &t[..n];
+    }
+    t
+}
+
+// The bytes of the digits from the line's third byte on, into arg: how many.
+pub fn arguments(line: &[u8], arg: &mut [u8]) -> usize {
+    let n = size(line, true, 2);
+    if n <= arg.len() {
+        copy_view(line, true, 2, 0, n, arg, 0);
+        return n;
+    }
+    0
+}
+
+// The number of the n bytes from at on.
+pub fn number(a: &[u8], at: usize, n: usize) -> u64 {
+    let z = size(a, false, 0);
+    if 8 < n {
+        return 0;
+    }
+    if z < n {
+        return 0;
+    }
+    if z - n < at {
+        return 0;
+    }
+    be(a, false, 0, at, n)
+}
+
+pub fn number_32(a: &[u8], at: usize) -> u32 {
+    (number(a, at, 4) % 4294967296) as u32
+}
+
+pub fn number_8(a: &[u8], at: usize) -> u8 {
+    (number(a, at, 1) % 256) as u8
+}
+
+// Every byte becomes b.
+pub fn fill(s: &mut [u8], b: u8) {
+    let mut i = 0;
+    while i < s.len() {
+        s[i] = b;
+        i += 1;
+    }
+}
+
+// Is every byte b?
+pub fn filled(s: &[u8], b: u8) -> bool {
+    let mut i = 0;
+    while i < s.len() {
+        if s[i] != b {
+            return false;
+        }
+        i += 1;
+    }
+    true
+}
+
+// Bytes to the start of another slice, as many as it takes: how many.
+pub fn copy(src: &[u8], dst: &mut [u8]) -> usize
+    ensures { λ r. ⌜ r ≤ length (now (src .entry)) ⌝ }
+{
+    let n = least(src.len(), dst.len());
+    copy_part(src, 0, n, dst, 0);
+    n
+}
+
+pub fn say(bytes: &[u8]) {
+    io::write_all(1, bytes);
+}
+
+// A blank and the bytes' digits.
+pub fn say_bytes(bytes: &[u8]) {
+    let mut space = io::large_buffer();
+    let digits: &mut [u8] = &mut space;
+    let n = least(bytes.len(), digits.len() / 2);
+    put_text(bytes, 0, n, digits, 0);
+    say(b" ");
+    say(part(digits, 0, n + n));
+}
+
+// A step's letter, a blank and the number that the call gave back.
+pub fn say_number(op: u8, n: u64) {
+    say(&[op, b' ']);
+    io::print_decimal(1, n);
+}

@@ -1,0 +1,868 @@
+//! The fixed list of `crates/replay`: steps, and the oracle's answers to them. `crates/replay/README.md` has the form of
+//! both and says which answers are not the oracle's.
+
+use std::collections::{BTreeMap, BTreeSet};
+use std::fmt::Write as _;
+use std::path::Path;
+
+use model::random::{self, Rng};
+use model::{area, calls, image, Height, Id, Limits, Queue, Record, State, TimeMs};
+
+use crate::generate;
+use crate::list::{Call, Event, Start, Write};
+use crate::oracle::{hex_bytes, Oracle};
+use crate::run::model_number;
+use crate::side::Reading;
+use crate::unit::{optional_id, UNTOUCHED};
+
+/// The Rattle program's folder, from this package's.
+pub const REPLAY: &str = "../../crates/replay";
+
+const LISTS: u64 = 36;
+const EVENTS: usize = 9;
+/// What the program has of each area, and of an image.
+const AREA: usize = 8_192;
+const IMAGE: usize = 16_384;
+
+/// The numbers that each step has to meet.
+const TO_MEET: [(char, &[u64]); 24] = [
+    ('f', &[1, 2, 100]),
+    ('o', &[2, 16, 100]),
+    ('v', &[3, 100]),
+    ('w', &[3, 4, 100]),
+    ('q', &[3, 100]),
+    ('s', &[2, 3, 5, 17, 100]),
+    ('c', &[2, 3, 4, 5, 13, 14, 15, 100, 102]),
+    ('e', &[2, 3, 4, 15, 100, 102]),
+    ('r', &[2, 3, 5, 100, 102]),
+    ('u', &[2, 3, 5, 101]),
+    ('B', &[3, 5, 13, 100]),
+    ('C', &[3, 4, 100]),
+    ('D', &[3, 100]),
+    ('E', &[3, 100]),
+    ('F', &[3, 4, 100]),
+    ('G', &[3, 4, 100]),
+    ('H', &[3, 100]),
+    ('I', &[3, 4, 100]),
+    ('L', &[3, 4, 100]),
+    ('N', &[3, 4, 5, 13, 100]),
+    ('R', &[3, 100]),
+    ('S', &[3, 4, 100]),
+    ('T', &[3, 4, 100]),
+    ('U', &[3, 4, 100]),
+];
+
+/// The list and the answers.
+#[derive(Debug, Default)]
+pub struct Fixed {
+    pub steps: String,
+    pub answers: String,
+    met: BTreeMap<(char, u64), u64>,
+    writes: BTreeSet<(u64, Write)>,
+}
+
+/// Makes both; the oracle has its files in `folder`.
+pub fn make(folder: &Path) -> Result<Fixed, String> {
+    let mut fixed = Fixed::default();
+    for seed in 0..LISTS {
+        let mut rng = Rng::new(seed);
+        List::new(&mut fixed, folder, &mut rng)?.run(&mut rng)?;
+    }
+    refusals(&mut fixed);
+    fixed.check()?;
+    Ok(fixed)
+}
+
+impl Fixed {
+    fn both(&mut self, line: &str) {
+        for text in [&mut self.steps, &mut self.answers] {
+            writeln!(text, "# {line}").expect("a String");
+        }
+    }
+
+    /// A step that answers nothing.
+    fn step(&mut self, letter: char, arguments: &[u8]) {
+        let digits = hex_bytes(arguments);
+        let line = format!("{letter} {digits}");
+        writeln!(self.steps, "{}", line.trim_end()).expect("a String");
+    }
+
+    /// A step that answers a number and, after a blank, `more`.
+    fn call(&mut self, letter: char, arguments: &[u8], number: u64, more: &str) {
+        self.step(letter, arguments);
+        *self.met.entry((letter, number)).or_default() += 1;
+        writeln!(self.answers, "{letter} {number}{more}").expect("a String");
+    }
+
+    /// A step with an output, which is all written.
+    fn output(&mut self, letter: char, arguments: &[u8], number: u64, out: &[u8]) {
+        let arguments = [&(out.len() as u16).to_be_bytes(), arguments].concat();
+        self.call(letter, &arguments, number, &format!(" {}", hex_bytes(out)));
+    }
+
+    /// A step that answers an image.
+    fn image(&mut self, letter: char, text: &[u8]) {
+        self.call(letter, &[], 100, "");
+        self.answers.push_str(as_text(text));
+    }
+
+    /// An area, given by the list.
+    fn area(&mut self, letter: char, area: &[u8]) {
+        let used = area.iter().rposition(|byte| *byte != 0);
+        self.step(letter, &area[..used.map_or(0, |at| at + 1)]);
+    }
+
+    /// A stored image, given by the list.
+    fn stored(&mut self, text: &[u8]) {
+        self.step('m', &[]);
+        self.steps.push_str(as_text(text));
+    }
+
+    fn persisted(&mut self, queue: &Queue) {
+        self.step('p', &[]);
+        writeln!(self.answers, "p {:08x}", queue.persisted.0).expect("a String");
+    }
+
+    fn check(&self) -> Result<(), String> {
+        for (letter, numbers) in TO_MEET {
+            for number in numbers {
+                if !self.met.contains_key(&(letter, *number)) {
+                    return Err(format!("step {letter} never gave {number}"));
+                }
+            }
+        }
+        for kind in [2, 3] {
+            for write in Write::ALL {
+                if !self.writes.contains(&(kind, write)) {
+                    return Err(format!("no write of kind {kind} was {}", write.name()));
+                }
+            }
+        }
+        Ok(())
+    }
+
+    /// How often each step gave each number.
+    pub fn counts(&self) -> String {
+        let mut text = String::new();
+        let mut last = ' ';
+        for ((letter, number), count) in &self.met {
+            let break_at = if last == *letter { ", " } else { "\n" };
+            write!(text, "{break_at}{letter} {number}: {count}").expect("a String");
+            last = *letter;
+        }
+        text.trim_start().to_string()
+    }
+}
+
+fn as_text(image: &[u8]) -> &str {
+    std::str::from_utf8(image).expect("an image is a text")
+}
+
+fn head(limits: &Limits) -> String {
+    let [p, b, t, k] = limits.numbers();
+    format!("P {p}, B {b}, T {t}, K {k}")
+}
+
+// ---- lists, by the oracle
+
+/// One list: a queue in areas and a stored image, as a node has them.
+struct List<'a> {
+    fixed: &'a mut Fixed,
+    limits: Limits,
+    oracle: Oracle,
+    /// Where a second oracle makes each call with its write kept.
+    trial: std::path::PathBuf,
+    /// Whether an image is stored.
+    stored: bool,
+}
+
+/// What a call gives before its write.
+struct Given {
+    /// A refusal, or 100 and the kind.
+    number: u64,
+    answer: Vec<u8>,
+    next: Queue,
+}
+
+impl<'a> List<'a> {
+    fn new(fixed: &'a mut Fixed, folder: &Path, rng: &mut Rng) -> Result<Self, String> {
+        let limits = random::small_limits(rng);
+        let start = generate::list(rng, limits).start;
+        let (own, trial) = (folder.join("own"), folder.join("trial"));
+        for folder in [&own, &trial] {
+            std::fs::create_dir_all(folder).map_err(|error| error.to_string())?;
+        }
+        let mut list = List {
+            fixed,
+            limits,
+            oracle: Oracle::new(&own, limits, &start)?,
+            trial,
+            stored: start != Start::Fresh,
+        };
+        list.begin();
+        Ok(list)
+    }
+
+    fn begin(&mut self) {
+        self.fixed.both(&format!("a list: {}", head(&self.limits)));
+        if self.stored {
+            let queue = self.oracle.queue();
+            self.fixed.area('a', &area::encode(&queue));
+            self.fixed.stored(&image::encode(&queue));
+            self.fixed.call('v', &[], 100, "");
+        } else {
+            self.fixed.step('m', &[]);
+            self.restart();
+        }
+    }
+
+    fn run(&mut self, rng: &mut Rng) -> Result<(), String> {
+        self.readings(rng);
+        for _ in 0..EVENTS {
+            let queue = self.oracle.queue();
+            match generate::event(rng, &queue) {
+                Event::Cut => {
+                    self.fixed.both("power cut");
+                    self.oracle.restart()?;
+                    self.restart();
+                }
+                // Writes fail and are cut more often than in other lists.
+                Event::Call(call, Write::Kept) if rng.once_in(3) => {
+                    let write = rng.pick(&Write::ALL);
+                    self.call(rng, &call, write)?
+                }
+                Event::Call(call, write) => self.call(rng, &call, write)?,
+            }
+            self.readings(rng);
+        }
+        Ok(())
+    }
+
+    /// Opening what is stored, or a fresh queue: what the oracle then has.
+    fn restart(&mut self) {
+        if self.stored {
+            self.fixed.call('o', &[], 100, "");
+        } else {
+            let arguments = self.limits.numbers().map(u64::to_be_bytes).concat();
+            self.fixed.call('f', &arguments, 100, "");
+        }
+        self.show();
+    }
+
+    /// The queue in the current area.
+    fn show(&mut self) {
+        let queue = self.oracle.queue();
+        self.fixed.persisted(&queue);
+        self.fixed.image('q', &image::encode(&queue));
+    }
+
+    fn call(&mut self, rng: &mut Rng, call: &Call, write: Write) -> Result<(), String> {
+        let before = self.oracle.queue();
+        // 15 is not the oracle's.
+        if model_number(call, &before) == 15 {
+            return Ok(());
+        }
+        let given = self.given(call, &before)?;
+        if letter(call).is_none() && given.number <= 100 {
+            return Ok(());
+        }
+        let due = matches!(given.number, 102 | 103);
+        let how = if due { write.name() } else { "not due" };
+        self.fixed.both(&format!("{}, write {how}", call.name()));
+        match letter(call) {
+            Some(letter) => self.answered(rng, letter, call, &given),
+            None => self.fixed.area('b', &area::encode(&given.next)),
+        }
+        let done = self.oracle.call(call, write)?;
+        match given.number {
+            101 => {
+                self.fixed.step('k', &[]);
+                self.show();
+            }
+            102 | 103 => {
+                self.same(done.wrote, true, "a write was due")?;
+                self.write(rng, given.number - 100, write, &given.next)?;
+            }
+            number => {
+                self.same(done.number, number, "the number given back")?;
+                self.same(self.oracle.queue(), before, "the queue")?;
+            }
+        }
+        Ok(())
+    }
+
+    /// The same call on the same queue by a second oracle, whose write is kept.
+    fn given(&self, call: &Call, before: &Queue) -> Result<Given, String> {
+        let start = Start::Queue(Box::new(before.clone()));
+        let mut trial = Oracle::new(&self.trial, self.limits, &start)?;
+        let done = trial.call(call, Write::Kept)?;
+        let next = trial.queue();
+        let kind = match (done.wrote, call) {
+            (true, _) if next.revision != before.revision => 2,
+            (true, _) => 3,
+            (false, Call::SetCursor(..) | Call::Reconcile(_)) => 1,
+            (false, _) => 0,
+        };
+        Ok(Given {
+            number: if done.number == 100 {
+                100 + kind
+            } else {
+                done.number
+            },
+            answer: done.answer,
+            next,
+        })
+    }
+
+    fn answered(&mut self, rng: &mut Rng, letter: char, call: &Call, given: &Given) {
+        let out = longer(rng, &given.answer);
+        let out = if given.number < 100 {
+            vec![UNTOUCHED; 2]
+        } else {
+            out
+        };
+        self.fixed
+            .output(letter, &arguments(call), given.number, &out);
+    }
+
+    /// The image of the next area, the write, settling.
+    fn write(
+        &mut self,
+        rng: &mut Rng,
+        kind: u64,
+        write: Write,
+        next: &Queue,
+    ) -> Result<(), String> {
+        self.fixed.writes.insert((kind, write));
+        self.fixed.image('w', &image::encode(next));
+        if matches!(write, Write::Kept | Write::CutAfterRename) {
+            self.fixed.step('t', &[]);
+            self.stored = true;
+        }
+        let after = self.oracle.queue();
+        match write {
+            Write::Kept => {
+                self.same(&after, next, "the queue")?;
+                self.settle(kind, 0, 100);
+                self.fixed.persisted(&after);
+                if rng.once_in(4) {
+                    self.show();
+                }
+            }
+            Write::NotCreated | Write::NotRenamed => {
+                self.settle(kind, 1, 17);
+                self.show();
+            }
+            Write::CutBeforeRename | Write::CutAfterRename => self.restart(),
+        }
+        Ok(())
+    }
+
+    /// Settling, after which the next area is the current one.
+    fn settle(&mut self, kind: u64, outcome: u8, number: u64) {
+        self.fixed.call('s', &[kind as u8, outcome], number, "");
+        self.fixed.step('k', &[]);
+    }
+
+    fn same<T: PartialEq>(&self, one: T, other: T, what: &str) -> Result<(), String> {
+        if one == other {
+            return Ok(());
+        }
+        Err(format!("two oracles part: {what}"))
+    }
+
+    /// Some reading calls.
+    fn readings(&mut self, rng: &mut Rng) {
+        let (now, height) = (random::time(rng).0, random::height(rng).0);
+        for reading in Reading::all(now, height) {
+            let Some(letter) = reading_letter(reading) else {
+                continue;
+            };
+            if rng.once_in(6) {
+                self.reading(rng, letter, reading);
+            }
+        }
+        if rng.once_in(3) {
+            let queue = self.oracle.queue();
+            let id = generate::record_id(rng, &queue);
+            self.entry(rng, &id, queue.record(&id));
+        }
+    }
+
+    fn reading(&mut self, rng: &mut Rng, letter: char, reading: Reading) {
+        let answer = self.oracle.read(reading);
+        let arguments = match reading {
+            Reading::DeadlineDue(now, height)
+            | Reading::SelectionEntriesAt(now, height)
+            | Reading::Due(now, height) => moment(now, height),
+            _ => Vec::new(),
+        };
+        match reading {
+            Reading::Revision
+            | Reading::IsEmpty
+            | Reading::DeadlineDue(..)
+            | Reading::ObservedHeight => {
+                let value = u64::from_be_bytes(answer.try_into().expect("a number"));
+                self.fixed
+                    .call(letter, &arguments, 100, &format!(" {value}"));
+            }
+            _ => {
+                let out = longer(rng, &answer);
+                self.fixed.output(letter, &arguments, 100, &out);
+            }
+        }
+    }
+
+    fn entry(&mut self, rng: &mut Rng, id: &Id, record: Option<&Record>) {
+        match self.oracle.entry(id) {
+            Ok(answer) => {
+                let out = longer(rng, &answer);
+                self.fixed.output('N', id, 100, &out);
+            }
+            Err(number) => self.fixed.output('N', id, number, &[UNTOUCHED]),
+        }
+        let holder = record.and_then(|record| record.holder.as_ref());
+        match holder {
+            Some(holder) => {
+                let more = format!(" {}", hex_bytes(&holder.bytes));
+                self.fixed.call('B', id, 100, &more);
+            }
+            None => self.fixed.call('B', id, 13, " "),
+        }
+    }
+}
+
+/// The answer in an output that is as long, or a little longer.
+fn longer(rng: &mut Rng, answer: &[u8]) -> Vec<u8> {
+    let mut out = answer.to_vec();
+    out.resize(answer.len() + rng.pick(&[0, 0, 3]), UNTOUCHED);
+    out
+}
+
+/// The letter of an exported changing call. Of the others the list gives the next area.
+fn letter(call: &Call) -> Option<char> {
+    match call {
+        Call::Admit(_) | Call::Reconcile(_) => None,
+        Call::Cancel(_) => Some('c'),
+        Call::Expire(..) => Some('e'),
+        Call::Reopen(_) => Some('r'),
+        Call::SetCursor(..) => Some('u'),
+    }
+}
+
+fn arguments(call: &Call) -> Vec<u8> {
+    match call {
+        Call::Admit(_) | Call::Reconcile(_) => Vec::new(),
+        Call::Cancel(id) => id.to_vec(),
+        Call::Expire(now, height) => moment(now.0, height.0),
+        Call::Reopen(ids) => ids.iter().flatten().copied().collect(),
+        Call::SetCursor(height, tip) => {
+            let flag = u8::from(tip.is_some());
+            [&height.0.to_be_bytes(), &[flag][..], optional_id(tip)].concat()
+        }
+    }
+}
+
+fn moment(now: u64, height: u32) -> Vec<u8> {
+    [&now.to_be_bytes()[..], &height.to_be_bytes()].concat()
+}
+
+/// The letter of an exported reading call.
+fn reading_letter(reading: Reading) -> Option<char> {
+    match reading {
+        Reading::Revision => Some('R'),
+        Reading::IsEmpty => Some('E'),
+        Reading::DeadlineDue(..) => Some('D'),
+        Reading::ObservedHeight => Some('H'),
+        Reading::ObservationCursor => Some('C'),
+        Reading::RecordIds => Some('I'),
+        Reading::GuardedIds => Some('G'),
+        Reading::ReservedInputs | Reading::ReservationSnapshot | Reading::GuardSnapshot => None,
+        Reading::List => Some('L'),
+        Reading::SelectionEntries => Some('S'),
+        Reading::SelectionEntriesAt(..) => Some('T'),
+        Reading::Due(..) => Some('U'),
+        Reading::Confirmations => Some('F'),
+    }
+}
+
+// ---- refusals that the oracle has not, by the model
+
+const READINGS: [char; 9] = ['C', 'F', 'G', 'I', 'L', 'N', 'S', 'T', 'U'];
+const VALUES: [char; 4] = ['D', 'E', 'H', 'R'];
+
+/// What the program has: two areas, an image, and how much of each it lends.
+struct Lent<'a> {
+    fixed: &'a mut Fixed,
+    cur: Vec<u8>,
+    next: Vec<u8>,
+    lengths: [usize; 3],
+}
+
+impl Lent<'_> {
+    fn lend(&mut self, cur: usize, next: usize, image: usize) {
+        self.lengths = [cur, next, image];
+        let arguments = self
+            .lengths
+            .map(|length| (length as u32).to_be_bytes())
+            .concat();
+        self.fixed.step('l', &arguments);
+    }
+
+    fn lend_all(&mut self) {
+        self.lend(AREA, AREA, IMAGE);
+    }
+
+    fn put(&mut self, letter: char, area: &[u8]) {
+        let lent = if letter == 'a' {
+            &mut self.cur
+        } else {
+            &mut self.next
+        };
+        lent.fill(0);
+        lent[..area.len()].copy_from_slice(area);
+        self.fixed.area(letter, area);
+    }
+
+    fn change(&mut self, letter: char, length: usize, a: &[u8]) -> u64 {
+        let [cur, next, _] = self.lengths;
+        let (cur, next) = (&self.cur[..cur], &mut self.next[..next]);
+        next.fill(UNTOUCHED);
+        let mut out = vec![UNTOUCHED; length];
+        let number = match letter {
+            'c' => calls::cancel(cur, next, a, &mut out),
+            'e' => calls::expire(cur, next, number_64(a), number_32(&a[8..]), &mut out),
+            'r' => calls::reopen(cur, next, a),
+            _ => calls::set_cursor(cur, next, number_32(a), a[4], &a[5..]),
+        };
+        self.fixed.output(letter, a, number, &out);
+        number
+    }
+
+    fn read(&mut self, letter: char, length: usize, a: &[u8]) -> u64 {
+        let cur = &self.cur[..self.lengths[0]];
+        let mut out = vec![UNTOUCHED; length];
+        let o = &mut out[..];
+        let number = match letter {
+            'C' => calls::observation_cursor(cur, o),
+            'F' => calls::confirmations(cur, o),
+            'G' => calls::guarded_ids(cur, o),
+            'I' => calls::record_ids(cur, o),
+            'L' => calls::list(cur, o),
+            'N' => calls::entry(cur, a, o),
+            'S' => calls::selection_entries(cur, o),
+            'T' => calls::selection_entries_at(cur, number_64(a), number_32(&a[8..]), o),
+            _ => calls::due(cur, number_64(a), number_32(&a[8..]), o),
+        };
+        self.fixed.output(letter, a, number, &out);
+        number
+    }
+
+    fn value(&mut self, letter: char, a: &[u8]) {
+        let cur = &self.cur[..self.lengths[0]];
+        let mut value = 0;
+        let number = match letter {
+            'D' => calls::deadline_due(cur, number_64(a), number_32(&a[8..]), &mut value),
+            'E' => calls::is_empty(cur, &mut value),
+            'H' => calls::observed_height(cur, &mut value),
+            _ => calls::revision(cur, &mut value),
+        };
+        self.fixed.call(letter, a, number, &format!(" {value}"));
+    }
+
+    fn signed(&mut self, id: &[u8]) {
+        let cur = &self.cur[..self.lengths[0]];
+        let (mut start, mut length) = (0, 0);
+        let number = calls::signed_bytes(cur, id, &mut start, &mut length);
+        let bytes = &cur[start as usize..(start + length) as usize];
+        let more = format!(" {}", hex_bytes(bytes));
+        self.fixed.call('B', id, number, &more);
+    }
+
+    fn settle(&mut self, kind: u8, outcome: u8) {
+        let [cur, next, _] = self.lengths;
+        let (cur, next) = (&self.cur[..cur], &mut self.next[..next]);
+        let number = calls::settle(cur, next, kind.into(), outcome.into());
+        self.fixed.call('s', &[kind, outcome], number, "");
+    }
+
+    /// The image of the next area, or of the current one.
+    fn image(&mut self, letter: char) {
+        let [cur, next, room] = self.lengths;
+        let (area, room) = match letter {
+            'w' => (&self.next[..next], room),
+            _ => (&self.cur[..cur], IMAGE),
+        };
+        let (mut out, mut length) = (vec![0; room], 0);
+        let number = calls::image(area, &mut out, &mut length);
+        self.fixed.call(letter, &[], number, "");
+        self.fixed
+            .answers
+            .push_str(as_text(&out[..length as usize]));
+    }
+
+    fn sound(&mut self) {
+        let number = calls::sound(&self.cur[..self.lengths[0]]);
+        self.fixed.call('v', &[], number, "");
+    }
+
+    fn fresh(&mut self, limits: [u64; 4]) {
+        let [p, b, t, k] = limits;
+        let number = calls::fresh(p, b, t, k, &mut self.cur[..self.lengths[0]]);
+        let arguments = limits.map(u64::to_be_bytes).concat();
+        self.fixed.call('f', &arguments, number, "");
+    }
+
+    /// Opens a text of whole lines that begin with 0.
+    fn open(&mut self, text: &[u8]) {
+        self.fixed.stored(text);
+        self.open_stored(text);
+    }
+
+    /// Opens the last text's first bytes.
+    fn open_cut(&mut self, text: &[u8], length: usize) {
+        self.fixed.stored(text);
+        self.fixed.step('x', &(length as u32).to_be_bytes());
+        self.open_stored(&text[..length]);
+    }
+
+    fn open_stored(&mut self, text: &[u8]) {
+        let number = calls::open(text, &mut self.cur[..self.lengths[0]]);
+        self.fixed.call('o', &[], number, "");
+    }
+
+    /// Every call that reads the current area, with outputs of this length.
+    fn every_call(&mut self, length: usize, id: &Id) {
+        self.sound();
+        self.image('q');
+        self.change('c', length, id);
+        self.change('e', length, &moment(5, 5));
+        self.change('r', 0, id);
+        self.change('u', 0, &[0, 0, 0, 7, 0]);
+        for letter in READINGS {
+            self.read(letter, length, &reading_arguments(letter, id));
+        }
+        for letter in VALUES {
+            self.value(letter, &reading_arguments(letter, id));
+        }
+        self.signed(id);
+    }
+}
+
+fn reading_arguments(letter: char, id: &Id) -> Vec<u8> {
+    match letter {
+        'N' => id.to_vec(),
+        'D' | 'T' | 'U' => moment(5, 5),
+        _ => Vec::new(),
+    }
+}
+
+fn number_64(bytes: &[u8]) -> u64 {
+    u64::from_be_bytes(bytes[..8].try_into().expect("8 bytes"))
+}
+
+fn number_32(bytes: &[u8]) -> u32 {
+    u32::from_be_bytes(bytes[..4].try_into().expect("4 bytes"))
+}
+
+/// A queue with a pending record that is due, a Mined one and a tombstone; its pending record's id.
+fn some_queue() -> (Queue, Id) {
+    let limits = Limits::checked(2, 10, 2, 2).expect("limits in range");
+    for seed in 0.. {
+        let queue = random::queue(&mut Rng::new(seed), limits);
+        let due = model::rules::due(&queue, TimeMs(5), Height(5));
+        let pending = due.first().map(|record| record.id);
+        let mined = queue
+            .records
+            .iter()
+            .any(|record| record.state == State::Mined);
+        let low = queue.counter.0 < 100 && queue.tombstones().next().is_some();
+        if let (Some(id), true, true) = (pending, mined, low) {
+            return (queue, id);
+        }
+    }
+    unreachable!("there is no last seed");
+}
+
+fn refusals(fixed: &mut Fixed) {
+    let (queue, id) = some_queue();
+    let (bytes, text) = (area::encode(&queue), image::encode(&queue));
+    let need = bytes.len();
+    let what = "refusals that the oracle has not, by the model";
+    fixed.both(&format!("{what}: {}", head(&queue.limits)));
+    let mut lent = Lent {
+        fixed,
+        cur: vec![0; AREA],
+        next: vec![0; AREA],
+        lengths: [AREA, AREA, IMAGE],
+    };
+    lent.put('a', &bytes);
+    shapes(&mut lent, &bytes, &id);
+    short_outputs(&mut lent, &bytes, &text, &id);
+
+    lent.fixed.both("the next area too short, 2");
+    lent.lend(AREA, need - 1, IMAGE);
+    lent.every_call(300, &id);
+    lent.settle(2, 1);
+    lent.fixed
+        .both("the current area too short, 3; to write, 2");
+    lent.lend(need - 1, AREA, IMAGE);
+    lent.every_call(300, &id);
+    lent.open(&text);
+    lent.fresh([2, 10, 2, 2]);
+    lent.settle(2, 1);
+    lent.lend(0, 0, 0);
+    lent.every_call(0, &id);
+    lent.lend_all();
+
+    damaged(&mut lent, &queue, &bytes, &id);
+    limits(&mut lent);
+    not_images(&mut lent, &queue, &text);
+    top_counter(&mut lent, queue, &id);
+}
+
+fn shapes(lent: &mut Lent<'_>, bytes: &[u8], id: &Id) {
+    lent.fixed.both("ids, flags, kinds and outcomes, 5");
+    let long = [&id[..], &[0]].concat();
+    for wrong in [&id[..31], &long, &[]] {
+        lent.change('c', 0, wrong);
+        lent.read('N', 0, wrong);
+        lent.signed(wrong);
+    }
+    let higher = [0xff; 32];
+    for wrong in [
+        &id[..31],
+        &long,
+        &[*id, *id].concat(),
+        &[higher, *id].concat(),
+    ] {
+        lent.change('r', 0, wrong);
+    }
+    lent.change('u', 0, &[0, 0, 0, 1, 2]);
+    for length in [0, 31, 33] {
+        let tip = [&[0, 0, 0, 1, 1][..], &vec![7; length]].concat();
+        lent.change('u', 0, &tip);
+    }
+    lent.put('b', bytes);
+    for (kind, outcome) in [(0, 0), (1, 1), (4, 0), (2, 2), (3, 2)] {
+        lent.settle(kind, outcome);
+    }
+}
+
+fn short_outputs(lent: &mut Lent<'_>, bytes: &[u8], text: &[u8], id: &Id) {
+    lent.fixed.both("outputs too short, 4");
+    for letter in READINGS {
+        let a = reading_arguments(letter, id);
+        let length = shortest(|length| {
+            let mut silent = Fixed::default();
+            silent_lent(&mut silent, bytes).read(letter, length, &a)
+        });
+        lent.read(letter, length - 1, &a);
+        lent.read(letter, length, &a);
+    }
+    for (letter, a) in [('c', id.to_vec()), ('e', moment(5, 5))] {
+        let length = shortest(|length| {
+            let mut silent = Fixed::default();
+            silent_lent(&mut silent, bytes).change(letter, length, &a)
+        });
+        lent.change(letter, length - 1, &a);
+        lent.change(letter, length, &a);
+    }
+    lent.put('b', bytes);
+    for room in [0, text.len() - 1, text.len()] {
+        lent.lend(AREA, AREA, room);
+        lent.image('w');
+    }
+    lent.lend_all();
+}
+
+/// The same area lent, with steps that go nowhere.
+fn silent_lent<'a>(fixed: &'a mut Fixed, bytes: &[u8]) -> Lent<'a> {
+    let mut lent = Lent {
+        fixed,
+        cur: vec![0; AREA],
+        next: vec![0; AREA],
+        lengths: [AREA, AREA, IMAGE],
+    };
+    lent.put('a', bytes);
+    lent
+}
+
+/// The least length of an output that is not too short.
+fn shortest(mut give: impl FnMut(usize) -> u64) -> usize {
+    (1..AREA)
+        .find(|length| give(*length) != calls::OUTPUT_SHORT)
+        .expect("an answer fits an area")
+}
+
+fn damaged(lent: &mut Lent<'_>, queue: &Queue, bytes: &[u8], id: &Id) {
+    lent.fixed.both("areas that are not sound, 3");
+    let mut rng = Rng::new(0);
+    for _ in 0..12 {
+        // A value changed, then bytes changed.
+        let mut area = area::encode(&random::altered(&mut rng, queue));
+        if rng.once_in(2) {
+            area = bytes.to_vec();
+            random::damage(&mut rng, &mut area, 400);
+        }
+        area.truncate(AREA);
+        lent.put('a', &area);
+        lent.sound();
+    }
+    let mut area = bytes.to_vec();
+    *area.last_mut().expect("an area") = 1;
+    lent.put('a', &area);
+    lent.every_call(300, id);
+    lent.put('b', bytes);
+    lent.settle(2, 0);
+    lent.put('a', bytes);
+    lent.put('b', &area);
+    lent.image('w');
+    lent.settle(2, 0);
+    lent.settle(3, 1);
+}
+
+fn limits(lent: &mut Lent<'_>) {
+    lent.fixed.both("limits out of range, 1");
+    let tops = [1_024, 16_777_216, 1_024, 128];
+    for at in 0..4 {
+        for wrong in [0, tops[at] + 1, u64::MAX] {
+            let mut given = [1; 4];
+            given[at] = wrong;
+            lent.fresh(given);
+        }
+    }
+    lent.fixed.both("limits in range: an area too short, 2");
+    lent.fresh(tops);
+    lent.fresh([1; 4]);
+}
+
+fn not_images(lent: &mut Lent<'_>, queue: &Queue, text: &[u8]) {
+    lent.fixed.both("texts that are not images, 16");
+    lent.open(b"");
+    let lines: Vec<&[u8]> = text.split_inclusive(|byte| *byte == b'\n').collect();
+    lent.open(&lines[..lines.len() - 1].concat());
+    lent.open(&lines[1..].concat());
+    lent.open(&[lines[0], lines[0]].concat());
+    lent.open(&text.to_ascii_uppercase());
+    lent.open_cut(text, text.len() - 1);
+    let mut rng = Rng::new(0);
+    for _ in 0..6 {
+        lent.open(&image::encode(&random::altered(&mut rng, queue)));
+        let mut wrong = text.to_vec();
+        let at = rng.below(lines[0].len() - 2) + 1;
+        wrong[at] = b"0123456789abcdefg"[rng.below(17)];
+        lent.open(&wrong);
+    }
+    lent.open(text);
+    lent.image('q');
+}
+
+fn top_counter(lent: &mut Lent<'_>, mut queue: Queue, id: &Id) {
+    lent.fixed.both("the finish counter at its top, 15");
+    queue.counter.0 = u64::MAX;
+    lent.put('a', &area::encode(&queue));
+    lent.change('c', 0, id);
+    lent.change('e', 0, &moment(5, 5));
+    lent.change('e', 4, &moment(0, 0));
+}
