@@ -127,11 +127,12 @@ fn say_line(op: u8, n: u64) {
 }
 
 // The first two arguments are the output's length. After a refusal and kind 0 the next area is as it was.
-fn changed(op: u8, a: &[u8], cur: &[u8], next: &mut [u8], out: &mut [u8]) {
-    fill(next, UNTOUCHED);
-    fill(out, UNTOUCHED);
+fn changed(op: u8, a: &[u8], cur: &[u8], next: &mut [u8]) {
+    let mut space = [UNTOUCHED; 8192];
+    let out: &mut [u8] = &mut space;
     let n = least(number(a, 0, 2) as usize, out.len());
-    let r = change(op, rest(a, 2), cur, next, &mut out[..n]);
+    fill(next, UNTOUCHED);
+    let r = change(op, rest(a, 2), cur, next, &mut out[0..n]);
     say_number(op, r);
     say_bytes(part(out, 0, n));
     if r <= 100 {
@@ -142,10 +143,11 @@ fn changed(op: u8, a: &[u8], cur: &[u8], next: &mut [u8], out: &mut [u8]) {
     say(b"\n");
 }
 
-fn was_read(op: u8, a: &[u8], cur: &[u8], out: &mut [u8]) {
-    fill(out, UNTOUCHED);
+fn was_read(op: u8, a: &[u8], cur: &[u8]) {
+    let mut space = [UNTOUCHED; 8192];
+    let out: &mut [u8] = &mut space;
     let n = least(number(a, 0, 2) as usize, out.len());
-    let r = read(op, rest(a, 2), cur, &mut out[..n]);
+    let r = read(op, rest(a, 2), cur, &mut out[0..n]);
     say_number(op, r);
     say_bytes(part(out, 0, n));
     say(b"\n");
@@ -214,60 +216,73 @@ fn renamed(lent: Lent, image: &[u8], stored: &mut [u8]) -> Lent {
 fn next_image(op: u8, lent: Lent, next: &[u8], image: &mut [u8]) -> Lent {
     let n = least(lent.next, next.len());
     let room = least(lent.room, image.len());
-    let size = imaged(op, &next[..n], &mut image[..room]);
+    let size = imaged(op, &next[0..n], &mut image[0..room]);
     lent.with_image(size)
 }
 
-// Calls, and areas that the list gives.
-fn call(
-    op: u8,
-    a: &[u8],
-    lent: Lent,
-    cur: &mut [u8],
-    next: &mut [u8],
-    out: &mut [u8],
-    stored: &[u8],
-) {
+// These bytes, then zeros.
+fn put(bytes: &[u8], area: &mut [u8]) {
+    fill(area, 0);
+    copy(bytes, area);
+}
+
+// A queue into the current area.
+fn made(op: u8, a: &[u8], lent: Lent, cur: &mut [u8], stored: &[u8]) {
+    let c = least(lent.cur, cur.len());
+    if op == b'o' {
+        let n = lent.stored;
+        let r = pokerbox_open(part(stored, 0, n), &mut cur[0..c]);
+        say_line(op, r);
+        return;
+    }
+    let r = pokerbox_fresh(
+        number(a, 0, 8),
+        number(a, 8, 8),
+        number(a, 16, 8),
+        number(a, 24, 8),
+        &mut cur[0..c],
+    );
+    say_line(op, r);
+}
+
+// A changing call or settling.
+fn moved(op: u8, a: &[u8], lent: Lent, cur: &[u8], next: &mut [u8]) {
     let c = least(lent.cur, cur.len());
     let n = least(lent.next, next.len());
-    let kept = lent.stored;
+    if op == b's' {
+        let r = pokerbox_settle(
+            &cur[0..c],
+            &mut next[0..n],
+            number(a, 0, 1),
+            number(a, 1, 1),
+        );
+        say_line(op, r);
+        return;
+    }
+    changed(op, a, &cur[0..c], &mut next[0..n]);
+}
+
+// A reading call.
+fn looked(op: u8, a: &[u8], lent: Lent, cur: &[u8]) {
+    let area = part(cur, 0, lent.cur);
     match op {
-        b'a' => {
-            fill(cur, 0);
-            copy(a, cur);
-        }
-        b'b' => {
-            fill(next, 0);
-            copy(a, next);
-        }
-        b'k' => {
-            copy(next, cur);
-        }
-        b'f' => {
-            let r = pokerbox_fresh(
-                number(a, 0, 8),
-                number(a, 8, 8),
-                number(a, 16, 8),
-                number(a, 24, 8),
-                &mut cur[..c],
-            );
-            say_line(op, r);
-        }
-        b'o' => {
-            let r = pokerbox_open(part(stored, 0, kept), &mut cur[..c]);
-            say_line(op, r);
-        }
-        b's' => {
-            let r = pokerbox_settle(&cur[..c], &mut next[..n], number(a, 0, 1), number(a, 1, 1));
-            say_line(op, r);
-        }
-        b'p' => persisted(op, cur),
-        b'q' => shown(op, &cur[..c]),
-        b'v' => say_line(op, pokerbox_sound(&cur[..c])),
-        b'c' | b'e' | b'r' | b'u' => changed(op, a, &cur[..c], &mut next[..n], out),
-        b'D' | b'E' | b'H' | b'R' => valued(op, a, &cur[..c]),
-        b'B' => signed(op, a, &cur[..c]),
-        _ => was_read(op, a, &cur[..c], out),
+        b'p' => persisted(op, area),
+        b'q' => shown(op, area),
+        b'v' => say_line(op, pokerbox_sound(area)),
+        b'B' => signed(op, a, area),
+        b'D' | b'E' | b'H' | b'R' => valued(op, a, area),
+        _ => was_read(op, a, area),
+    }
+}
+
+fn call(op: u8, a: &[u8], lent: Lent, cur: &mut [u8], next: &mut [u8], stored: &[u8]) {
+    match op {
+        b'a' => put(a, cur),
+        b'b' => put(a, next),
+        b'k' => put(next, cur),
+        b'f' | b'o' => made(op, a, lent, cur, stored),
+        b'c' | b'e' | b'r' | b's' | b'u' => moved(op, a, lent, cur, next),
+        _ => looked(op, a, lent, cur),
     }
 }
 
@@ -277,13 +292,13 @@ fn step(
     lent: Lent,
     cur: &mut [u8],
     next: &mut [u8],
-    arg: &mut [u8],
-    out: &mut [u8],
     image: &mut [u8],
     stored: &mut [u8],
 ) -> Lent {
     let op = letter(line);
-    let n = arguments(line, arg);
+    let mut space = [0u8; 8192];
+    let n = arguments(line, &mut space);
+    let a = part(&space, 0, n);
     match op {
         b'#' => {
             say(line);
@@ -292,30 +307,19 @@ fn step(
         }
         b'0' => stored_line(line, lent, stored),
         b'm' => lent.with_stored(0),
-        b'x' => {
-            let kept = least(lent.stored, number(arg, 0, 4) as usize);
-            lent.with_stored(kept)
-        }
-        b'l' => lent.with_lengths(arg),
+        b'x' => lent.with_stored(number(a, 0, 4) as usize),
+        b'l' => lent.with_lengths(a),
         b't' => renamed(lent, image, stored),
         b'w' => next_image(op, lent, next, image),
         _ => {
-            call(op, part(arg, 0, n), lent, cur, next, out, stored);
+            call(op, a, lent, cur, next, stored);
             lent
         }
     }
 }
 
 // The list's lines, one after the other.
-pub fn run(
-    list: &[u8],
-    cur: &mut [u8],
-    next: &mut [u8],
-    arg: &mut [u8],
-    out: &mut [u8],
-    image: &mut [u8],
-    stored: &mut [u8],
-) {
+fn lines(list: &[u8], cur: &mut [u8], next: &mut [u8], image: &mut [u8], stored: &mut [u8]) {
     let mut lent = Lent {
         cur: cur.len(),
         next: next.len(),
@@ -326,11 +330,20 @@ pub fn run(
     let mut at = 0;
     while at < list.len() {
         let e = bytes::scan::find(list, at, list.len(), 10);
-        lent = step(&list[at..e], lent, cur, next, arg, out, image, stored);
+        lent = step(&list[at..e], lent, cur, next, image, stored);
         if e < list.len() {
             at = e + 1;
         } else {
             at = list.len();
         }
     }
+}
+
+// The list, with areas of 8,192 bytes and images of 16,384 at most.
+pub fn run(list: &[u8]) {
+    let mut cur = [0u8; 8192];
+    let mut next = [0u8; 8192];
+    let mut image = [0u8; 16384];
+    let mut stored = [0u8; 16384];
+    lines(list, &mut cur, &mut next, &mut image, &mut stored);
 }

@@ -33,7 +33,7 @@ pub fn rest(s: &[u8], at: usize) -> &[u8] {
 pub fn part(s: &[u8], at: usize, n: usize) -> &[u8] {
     let t = rest(s, at);
     if n <= t.len() {
-        return &t[..n];
+        return &t[0..n];
     }
     t
 }

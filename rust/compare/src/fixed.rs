@@ -19,7 +19,7 @@ use crate::unit::{optional_id, UNTOUCHED};
 pub const REPLAY: &str = "../../crates/replay";
 
 const LISTS: u64 = 36;
-const EVENTS: usize = 9;
+const EVENTS: usize = 12;
 /// What the program has of each area, and of an image.
 const AREA: usize = 8_192;
 const IMAGE: usize = 16_384;
@@ -219,8 +219,7 @@ impl<'a> List<'a> {
     fn run(&mut self, rng: &mut Rng) -> Result<(), String> {
         self.readings(rng);
         for _ in 0..EVENTS {
-            let queue = self.oracle.queue();
-            match generate::event(rng, &queue) {
+            match self.event(rng) {
                 Event::Cut => {
                     self.fixed.both("power cut");
                     self.oracle.restart()?;
@@ -236,6 +235,17 @@ impl<'a> List<'a> {
             self.readings(rng);
         }
         Ok(())
+    }
+
+    /// Exported calls are met more often than in other lists.
+    fn event(&self, rng: &mut Rng) -> Event {
+        let queue = self.oracle.queue();
+        match generate::event(rng, &queue) {
+            Event::Call(call, _) if letter(&call).is_none() && rng.once_in(2) => {
+                generate::event(rng, &queue)
+            }
+            event => event,
+        }
     }
 
     /// Opening what is stored, or a fresh queue: what the oracle then has.
