@@ -4,7 +4,5 @@ mod step;
 mod text;
 
 fn main() {
-    let mut space = [0u8; 524288];
-    let n = io::read_full(0, &mut space);
-    step::run(&space[..n]);
+    step::run();
 }

@@ -9,6 +9,7 @@ use super::text::number;
 use super::text::number_8;
 use super::text::number_32;
 use super::text::part;
+use super::text::read_line;
 use super::text::rest;
 use super::text::say;
 use super::text::say_bytes;
@@ -318,8 +319,8 @@ fn step(
     }
 }
 
-// The list's lines, one after the other.
-fn lines(list: &[u8], cur: &mut [u8], next: &mut [u8], image: &mut [u8], stored: &mut [u8]) {
+// The list's lines, one after the other. The loop has to end, whatever is read, so its turns are counted.
+fn lines(line: &mut [u8], cur: &mut [u8], next: &mut [u8], image: &mut [u8], stored: &mut [u8]) {
     let mut lent = Lent {
         cur: cur.len(),
         next: next.len(),
@@ -327,23 +328,23 @@ fn lines(list: &[u8], cur: &mut [u8], next: &mut [u8], image: &mut [u8], stored:
         image: 0,
         stored: 0,
     };
-    let mut at = 0;
-    while at < list.len() {
-        let e = bytes::scan::find(list, at, list.len(), 10);
-        lent = step(&list[at..e], lent, cur, next, image, stored);
-        if e < list.len() {
-            at = e + 1;
-        } else {
-            at = list.len();
+    let mut turns: u64 = 1000000;
+    while 0 < turns {
+        turns -= 1;
+        let n = read_line(line);
+        if n == 0 {
+            return;
         }
+        lent = step(part(line, 0, n - 1), lent, cur, next, image, stored);
     }
 }
 
 // The list, with areas of 8,192 bytes and images of 16,384 at most.
-pub fn run(list: &[u8]) {
+pub fn run() {
+    let mut line = [0u8; 16384];
     let mut cur = [0u8; 8192];
     let mut next = [0u8; 8192];
     let mut image = [0u8; 16384];
     let mut stored = [0u8; 16384];
-    lines(list, &mut cur, &mut next, &mut image, &mut stored);
+    lines(&mut line, &mut cur, &mut next, &mut image, &mut stored);
 }

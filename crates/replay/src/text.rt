@@ -4,8 +4,36 @@ use queue::put::copy_view;
 use queue::put::put_text;
 use queue::view::be;
 use queue::view::size;
+use queue::view::wide;
 ghost use Prim.Native.Nat.{_≤_};
 ghost use lib.ListN.{length};
+
+// The next byte of the input; 256 at its end.
+fn next_byte() -> u64 {
+    let mut one = [0u8; 1];
+    let got = libc::read(0, &mut one);
+    if got == 1 {
+        return wide(one[0]);
+    }
+    256
+}
+
+// The next line of the input, with its end byte: its length, 0 at the end of the input.
+pub fn read_line(line: &mut [u8]) -> usize {
+    let mut n = 0;
+    while n < line.len() {
+        let b = next_byte();
+        if b == 256 {
+            return n;
+        }
+        line[n] = (b % 256) as u8;
+        n += 1;
+        if b == 10 {
+            return n;
+        }
+    }
+    n
+}
 
 pub fn least(a: usize, b: usize) -> usize
     ensures { λ r. ⌜ (r ≤ a) × (r ≤ b) ⌝ }
