@@ -7,7 +7,8 @@ use std::time::{Duration, Instant};
 
 use compare::oracle::{hex, options_of, pool_entry, register, set_limits, whole_store};
 use compare::side::{Library, Reading, Side};
-use model::calls::{AdmitArgs, ReconcileArgs};
+use compare::unit::admit_args;
+use model::calls::ReconcileArgs;
 use model::random::nth_id;
 use model::rules::{reserved_inputs, Admission};
 use model::{
@@ -340,25 +341,7 @@ impl<'a> Bench<'a> {
             tip: None,
         };
         let (inputs, outputs) = (given.inputs.concat(), given.outputs.concat());
-        let args = AdmitArgs {
-            id: &given.id,
-            inputs: &inputs,
-            outputs: &outputs,
-            signed: &given.signed,
-            now: given.now.0,
-            time_flag: 0,
-            time: 0,
-            height_flag: 0,
-            height: 0,
-            priority: 0,
-            label_flag: 0,
-            label: &[],
-            fee: given.fee,
-            cost: given.cost,
-            tip_height: given.tip_height.0,
-            tip_flag: 0,
-            tip: &[],
-        };
+        let args = admit_args(&given, &inputs, &outputs);
         let entry = pool_entry(&given);
         Row {
             work: "admit and image / JSON".into(),

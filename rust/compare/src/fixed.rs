@@ -6,6 +6,7 @@ use std::fmt::Write as _;
 use std::path::Path;
 
 use model::random::{self, Rng};
+use model::rules::{Admission, Reconciliation};
 use model::{area, calls, image, Height, Id, Limits, Queue, Record, State, TimeMs};
 
 use crate::generate;
@@ -13,7 +14,7 @@ use crate::list::{Call, Event, Start, Write};
 use crate::oracle::{hex_bytes, Oracle};
 use crate::run::model_number;
 use crate::side::Reading;
-use crate::unit::{optional_id, UNTOUCHED};
+use crate::unit::{admit_args, applied_bytes, optional_id, UNTOUCHED};
 
 /// The Rattle program's folder, from this package's.
 pub const REPLAY: &str = "../../crates/replay";
@@ -449,7 +450,7 @@ fn longer(rng: &mut Rng, answer: &[u8]) -> Vec<u8> {
     out
 }
 
-/// The letter of an exported changing call. Of the others the list gives the next area.
+/// The letter of an exported changing call. Of the others the list gives the next area; their arguments are ready below.
 fn letter(call: &Call) -> Option<char> {
     match call {
         Call::Admit(_) | Call::Reconcile(_) => None,
@@ -462,7 +463,8 @@ fn letter(call: &Call) -> Option<char> {
 
 fn arguments(call: &Call) -> Vec<u8> {
     match call {
-        Call::Admit(_) | Call::Reconcile(_) => Vec::new(),
+        Call::Admit(given) => admission(given),
+        Call::Reconcile(given) => reconciliation(given),
         Call::Cancel(id) => id.to_vec(),
         Call::Expire(now, height) => moment(now.0, height.0),
         Call::Reopen(ids) => ids.iter().flatten().copied().collect(),
@@ -471,6 +473,48 @@ fn arguments(call: &Call) -> Vec<u8> {
             [&height.0.to_be_bytes(), &[flag][..], optional_id(tip)].concat()
         }
     }
+}
+
+/// What has one length, then the lengths of the rest, then the rest.
+fn admission(given: &Admission) -> Vec<u8> {
+    let (inputs, outputs) = (given.inputs.concat(), given.outputs.concat());
+    let args = admit_args(given, &inputs, &outputs);
+    let mut bytes = args.id.to_vec();
+    bytes.extend(args.now.to_be_bytes());
+    bytes.push(args.time_flag);
+    bytes.extend(args.time.to_be_bytes());
+    bytes.push(args.height_flag);
+    bytes.extend(args.height.to_be_bytes());
+    bytes.extend(args.priority.to_be_bytes());
+    bytes.push(args.label_flag);
+    bytes.extend(args.fee.to_be_bytes());
+    bytes.extend(args.cost.to_be_bytes());
+    bytes.extend(args.tip_height.to_be_bytes());
+    bytes.push(args.tip_flag);
+    put_lists(
+        &mut bytes,
+        &[args.tip, args.inputs, args.outputs, args.signed, args.label],
+    );
+    bytes
+}
+
+fn reconciliation(given: &Reconciliation) -> Vec<u8> {
+    let available: Vec<u8> = given.available.iter().flatten().copied().collect();
+    let mut bytes = given.height.0.to_be_bytes().to_vec();
+    bytes.push(u8::from(given.caught_up));
+    bytes.extend(given.window.to_be_bytes());
+    put_lists(&mut bytes, &[&given.tip, &applied_bytes(given), &available]);
+    bytes
+}
+
+/// The length of each, 2 bytes, then their bytes.
+fn put_lists(bytes: &mut Vec<u8>, lists: &[&[u8]]) {
+    bytes.extend(
+        lists
+            .iter()
+            .flat_map(|list| (list.len() as u16).to_be_bytes()),
+    );
+    bytes.extend(lists.concat());
 }
 
 fn moment(now: u64, height: u32) -> Vec<u8> {

@@ -1,6 +1,7 @@
 //! Runs events on lent areas as a node does: a call, the image, the write, settling.
 
 use model::calls::{AdmitArgs, ReconcileArgs};
+use model::rules::{Admission, Reconciliation};
 use model::{area, image, Id, Limits, Queue};
 
 use crate::list::{Call, Start, Write};
@@ -112,36 +113,13 @@ impl<'s, S: Side> Unit<'s, S> {
         match call {
             Call::Admit(given) => {
                 let (inputs, outputs) = (given.inputs.concat(), given.outputs.concat());
-                let args = AdmitArgs {
-                    id: &given.id,
-                    inputs: &inputs,
-                    outputs: &outputs,
-                    signed: &given.signed,
-                    now: given.now.0,
-                    time_flag: u8::from(given.time_deadline.is_some()),
-                    time: given.time_deadline.map_or(0, |time| time.0),
-                    height_flag: u8::from(given.height_deadline.is_some()),
-                    height: given.height_deadline.map_or(0, |height| height.0),
-                    priority: given.priority as u32,
-                    label_flag: u8::from(given.label.is_some()),
-                    label: given.label.as_deref().unwrap_or_default(),
-                    fee: given.fee,
-                    cost: given.cost,
-                    tip_height: given.tip_height.0,
-                    tip_flag: u8::from(given.tip.is_some()),
-                    tip: optional_id(&given.tip),
-                };
+                let args = admit_args(given, &inputs, &outputs);
                 side.admit(cur, next, &args, out)
             }
             Call::Cancel(id) => side.cancel(cur, next, id, out),
             Call::Expire(now, height) => side.expire(cur, next, now.0, height.0, out),
             Call::Reconcile(given) => {
-                let mut applied = Vec::new();
-                for (id, found) in &given.applied {
-                    applied.extend(id);
-                    applied.extend(found.height.0.to_be_bytes());
-                    applied.extend(found.block);
-                }
+                let applied = applied_bytes(given);
                 let available: Vec<u8> = given.available.iter().flatten().copied().collect();
                 let args = ReconcileArgs {
                     height: given.height.0,
@@ -250,6 +228,37 @@ fn expect(call: &str, number: u64, expected: u64) -> Result<(), Fault> {
         return Err(format!("{call} gave back {number}, not {expected}"));
     }
     Ok(())
+}
+
+/// What `admit` is given for this admission; its inputs and outputs one after the other.
+pub fn admit_args<'a>(given: &'a Admission, inputs: &'a [u8], outputs: &'a [u8]) -> AdmitArgs<'a> {
+    AdmitArgs {
+        id: &given.id,
+        inputs,
+        outputs,
+        signed: &given.signed,
+        now: given.now.0,
+        time_flag: u8::from(given.time_deadline.is_some()),
+        time: given.time_deadline.map_or(0, |time| time.0),
+        height_flag: u8::from(given.height_deadline.is_some()),
+        height: given.height_deadline.map_or(0, |height| height.0),
+        priority: given.priority as u32,
+        label_flag: u8::from(given.label.is_some()),
+        label: given.label.as_deref().unwrap_or_default(),
+        fee: given.fee,
+        cost: given.cost,
+        tip_height: given.tip_height.0,
+        tip_flag: u8::from(given.tip.is_some()),
+        tip: optional_id(&given.tip),
+    }
+}
+
+/// Entries of id, height and block id.
+pub(crate) fn applied_bytes(given: &Reconciliation) -> Vec<u8> {
+    let entries = given.applied.iter();
+    entries
+        .flat_map(|(id, found)| [&id[..], &found.height.0.to_be_bytes(), &found.block].concat())
+        .collect()
 }
 
 pub(crate) fn optional_id(id: &Option<Id>) -> &[u8] {
