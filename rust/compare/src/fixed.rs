@@ -20,7 +20,7 @@ use crate::unit::{admit_args, applied_bytes, optional_id, UNTOUCHED};
 pub const REPLAY: &str = "../../crates/replay";
 
 const LISTS: u64 = 36;
-const EVENTS: usize = 12;
+const EVENTS: usize = 9;
 /// What the program has of each area, and of an image.
 const AREA: usize = 8_192;
 const IMAGE: usize = 16_384;
@@ -187,8 +187,18 @@ struct Given {
 
 impl<'a> List<'a> {
     fn new(fixed: &'a mut Fixed, folder: &Path, rng: &mut Rng) -> Result<Self, String> {
-        let limits = random::small_limits(rng);
-        let start = generate::list(rng, limits).start;
+        // Of these the texts are short.
+        let limits = Limits {
+            pending: 1 + rng.below(2) as u32,
+            bytes: rng.pick(&[1, 2, 5, 10]),
+            tombstones: 1 + rng.below(2) as u32,
+            inputs: 1 + rng.below(2) as u32,
+        };
+        let start = if rng.once_in(4) {
+            Start::Fresh
+        } else {
+            generate::any_queue(rng, limits)
+        };
         let (own, trial) = (folder.join("own"), folder.join("trial"));
         for folder in [&own, &trial] {
             std::fs::create_dir_all(folder).map_err(|error| error.to_string())?;
@@ -238,15 +248,22 @@ impl<'a> List<'a> {
         Ok(())
     }
 
-    /// Exported calls are met more often than in other lists.
+    /// Exported calls, and reopened records, are met more often than in other lists.
     fn event(&self, rng: &mut Rng) -> Event {
         let queue = self.oracle.queue();
-        match generate::event(rng, &queue) {
-            Event::Call(call, _) if letter(&call).is_none() && rng.once_in(2) => {
-                generate::event(rng, &queue)
+        let mut event = generate::event(rng, &queue);
+        if let Event::Call(call, _) = &event {
+            if letter(call).is_none() && rng.once_in(2) {
+                event = generate::event(rng, &queue);
             }
-            event => event,
         }
+        if let Event::Call(call, _) = &mut event {
+            if matches!(**call, Call::Reopen(_)) && rng.once_in(2) {
+                let mined = queue.records.iter().filter(|record| record.mined.is_some());
+                **call = Call::Reopen(mined.map(|record| record.id).collect());
+            }
+        }
+        event
     }
 
     /// Opening what is stored, or a fresh queue: what the oracle then has.

@@ -12,12 +12,7 @@ use crate::list::{Call, Event, List, Start, Write};
 /// A list without events.
 pub fn list(rng: &mut Rng, limits: Limits) -> List {
     let start = if rng.once_in(3) {
-        let mut queue = random::queue(rng, limits);
-        // Half of them as after opening.
-        if rng.once_in(2) {
-            queue.persisted = queue.cursor;
-        }
-        Start::Queue(Box::new(queue))
+        any_queue(rng, limits)
     } else {
         Start::Fresh
     };
@@ -27,6 +22,16 @@ pub fn list(rng: &mut Rng, limits: Limits) -> List {
         events: Vec::new(),
         probe: (random::time(rng), random::height(rng)),
     }
+}
+
+/// Any sound queue.
+pub(crate) fn any_queue(rng: &mut Rng, limits: Limits) -> Start {
+    let mut queue = random::queue(rng, limits);
+    // Half of them as after opening.
+    if rng.once_in(2) {
+        queue.persisted = queue.cursor;
+    }
+    Start::Queue(Box::new(queue))
 }
 
 /// Mostly small limits, rarely many records.
