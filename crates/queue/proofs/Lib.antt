@@ -10,6 +10,7 @@ pub mod FrontLaws
 pub mod ReadingLaws
 pub mod WriteLaws
 pub mod SelectLaws
+pub mod MergeLaws
 pub mod CallLaws
 pub mod CancelLaws
 pub mod ExpireLaws
