@@ -4,7 +4,6 @@ use super::Kind;
 use super::area::Area;
 use super::area::area_at;
 use super::frame::Facts;
-use super::frame::HeadR;
 use super::frame::Seen;
 use super::frame::id_read;
 use super::frame::rec_at;
@@ -18,8 +17,8 @@ use super::put::put_id;
 use super::put::put_u8;
 use super::scan::has_id;
 use super::view::cmp_id;
-use super::view::id_at;
 use super::view::size;
+use super::write::tip_at;
 ghost use mathlib.Core.Path.{_≡_};
 ghost use mathlib.Core.Bool.{true, false};
 ghost use mathlib.Core.List.{[]};
@@ -30,7 +29,6 @@ ghost use Rattle.queue.specs.Splice.{Put};
 ghost use Rattle.queue.specs.Frames.{recC};
 ghost use Rattle.queue.specs.Reads.{whole, listAt};
 ghost use Rattle.queue.specs.Forms.{formC};
-ghost use Rattle.queue.specs.Writes.{HeadIn, TipIs};
 ghost use Rattle.queue.specs.CallsAs.{AreaIn};
 ghost use Rattle.queue.specs.Reopens.{IdsIn, idsAt, listedS, again, stateF, reasonF, leadBytes, reopenedBytes, reopenedLen, againBytes, PartsIn, AgainFrom, AgainTo, ReopenTold};
 ghost use Rattle.queue.specs.paper.Lists.{any?, map};
@@ -177,17 +175,6 @@ fn put_records(
     o
 }
 
-// The tip of an area's cursor; zeros where there is none.
-fn tip_from(s: &[u8], h: HeadR) -> [u8; 32]
-    requires { ⌜ HeadIn (now s) h ⌝ }
-    ensures { λ r. ⌜ TipIs (now (s .entry)) h r ⌝ }
-{
-    if h.tip {
-        return id_at(s, false, 4, 30);
-    }
-    [0u8; 32]
-}
-
 // The queue of src with those listed reopened.
 fn put_opened(src: &[u8], a: Area, ids: &[u8], k: u64, dst: &mut [u8])
     requires { ⌜ AgainFrom (now src) a (idsAt (now ids) k) × IdsIn (now ids) k × (a .need ≤ length (now dst)) ⌝ }
@@ -197,7 +184,7 @@ fn put_opened(src: &[u8], a: Area, ids: &[u8], k: u64, dst: &mut [u8])
     let h = x.head;
     let n = h.counter;
     let cursor = h.cursor;
-    let tip = tip_from(src, h);
+    let tip = tip_at(src, h);
     let to = 45 + tip_len(h.tip);
     let e = put_records(src, x.start, h.count, ids, k, dst, to);
     let marks = Marks {
