@@ -15,5 +15,6 @@ pub mod CallLaws
 pub mod CancelLaws
 pub mod ExpireLaws
 pub mod PieceLaws
+pub mod FindLaws
 pub mod ReopenLaws
 pub mod AdmitLaws
