@@ -15,4 +15,5 @@ pub mod CancelLaws
 pub mod ExpireLaws
 pub mod PieceLaws
 pub mod ReopenLaws
+pub mod AdmissionLaws
 pub mod AdmitLaws
