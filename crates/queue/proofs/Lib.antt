@@ -17,4 +17,5 @@ pub mod ExpireLaws
 pub mod PieceLaws
 pub mod FindLaws
 pub mod ReopenLaws
+pub mod AdmissionLaws
 pub mod AdmitLaws
