@@ -6,7 +6,6 @@ use std::{env, fs};
 /// The calls of docs/CALLS.md that libpokerbox.a does not export yet. Take a name off when its
 /// export has arrived; the rest of the crate follows by `cfg(exported = "name")`.
 const NOT_EXPORTED_YET: &[&str] = &[
-    "admit",
     "reconcile",
     "reserved_inputs",
     "reservation_snapshot",

@@ -1,6 +1,7 @@
 // The calls that a node links. Each gives back document 01's number; docs/CALLS.md has the arguments and the answers.
 use queue::Answer;
 use queue::Kind;
+use queue::admit::admit;
 use queue::area::area_at;
 use queue::calls::cancel;
 use queue::calls::expire;
@@ -27,7 +28,7 @@ ghost use mathlib.Core.Path.{_≡_};
 ghost use mathlib.Core.List.{[]};
 ghost use Prim.Native.Nat.{_≤_};
 ghost use Rattle.queue.specs.Opens.{limits};
-ghost use Rattle.queue.specs.paper.Calls.{number, kindNumber, freshOf, soundOf, cancelOf, expireOf, reopenOf, setCursorOf, settleOf, entryOf, selectionAtOf, recordIdsOf, guardedIdsOf, listOf, confirmationsOf, dueOf, observationCursorOf, revisionOf, observedHeightOf, isEmptyOf, deadlineDueOf};
+ghost use Rattle.queue.specs.paper.Calls.{number, kindNumber, freshOf, soundOf, admitArgs, admitOf, cancelOf, expireOf, reopenOf, setCursorOf, settleOf, entryOf, selectionAtOf, recordIdsOf, guardedIdsOf, listOf, confirmationsOf, dueOf, observationCursorOf, revisionOf, observedHeightOf, isEmptyOf, deadlineDueOf};
 ghost use Rattle.image.specs.paper.Image.{imageOf, openOf};
 ghost use Rattle.pokerbox.specs.paper.Exports.{given, ofOutcome, ofWritten, ofImaged, ofNumbered, Placed};
 
@@ -76,6 +77,56 @@ pub extern "C" fn pokerbox_sound(area: &[u8]) -> u64
     ensures { λ r. ⌜ r ≡ number (soundOf (now (area .entry))) ⌝ }
 {
     number(sound(area))
+}
+
+// Admission: the entry in out, old or new. 3, 2, 5, 6, 7, 8, 9, 10, 11, 12, 4.
+#[no_mangle]
+pub extern "C" fn pokerbox_admit(
+    cur: &[u8],
+    next: &mut [u8],
+    id: &[u8],
+    inputs: &[u8],
+    outputs: &[u8],
+    bytes: &[u8],
+    clock: u64,
+    timeflag: u8,
+    time: u64,
+    heightflag: u8,
+    height: u32,
+    priority: u32,
+    labelflag: u8,
+    label: &[u8],
+    fee: u64,
+    cost: u64,
+    tipheight: u32,
+    tipflag: u8,
+    tip: &[u8],
+    out: &mut [u8],
+) -> u64
+    ensures { λ r. ⌜ given r (now (next .exit)) (now (out .exit)) ≡ ofOutcome (admitOf (now (cur .entry)) (now (next .entry)) (now (out .entry)) (admitArgs (now (id .entry)) (now (inputs .entry)) (now (outputs .entry)) (now (bytes .entry)) clock timeflag time heightflag height priority labelflag (now (label .entry)) fee cost tipheight tipflag (now (tip .entry)))) ⌝ }
+{
+    number(admit(
+        cur,
+        next,
+        id,
+        inputs,
+        outputs,
+        bytes,
+        clock,
+        timeflag,
+        time,
+        heightflag,
+        height,
+        priority,
+        labelflag,
+        label,
+        fee,
+        cost,
+        tipheight,
+        tipflag,
+        tip,
+        out,
+    ))
 }
 
 // Cancellation: the entry in out. 3, 2, 5, 13, 14, 15, 4.

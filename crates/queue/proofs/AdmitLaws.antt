@@ -372,6 +372,14 @@ entry-shape : (x : Asked) (id ins outs bytes label : Bytes) → id ++ (0 ∷ 0 �
 unfolding entryBytes newOf newRec placeBytes
 entry-shape x id ins outs bytes label = refl
 
+pub entry-long : (x : Asked) (id ins outs bytes label : Bytes) → length id ≡ 32 → HeldFit ins outs bytes → length (entryBytes (newOf x id ins outs bytes label)) ≡ entryNewLen x ins label
+entry-long x id ins outs bytes label l f =
+    let t = terms-size x label (length bytes) in let j = ap length (items-join ins (f .wholeIns)) in let b = be-length 2 (length (items 32 ins)) in
+    let u = length-append id (0 ∷ 0 ∷ (termsBytes (newTerms x label (length bytes)) ++ (0 ∷ (codec.be 2 (length (items 32 ins)) ++ concat (items 32 ins))))) in
+    let v = length-append (termsBytes (newTerms x label (length bytes))) (0 ∷ (codec.be 2 (length (items 32 ins)) ++ concat (items 32 ins))) in
+    let w = length-append (codec.be 2 (length (items 32 ins))) (concat (items 32 ins)) in
+    sym (ap length (entry-shape x id ins outs bytes label)) ∙ omega arith
+
 pub entry-put : {d d₁ d₂ d₃ d₄ d₅ d₆ : Bytes} {p1 p2 p3 p4 p5 r : ℕ} (x : Asked) (id ins outs bytes label : Bytes) → HeldFit ins outs bytes
     → Put d 0 id 32 p1 d₁ → Put d₁ p1 (be 2 0) 2 p2 d₂ → Put d₂ p2 (termsBytes (newTerms x label (length bytes))) (termsLen x label) p3 d₃ → Put d₃ p3 (0 ∷ []) 1 p4 d₄
     → Put d₄ p4 (be 2 (length ins / 32)) 2 p5 d₅ → Put d₅ p5 (take (length ins) (drop 0 ins)) (length ins) r d₆

@@ -10,9 +10,12 @@ pub mod FrontLaws
 pub mod ReadingLaws
 pub mod WriteLaws
 pub mod SelectLaws
+pub mod MergeLaws
 pub mod CallLaws
 pub mod CancelLaws
 pub mod ExpireLaws
 pub mod PieceLaws
+pub mod FindLaws
 pub mod ReopenLaws
+pub mod AdmissionLaws
 pub mod AdmitLaws

@@ -151,7 +151,7 @@ module _ (a : Admission) (q : Queue) (f : Fit q) (o : Admissible (q .limits .K) 
   cursor-ok [] = (o .tipHeight, o .tip)
   cursor-ok (r ∷ l) = (f .cursor, f .tip)
 
-  new-leaves : Leaves q (admitNew a q)
+  pub new-leaves : Leaves q (admitNew a q)
   new-leaves = cases (leb (q .limits .P) (pendings (q .recs)))
       (λ x. rw x tt)
       (λ x. cases (ltb (q .limits .B) (pendingBytes (q .recs) + length (a .held .bytes)))

@@ -6,17 +6,24 @@ use mathlib.Core.List.{List, [], _∷_, _++_}
 use Prim.Native.Nat.{ℕ, _+_, _-_, _/_, _%_, _^_, _≤_, _<_}
 use lib.Dec.{ltb, leb, eqb}
 use lib.ListN.{length, take, drop}
-use Rattle.queue.specs.Codec.{be}
+use Rattle.queue.specs.Codec.{be, optC}
+use Rattle.queue.specs.Frames.{Head, idC}
+use Rattle.queue.specs.View.{view}
+use Rattle.queue.specs.Facts.{HeadAs}
+use Rattle.queue.specs.Fronts.{tipOf}
+use Rattle.queue.specs.Arguments.{Small, AdmitLent}
 use Rattle.queue.specs.Forms.{queueC}
 use Rattle.queue.specs.Areas.{readArea}
 use Rattle.queue.specs.Opens.{AreaAs}
 use Rattle.queue.specs.paper.Records.{Bytes, Id, Terms, Held, Rec, Queue}
-use Rattle.queue.specs.paper.Lists.{filter}
-use Rattle.queue.specs.paper.Sound.{need}
+use Rattle.queue.specs.paper.Lists.{filter, find}
+use Rattle.queue.specs.paper.Sound.{need, labelLen, clash?}
 use Rattle.queue.specs.paper.Area.{flagged, areaBytes, over}
-use Rattle.queue.specs.paper.Changing.{named?, put, newRec, committed, pendings, pendingBytes}
-use Rattle.queue.specs.paper.Calls.{items, given, AdmitArgs, admission}
+use Rattle.queue.specs.paper.Changing.{named?, put, newRec, committed, pendings, pendingBytes, admitNew, admitFound, admit}
+use Rattle.queue.specs.paper.Calls.{items, given, AdmitArgs, admission, id?, whole?, flag?, givenId?, admitShape?, overK?, Outcome, told, entryBytes}
 use Rattle.queue.specs.declared.admit.Asked.{Asked}
+use Rattle.queue.specs.declared.admit.Tip.{Tip}
+use Rattle.queue.specs.declared.frame.HeadR.{HeadR}
 use Rattle.queue.specs.declared.area.Area.{Area}
 
 abbrev pub argsOf : Asked → Bytes → Bytes → Bytes → Bytes → Bytes → Bytes → AdmitArgs
@@ -129,3 +136,53 @@ RoomIs s n r = (q : Queue) → readArea s ≡ some q → r ≡ roomOf q n
 
 abbrev pub entryNewLen : Asked → Bytes → Bytes → ℕ
 entryNewLen x ins label = 37 + (termsLen x label + length ins)
+
+-- the numbers fit their fields
+pub record NumbersFit (x : Asked) : Type 0 where
+  pub now : x .now .0 < 256 ^ 8
+  pub time : x .time .0 < 256 ^ 8
+  pub height : x .height .0 < 256 ^ 4
+  pub priority : x .priority < 256 ^ 4
+  pub fee : x .fee < 256 ^ 8
+  pub cost : x .cost < 256 ^ 8
+  pub tipheight : x .tipheight .0 < 256 ^ 4
+
+-- what is lent has passed the checks 5 and 6
+pub record LentIn (x : Asked) (id ins outs bytes label tip : Bytes) (K : ℕ) : Type 0 where
+  pub lent : AdmitLent (argsOf x id ins outs bytes label tip)
+  pub shape : admitShape? (argsOf x id ins outs bytes label tip) ≡ true
+  pub few : overK? K (argsOf x id ins outs bytes label tip) ≡ false
+
+-- and 9
+pub record AskedIn (x : Asked) (id ins outs bytes label tip : Bytes) (K : ℕ) : Type 0 where
+  pub lent : AdmitLent (argsOf x id ins outs bytes label tip)
+  pub shape : admitShape? (argsOf x id ins outs bytes label tip) ≡ true
+  pub few : overK? K (argsOf x id ins outs bytes label tip) ≡ false
+  pub short : ltb 200 (labelLen (given (x .labelflag) label)) ≡ false
+
+abbrev pub FreeOf : Bytes → Bytes → Type 0
+FreeOf s ins = (q : Queue) → readArea s ≡ some q → clash? (items 32 ins) (q .recs) ≡ false
+
+-- the cursor of the next queue, where h was read from s
+abbrev pub TipFor : Bytes → HeadR → Asked → Bytes → Tip → Type 0
+TipFor s h x tip r =
+    (z : Head) → HeadAs (view false s 4) h z → optC idC .ok (z .tip)
+    → (r .height .0 ≡ cond (ltb 0 (h .count)) (z .cursor) (x .tipheight .0)) × (tipOf (r .has) (r .id) ≡ cond (ltb 0 (h .count)) (z .tip) (given (x .tipflag) tip))
+
+-- what the rest of an admission gives back
+abbrev pub NewTold : Bytes → AdmitArgs → Outcome → Bytes → Bytes → Type 0
+NewTold s g o next out = (q : Queue) → readArea s ≡ some q → o ≡ told entryBytes next out (admitNew (admission g) q)
+
+abbrev pub FoundTold : Bytes → AdmitArgs → Outcome → Bytes → Bytes → Type 0
+FoundTold s g o next out = (q : Queue) → readArea s ≡ some q → o ≡ told entryBytes next out (admitFound (admission g) q (find (named? (g .id)) (q .recs)))
+
+abbrev pub AdmitTold : Bytes → AdmitArgs → Outcome → Bytes → Bytes → Type 0
+AdmitTold s g o next out = (q : Queue) → readArea s ≡ some q → o ≡ told entryBytes next out (admit (admission g) q)
+
+-- check 5 in two parts, and what is known of bytes that are lent
+abbrev pub ListsAre : Bytes → Bytes → Bytes → Bool → Type 0
+ListsAre id ins outs r = (r ≡ (id? id && (whole? 32 ins && whole? 32 outs))) × (Small id × Small ins × Small outs)
+
+abbrev pub FlagsAre : Asked → Bytes → Bytes → Bytes → Bool → Type 0
+FlagsAre x bytes label tip r =
+    (r ≡ ((flag? (x .timeflag) && flag? (x .heightflag)) && (flag? (x .labelflag) && givenId? (x .tipflag) tip))) × (Small bytes × Small label × Small tip)

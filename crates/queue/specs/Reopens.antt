@@ -18,7 +18,7 @@ use Rattle.queue.specs.paper.Lists.{map}
 use Rattle.queue.specs.paper.Sound.{need, among?}
 use Rattle.queue.specs.paper.Area.{areaBytes, over}
 use Rattle.queue.specs.paper.Changing.{committed, reopened, listed?, reopen}
-use Rattle.queue.specs.paper.Calls.{Outcome, told, nothingBytes}
+use Rattle.queue.specs.paper.Calls.{Outcome, told, nothingBytes, rise?}
 use Rattle.queue.specs.declared.frame.Seen.{Seen}
 use Rattle.queue.specs.declared.frame.Facts.{Facts}
 use Rattle.queue.specs.declared.area.Area.{Area}
@@ -29,6 +29,11 @@ IdsIn t k = whole idC k (view false t 0) 0 ≡ true
 
 abbrev pub idsAt : Bytes → ℕ → List Id
 idsAt t k = listAt idC k (view false t 0) 0
+
+-- and they rise
+pub record IdsRise (t : Bytes) (k : ℕ) : Type 0 where
+  pub all : IdsIn t k
+  pub rise : rise? (idsAt t k) ≡ true
 
 -- is a record that was read listed?
 unfoldable pub listedS : List Id → Seen → Bool

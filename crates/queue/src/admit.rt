@@ -1,7 +1,11 @@
-// The record that an admission puts among the others, and the area with it. The call over them is still to come.
+// Admission: a new record among the others, or the old one of its id. Everything that can refuse is decided before a byte is written.
+use super::Answer;
+use super::Kind;
 use super::area::Area;
+use super::area::area_at;
 use super::finish::Change;
 use super::finish::hits;
+use super::frame::HeadR;
 use super::frame::Height;
 use super::frame::Time;
 use super::frame::id_read;
@@ -16,16 +20,26 @@ use super::put::fill_zero;
 use super::put::put_be;
 use super::put::put_id;
 use super::put::put_u8;
+use super::reading::entry_len;
+use super::reading::find_id;
+use super::reading::put_entry;
 use super::reopen::put_lead;
 use super::rules::Query;
+use super::rules::height_reached;
+use super::rules::pending;
+use super::rules::time_reached;
 use super::scan::tally;
 use super::scan::used_in;
 use super::view::cmp_id;
+use super::view::id_at;
+use super::view::size;
+use super::write::tip_at;
 ghost use mathlib.Core.Path.{_≡_};
-ghost use mathlib.Core.Bool.{true, false};
+ghost use mathlib.Core.Bool.{true, false, _&&_, _||_};
 ghost use mathlib.Core.Option.{some};
 ghost use mathlib.Core.List.{_++_};
-ghost use Prim.Native.Nat.{_+_, _^_, _≤_, _<_};
+ghost use Prim.Native.Nat.{_+_, _*_, _/_, _^_, _≤_, _<_};
+ghost use lib.Dec.{ltb, leb, eqb};
 ghost use lib.ListN.{length};
 ghost use Rattle.queue.specs.Codec.{be, encs};
 ghost use Rattle.queue.specs.Splice.{Put};
@@ -33,12 +47,13 @@ ghost use Rattle.queue.specs.Frames.{recC};
 ghost use Rattle.queue.specs.Reads.{whole, listAt};
 ghost use Rattle.queue.specs.Forms.{formC};
 ghost use Rattle.queue.specs.Fronts.{tipOf};
-ghost use Rattle.queue.specs.Admitting.{newOf, optLen, labelSize, termsLen, heldLen, newLen, newTerms, heldOf, TermsFit, HeldFit, putF, recIf, keepBytes, WithFrom, WithTo, RoomIs, entryNewLen};
-ghost use Rattle.queue.specs.CallsAs.{AreaIn};
+ghost use Rattle.queue.specs.Admitting.{newOf, optLen, labelSize, termsLen, heldLen, newLen, newTerms, heldOf, TermsFit, HeldFit, putF, recIf, keepBytes, WithFrom, WithTo, RoomIs, entryNewLen, argsOf, NumbersFit, LentIn, AskedIn, FreeOf, TipFor, NewTold, FoundTold, AdmitTold, ListsAre, FlagsAre};
+ghost use Rattle.queue.specs.CallsAs.{AreaIn, FoundIn};
+ghost use Rattle.queue.specs.Writes.{HeadIn};
 ghost use Rattle.queue.specs.Reopens.{IdsIn, idsAt};
-ghost use Rattle.queue.specs.paper.Sound.{clash?};
+ghost use Rattle.queue.specs.paper.Sound.{clash?, labelLen};
 ghost use Rattle.queue.specs.paper.Area.{flagged, termsBytes, heldBytes};
-ghost use Rattle.queue.specs.paper.Calls.{given, entryBytes};
+ghost use Rattle.queue.specs.paper.Calls.{given, entryBytes, outcome, givenId?, admitArgs, admitOf};
 
 // The numbers that an admission is asked with.
 pub struct Asked {
@@ -312,4 +327,359 @@ fn put_told(
     let d = put_u8(dst, c, 0);
     let e = put_be(dst, d, 2, (n / 32) as u64);
     copy_part(inputs, 0, n, dst, e)
+}
+
+fn opt_len(flag: u64, w: usize) -> usize
+    requires { ⌜ w ≤ 8 ⌝ }
+    ensures { λ r. ⌜ (r ≡ optLen flag w) × (r ≤ 9) ⌝ }
+{
+    if flag == 1 { 1 + w } else { 1 }
+}
+
+fn label_size(flag: u64, label: &[u8]) -> usize
+    requires { ⌜ (flag ≡ 1 → length (now label) ≤ 200) ⌝ }
+    ensures { λ r. ⌜ (r ≡ labelSize flag (now (label .entry))) × (r ≤ 202) ⌝ }
+{
+    if flag == 1 { 2 + label.len() } else { 1 }
+}
+
+// How long the entry of the new record is.
+fn entry_new_len(x: Asked, inputs: &[u8], label: &[u8]) -> usize
+    requires { ⌜ (x .labelflag ≡ 1 → length (now label) ≤ 200) × (length (now inputs) < 4294967296) ⌝ }
+    ensures { λ r. ⌜ r ≡ entryNewLen x (now (inputs .entry)) (now (label .entry)) ⌝ }
+{
+    let a = opt_len(x.timeflag, 8);
+    let b = opt_len(x.heightflag, 4);
+    let c = label_size(x.labelflag, label);
+    37 + (32 + (a + (b + c)) + inputs.len())
+}
+
+// A cursor: its height, and its tip where there is one.
+pub struct Tip {
+    pub height: Height,
+    pub has: bool,
+    pub id: [u8; 32],
+}
+
+// The cursor of the next queue: the one asked with if there are no records, else the queue's own.
+fn tip_for(s: &[u8], h: HeadR, x: Asked, tip: &[u8]) -> Tip
+    requires { ⌜ HeadIn (now s) h × (x .tipflag ≡ 1 → length (now tip) ≡ 32) ⌝ }
+    ensures { λ r. ⌜ TipFor (now (s .entry)) h x (now (tip .entry)) r ⌝ }
+{
+    if 0 < h.count {
+        let c = h.cursor;
+        let i = tip_at(s, h);
+        return Tip {
+            height: c,
+            has: h.tip,
+            id: i,
+        };
+    }
+    let g = x.tipheight;
+    if x.tipflag == 1 {
+        let i = id_at(tip, false, 0, 0);
+        return Tip {
+            height: g,
+            has: true,
+            id: i,
+        };
+    }
+    Tip {
+        height: g,
+        has: false,
+        id: [0u8; 32],
+    }
+}
+
+// There is room, and no input is another's: the record is put.
+fn admit_free(
+    cur: &[u8],
+    next: &mut [u8],
+    a: Area,
+    x: Asked,
+    id: [u8; 32],
+    inputs: &[u8],
+    outputs: &[u8],
+    bytes: &[u8],
+    label: &[u8],
+    tip: &[u8],
+    out: &mut [u8],
+) -> Answer
+    requires { ⌜ AreaIn (now cur) a × AskedIn x id (now inputs) (now outputs) (now bytes) (now label) (now tip) (a .open .head .k) × (RoomIs (now cur) (length (now bytes)) 0 × FreeOf (now cur) (now inputs)) × (a .need ≤ length (now next)) ⌝ }
+    ensures { λ r. ⌜ NewTold (now (cur .entry)) (argsOf x id (now (inputs .entry)) (now (outputs .entry)) (now (bytes .entry)) (now (label .entry)) (now (tip .entry))) (outcome r (now (next .exit)) (now (out .exit))) (now (next .entry)) (now (out .entry)) ⌝ }
+{
+    let n = entry_new_len(x, inputs, label);
+    if out.len() < n {
+        return Answer::Refused(4);
+    }
+    let o = a.open;
+    let h = o.head;
+    let t = tip_for(cur, h, x, tip);
+    let c = t.height;
+    let i = t.id;
+    put_with(
+        cur,
+        a,
+        c,
+        t.has,
+        i,
+        x,
+        id,
+        inputs,
+        outputs,
+        bytes,
+        label,
+        next,
+    );
+    put_told(x, id, inputs, outputs, bytes, label, out);
+    Answer::Done(Kind::Whole)
+}
+
+// No pending or Mined record has this id. Refusals 10, 11, 12.
+fn admit_new(
+    cur: &[u8],
+    next: &mut [u8],
+    a: Area,
+    x: Asked,
+    id: [u8; 32],
+    inputs: &[u8],
+    outputs: &[u8],
+    bytes: &[u8],
+    label: &[u8],
+    tip: &[u8],
+    out: &mut [u8],
+) -> Answer
+    requires { ⌜ AreaIn (now cur) a × AskedIn x id (now inputs) (now outputs) (now bytes) (now label) (now tip) (a .open .head .k) × (a .need ≤ length (now next)) ⌝ }
+    ensures { λ r. ⌜ NewTold (now (cur .entry)) (argsOf x id (now (inputs .entry)) (now (outputs .entry)) (now (bytes .entry)) (now (label .entry)) (now (tip .entry))) (outcome r (now (next .exit)) (now (out .exit))) (now (next .entry)) (now (out .entry)) ⌝ }
+{
+    let r = room_for(cur, a, bytes.len() as u64);
+    if r != 0 {
+        return Answer::Refused(r);
+    }
+    let o = a.open;
+    let h = o.head;
+    let m = (inputs.len() / 32) as u64;
+    if ids_clash(inputs, m, cur, o.start, h.count) {
+        return Answer::Refused(12);
+    }
+    admit_free(cur, next, a, x, id, inputs, outputs, bytes, label, tip, out)
+}
+
+// The record of this id stands at `at`: pending or Mined, it is answered.
+fn admit_found(
+    cur: &[u8],
+    next: &mut [u8],
+    a: Area,
+    at: usize,
+    x: Asked,
+    id: [u8; 32],
+    inputs: &[u8],
+    outputs: &[u8],
+    bytes: &[u8],
+    label: &[u8],
+    tip: &[u8],
+    out: &mut [u8],
+) -> Answer
+    requires { ⌜ FoundIn (now cur) a id at × AskedIn x id (now inputs) (now outputs) (now bytes) (now label) (now tip) (a .open .head .k) × (a .need ≤ length (now next)) ⌝ }
+    ensures { λ r. ⌜ FoundTold (now (cur .entry)) (argsOf x id (now (inputs .entry)) (now (outputs .entry)) (now (bytes .entry)) (now (label .entry)) (now (tip .entry))) (outcome r (now (next .exit)) (now (out .exit))) (now (next .entry)) (now (out .entry)) ⌝ }
+{
+    let y = rec_at(cur, false, at);
+    let f = y.facts;
+    if either(pending(f.state), f.state == 2) {
+        let n = entry_len(y);
+        if out.len() < n {
+            return Answer::Refused(4);
+        }
+        put_entry(cur, at, y, out, 0);
+        return Answer::Done(Kind::Nothing);
+    }
+    admit_new(cur, next, a, x, id, inputs, outputs, bytes, label, tip, out)
+}
+
+fn admit_named(
+    cur: &[u8],
+    next: &mut [u8],
+    a: Area,
+    x: Asked,
+    id: [u8; 32],
+    inputs: &[u8],
+    outputs: &[u8],
+    bytes: &[u8],
+    label: &[u8],
+    tip: &[u8],
+    out: &mut [u8],
+) -> Answer
+    requires { ⌜ AreaIn (now cur) a × AskedIn x id (now inputs) (now outputs) (now bytes) (now label) (now tip) (a .open .head .k) × (a .need ≤ length (now next)) ⌝ }
+    ensures { λ r. ⌜ FoundTold (now (cur .entry)) (argsOf x id (now (inputs .entry)) (now (outputs .entry)) (now (bytes .entry)) (now (label .entry)) (now (tip .entry))) (outcome r (now (next .exit)) (now (out .exit))) (now (next .entry)) (now (out .entry)) ⌝ }
+{
+    let o = a.open;
+    let h = o.head;
+    let f = find_id(cur, o.start, h.count, id);
+    if f.found {
+        return admit_found(
+            cur,
+            next,
+            a,
+            f.at,
+            x,
+            id,
+            inputs,
+            outputs,
+            bytes,
+            label,
+            tip,
+            out,
+        );
+    }
+    admit_new(cur, next, a, x, id, inputs, outputs, bytes, label, tip, out)
+}
+
+fn long_label(flag: u64, label: &[u8]) -> bool
+    ensures { λ r. ⌜ r ≡ ltb 200 (labelLen (given flag (now (label .entry)))) ⌝ }
+{
+    both(flag == 1, 200 < label.len())
+}
+
+// Refusals 7, 8, 9.
+fn admit_timely(
+    cur: &[u8],
+    next: &mut [u8],
+    a: Area,
+    x: Asked,
+    id: [u8; 32],
+    inputs: &[u8],
+    outputs: &[u8],
+    bytes: &[u8],
+    label: &[u8],
+    tip: &[u8],
+    out: &mut [u8],
+) -> Answer
+    requires { ⌜ AreaIn (now cur) a × LentIn x id (now inputs) (now outputs) (now bytes) (now label) (now tip) (a .open .head .k) × (a .need ≤ length (now next)) ⌝ }
+    ensures { λ r. ⌜ AdmitTold (now (cur .entry)) (argsOf x id (now (inputs .entry)) (now (outputs .entry)) (now (bytes .entry)) (now (label .entry)) (now (tip .entry))) (outcome r (now (next .exit)) (now (out .exit))) (now (next .entry)) (now (out .entry)) ⌝ }
+{
+    let t = x.now;
+    let d = x.time;
+    if time_reached(x.timeflag == 1, d, t) {
+        return Answer::Refused(7);
+    }
+    let g = x.tipheight;
+    let h = x.height;
+    if height_reached(x.heightflag == 1, h, g) {
+        return Answer::Refused(8);
+    }
+    if long_label(x.labelflag, label) {
+        return Answer::Refused(9);
+    }
+    admit_named(cur, next, a, x, id, inputs, outputs, bytes, label, tip, out)
+}
+
+fn given_id(flag: u64, n: usize) -> bool
+    ensures { λ r. ⌜ r ≡ (leb flag 1 && (eqb flag 0 || eqb n 32)) ⌝ }
+{
+    both(flag <= 1, either(flag == 0, n == 32))
+}
+
+// Is the id whole, and are the lists?
+fn lists_whole(id: &[u8], inputs: &[u8], outputs: &[u8]) -> bool
+    ensures { λ r. ⌜ ListsAre (now (id .entry)) (now (inputs .entry)) (now (outputs .entry)) r ⌝ }
+{
+    let a = size(id, false, 0);
+    let b = size(inputs, false, 0);
+    let c = size(outputs, false, 0);
+    both(a == 32, both(b % 32 == 0, c % 32 == 0))
+}
+
+// Are the flags listed, and is the tip whole where there is one?
+fn flags_listed(x: Asked, bytes: &[u8], label: &[u8], tip: &[u8]) -> bool
+    ensures { λ r. ⌜ FlagsAre x (now (bytes .entry)) (now (label .entry)) (now (tip .entry)) r ⌝ }
+{
+    let a = size(bytes, false, 0);
+    let b = size(label, false, 0);
+    let c = size(tip, false, 0);
+    let d = both(x.timeflag <= 1, x.heightflag <= 1);
+    both(d, both(x.labelflag <= 1, given_id(x.tipflag, c)))
+}
+
+fn over_k(k: u64, n: usize, m: usize) -> bool
+    ensures { λ r. ⌜ r ≡ (ltb k (n / 32) || ltb k (m / 32)) ⌝ }
+{
+    either(k < (n / 32) as u64, k < (m / 32) as u64)
+}
+
+// Refusals 3, 2, 5, 6.
+fn admit_asked(
+    cur: &[u8],
+    next: &mut [u8],
+    x: Asked,
+    id: &[u8],
+    inputs: &[u8],
+    outputs: &[u8],
+    bytes: &[u8],
+    label: &[u8],
+    tip: &[u8],
+    out: &mut [u8],
+) -> Answer
+    requires { ⌜ NumbersFit x ⌝ }
+    ensures { λ r. ⌜ outcome r (now (next .exit)) (now (out .exit)) ≡ admitOf (now (cur .entry)) (now (next .entry)) (now (out .entry)) (argsOf x (now (id .entry)) (now (inputs .entry)) (now (outputs .entry)) (now (bytes .entry)) (now (label .entry)) (now (tip .entry))) ⌝ }
+{
+    let a = area_at(cur);
+    if !a.ok {
+        return Answer::Refused(3);
+    }
+    if next.len() < a.need {
+        return Answer::Refused(2);
+    }
+    let l = lists_whole(id, inputs, outputs);
+    let f = flags_listed(x, bytes, label, tip);
+    if !both(l, f) {
+        return Answer::Refused(5);
+    }
+    let o = a.open;
+    let h = o.head;
+    if over_k(h.k, inputs.len(), outputs.len()) {
+        return Answer::Refused(6);
+    }
+    let k = id_at(id, false, 0, 0);
+    admit_timely(cur, next, a, x, k, inputs, outputs, bytes, label, tip, out)
+}
+
+// Admission. Refusals 3, 2, 5, 6, 7, 8, 9, 10, 11, 12, 4.
+pub fn admit(
+    cur: &[u8],
+    next: &mut [u8],
+    id: &[u8],
+    inputs: &[u8],
+    outputs: &[u8],
+    bytes: &[u8],
+    clock: u64,
+    timeflag: u8,
+    time: u64,
+    heightflag: u8,
+    height: u32,
+    priority: u32,
+    labelflag: u8,
+    label: &[u8],
+    fee: u64,
+    cost: u64,
+    tipheight: u32,
+    tipflag: u8,
+    tip: &[u8],
+    out: &mut [u8],
+) -> Answer
+    ensures { λ r. ⌜ outcome r (now (next .exit)) (now (out .exit)) ≡ admitOf (now (cur .entry)) (now (next .entry)) (now (out .entry)) (admitArgs (now (id .entry)) (now (inputs .entry)) (now (outputs .entry)) (now (bytes .entry)) clock timeflag time heightflag height priority labelflag (now (label .entry)) fee cost tipheight tipflag (now (tip .entry))) ⌝ }
+{
+    let x = Asked {
+        now: Time(clock),
+        timeflag: timeflag as u64,
+        time: Time(time),
+        heightflag: heightflag as u64,
+        height: Height(height as u64),
+        priority: priority as u64,
+        labelflag: labelflag as u64,
+        fee: fee,
+        cost: cost,
+        tipheight: Height(tipheight as u64),
+        tipflag: tipflag as u64,
+    };
+    admit_asked(cur, next, x, id, inputs, outputs, bytes, label, tip, out)
 }

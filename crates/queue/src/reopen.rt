@@ -4,7 +4,6 @@ use super::Kind;
 use super::area::Area;
 use super::area::area_at;
 use super::frame::Facts;
-use super::frame::HeadR;
 use super::frame::Seen;
 use super::frame::id_read;
 use super::frame::rec_at;
@@ -16,10 +15,10 @@ use super::put::fill_zero;
 use super::put::put_be;
 use super::put::put_id;
 use super::put::put_u8;
-use super::scan::has_id;
 use super::view::cmp_id;
 use super::view::id_at;
 use super::view::size;
+use super::write::tip_at;
 ghost use mathlib.Core.Path.{_≡_};
 ghost use mathlib.Core.Bool.{true, false};
 ghost use mathlib.Core.List.{[]};
@@ -30,11 +29,11 @@ ghost use Rattle.queue.specs.Splice.{Put};
 ghost use Rattle.queue.specs.Frames.{recC};
 ghost use Rattle.queue.specs.Reads.{whole, listAt};
 ghost use Rattle.queue.specs.Forms.{formC};
-ghost use Rattle.queue.specs.Writes.{HeadIn, TipIs};
 ghost use Rattle.queue.specs.CallsAs.{AreaIn};
-ghost use Rattle.queue.specs.Reopens.{IdsIn, idsAt, listedS, again, stateF, reasonF, leadBytes, reopenedBytes, reopenedLen, againBytes, PartsIn, AgainFrom, AgainTo, ReopenTold};
+ghost use Rattle.queue.specs.Reopens.{IdsIn, IdsRise, idsAt, listedS, again, stateF, reasonF, leadBytes, reopenedBytes, reopenedLen, againBytes, PartsIn, AgainFrom, AgainTo, ReopenTold};
 ghost use Rattle.queue.specs.paper.Lists.{any?, map};
 ghost use Rattle.queue.specs.paper.Changing.{listed?};
+ghost use Rattle.queue.specs.paper.Sound.{among?};
 ghost use Rattle.queue.specs.paper.Calls.{outcome, rise?, reopenOf};
 
 // Do n lent ids rise strictly?
@@ -62,9 +61,32 @@ pub fn rise(ids: &[u8], n: u64) -> bool
     true
 }
 
+// Is the id one of k lent ids, which rise? Those before lo are lower, those from hi on are higher.
+fn find_id(ids: &[u8], k: u64, id: [u8; 32]) -> bool
+    requires { ⌜ IdsRise (now ids) k ⌝ }
+    ensures { λ r. ⌜ r ≡ among? id (idsAt (now (ids .entry)) k) ⌝ }
+{
+    let mut lo: usize = 0;
+    let mut hi = k as usize;
+    while lo < hi {
+        let m = lo + (hi - lo) / 2;
+        let y = id_at(ids, false, 0, 32 * m);
+        let c = cmp_id(id, y);
+        if c == 1 {
+            return true;
+        }
+        if c == 0 {
+            hi = m;
+        } else {
+            lo = m + 1;
+        }
+    }
+    false
+}
+
 // Is a record Mined, and one of k lent ids its own?
 fn listed(ids: &[u8], k: u64, x: Seen) -> bool
-    requires { ⌜ IdsIn (now ids) k ⌝ }
+    requires { ⌜ IdsRise (now ids) k ⌝ }
     ensures { λ r. ⌜ r ≡ listedS (idsAt (now (ids .entry)) k) x ⌝ }
 {
     let f = x.facts;
@@ -72,12 +94,12 @@ fn listed(ids: &[u8], k: u64, x: Seen) -> bool
         return false;
     }
     let id = x.id;
-    has_id(ids, false, 0, 0, k, id)
+    find_id(ids, k, id)
 }
 
 // Is one of n records at `at` listed?
 fn any_listed(s: &[u8], at: usize, n: u64, ids: &[u8], k: u64) -> bool
-    requires { ⌜ (at ≤ length (now s)) × (whole (formC false recC) n (now s) at ≡ true) × IdsIn (now ids) k ⌝ }
+    requires { ⌜ (at ≤ length (now s)) × (whole (formC false recC) n (now s) at ≡ true) × IdsRise (now ids) k ⌝ }
     ensures { λ r. ⌜ r ≡ any? (listed? (idsAt (now (ids .entry)) k)) (listAt (formC false recC) n (now (s .entry)) at) ⌝ }
 {
     let mut i = at;
@@ -161,7 +183,7 @@ fn put_records(
     dst: &mut [u8],
     to: usize,
 ) -> usize
-    requires { ⌜ (at ≤ length (now src)) × (whole (formC false recC) n (now src) at ≡ true) × IdsIn (now ids) k × (to + length (encs recC (map (again (idsAt (now ids) k)) (listAt (formC false recC) n (now src) at))) ≤ length (now dst)) ⌝ }
+    requires { ⌜ (at ≤ length (now src)) × (whole (formC false recC) n (now src) at ≡ true) × IdsRise (now ids) k × (to + length (encs recC (map (again (idsAt (now ids) k)) (listAt (formC false recC) n (now src) at))) ≤ length (now dst)) ⌝ }
     ensures { λ r. ⌜ Put (now (dst .entry)) to (encs recC (map (again (idsAt (now (ids .entry)) k)) (listAt (formC false recC) n (now (src .entry)) at))) (length (encs recC (map (again (idsAt (now (ids .entry)) k)) (listAt (formC false recC) n (now (src .entry)) at)))) r (now (dst .exit)) ⌝ }
 {
     let mut i = at;
@@ -177,27 +199,16 @@ fn put_records(
     o
 }
 
-// The tip of an area's cursor; zeros where there is none.
-fn tip_from(s: &[u8], h: HeadR) -> [u8; 32]
-    requires { ⌜ HeadIn (now s) h ⌝ }
-    ensures { λ r. ⌜ TipIs (now (s .entry)) h r ⌝ }
-{
-    if h.tip {
-        return id_at(s, false, 4, 30);
-    }
-    [0u8; 32]
-}
-
 // The queue of src with those listed reopened.
 fn put_opened(src: &[u8], a: Area, ids: &[u8], k: u64, dst: &mut [u8])
-    requires { ⌜ AgainFrom (now src) a (idsAt (now ids) k) × IdsIn (now ids) k × (a .need ≤ length (now dst)) ⌝ }
+    requires { ⌜ AgainFrom (now src) a (idsAt (now ids) k) × IdsRise (now ids) k × (a .need ≤ length (now dst)) ⌝ }
     ensures { λ _. ⌜ AgainTo (now (src .entry)) (idsAt (now (ids .entry)) k) (now (dst .entry)) (now (dst .exit)) ⌝ }
 {
     let x = a.open;
     let h = x.head;
     let n = h.counter;
     let cursor = h.cursor;
-    let tip = tip_from(src, h);
+    let tip = tip_at(src, h);
     let to = 45 + tip_len(h.tip);
     let e = put_records(src, x.start, h.count, ids, k, dst, to);
     let marks = Marks {
@@ -214,7 +225,7 @@ fn put_opened(src: &[u8], a: Area, ids: &[u8], k: u64, dst: &mut [u8])
 
 // No Mined id is kind 0.
 fn reopen_those(cur: &[u8], next: &mut [u8], a: Area, ids: &[u8], k: u64) -> Answer
-    requires { ⌜ AreaIn (now cur) a × IdsIn (now ids) k × (a .need ≤ length (now next)) ⌝ }
+    requires { ⌜ AreaIn (now cur) a × IdsRise (now ids) k × (a .need ≤ length (now next)) ⌝ }
     ensures { λ r. ⌜ ReopenTold (now (cur .entry)) (idsAt (now (ids .entry)) k) (outcome r (now (next .exit)) []) (now (next .entry)) ⌝ }
 {
     let o = a.open;

@@ -25,7 +25,7 @@ ghost use Rattle.queue.specs.Writes.{TipIs, HeadIn, MovedFrom, MovedTo, 
 ghost use Rattle.queue.specs.paper.Lists.{count};
 
 // The tip of an area's cursor; zeros where there is none.
-fn tip_at(s: &[u8], h: HeadR) -> [u8; 32]
+pub fn tip_at(s: &[u8], h: HeadR) -> [u8; 32]
     requires { ⌜ HeadIn (now s) h ⌝ }
     ensures { λ r. ⌜ TipIs (now (s .entry)) h r ⌝ }
 {

@@ -117,26 +117,10 @@ impl Unit {
     }
 
     /// Puts a batch of transactions in.
-    #[cfg(exported = "admit")]
     fn fill(&mut self) -> Result<(), Box<dyn Error>> {
         for n in 0..BATCH {
             self.store.commit(self.queue.admit(&transaction(n))?)?;
         }
-        Ok(())
-    }
-
-    /// Puts a batch of transactions in by an image that holds them, since admission is not exported
-    /// yet.
-    #[cfg(not(exported = "admit"))]
-    fn fill(&mut self) -> Result<(), Box<dyn Error>> {
-        let mut queue = model::area::decode(self.queue.area()).ok_or("the area is not sound")?;
-        for n in 0..BATCH {
-            queue = model::rules::admit(&queue, &transaction(n))
-                .map_err(|number| format!("a transaction was refused: {number}"))?
-                .next;
-        }
-        self.store.write(&model::image::encode(&queue))?;
-        self.queue = self.store.open(limits()?)?;
         Ok(())
     }
 
@@ -159,7 +143,6 @@ fn id(n: u8) -> TxId {
     TxId([0x10 + n; 32])
 }
 
-#[cfg(exported = "admit")]
 fn transaction(n: u8) -> pokerbox::Admission {
     pokerbox::Admission {
         id: id(n),
@@ -174,25 +157,6 @@ fn transaction(n: u8) -> pokerbox::Admission {
         fee: 1_000_000,
         cost: 12_000,
         tip_height: Height(5),
-        tip: None,
-    }
-}
-
-#[cfg(not(exported = "admit"))]
-fn transaction(n: u8) -> model::rules::Admission {
-    model::rules::Admission {
-        id: id(n).0,
-        inputs: vec![[0xa0 + n; 32]],
-        outputs: vec![[0xb0 + n; 32]],
-        signed: vec![n; 100 + usize::from(n)],
-        now: model::TimeMs(10),
-        time_deadline: Some(model::TimeMs(deadline(n).0)),
-        height_deadline: None,
-        priority: i32::from(n),
-        label: Some(format!("transaction {n}").into_bytes()),
-        fee: 1_000_000,
-        cost: 12_000,
-        tip_height: model::Height(5),
         tip: None,
     }
 }

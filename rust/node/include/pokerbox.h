@@ -50,6 +50,17 @@ uint64_t pokerbox_fresh(uint64_t pending, uint64_t bytes, uint64_t tombstones, u
 /* 100 if the area holds a sound queue, else 3. */
 uint64_t pokerbox_sound(const uint8_t *area, size_t area_len);
 
+/* Admits a transaction. `out` gets its entry: the new one, or with kind 0 the old one of a pending or
+ * Mined id. `priority` is in two's complement. */
+uint64_t pokerbox_admit(const uint8_t *cur, size_t cur_len, uint8_t *next, size_t next_len,
+                        const uint8_t *id, size_t id_len, const uint8_t *inputs, size_t inputs_len,
+                        const uint8_t *outputs, size_t outputs_len, const uint8_t *signed_bytes,
+                        size_t signed_len, uint64_t now, uint8_t time_flag, uint64_t time,
+                        uint8_t height_flag, uint32_t height, uint32_t priority,
+                        uint8_t label_flag, const uint8_t *label, size_t label_len, uint64_t fee,
+                        uint64_t cost, uint32_t tip_height, uint8_t tip_flag, const uint8_t *tip,
+                        size_t tip_len, uint8_t *out, size_t out_len);
+
 /* Withdraws a pending record. `out` gets its entry after the call. */
 uint64_t pokerbox_cancel(const uint8_t *cur, size_t cur_len, uint8_t *next, size_t next_len,
                          const uint8_t *id, size_t id_len, uint8_t *out, size_t out_len);
@@ -133,14 +144,6 @@ uint64_t pokerbox_confirmations(const uint8_t *area, size_t area_len, uint8_t *o
 
 /* NOT EXPORTED YET: linking one of these fails.
 
-uint64_t pokerbox_admit(const uint8_t *cur, size_t cur_len, uint8_t *next, size_t next_len,
-                        const uint8_t *id, size_t id_len, const uint8_t *inputs, size_t inputs_len,
-                        const uint8_t *outputs, size_t outputs_len, const uint8_t *signed_bytes,
-                        size_t signed_len, uint64_t now, uint8_t time_flag, uint64_t time,
-                        uint8_t height_flag, uint32_t height, uint32_t priority,
-                        uint8_t label_flag, const uint8_t *label, size_t label_len, uint64_t fee,
-                        uint64_t cost, uint32_t tip_height, uint8_t tip_flag, const uint8_t *tip,
-                        size_t tip_len, uint8_t *out, size_t out_len);
 uint64_t pokerbox_reconcile(const uint8_t *cur, size_t cur_len, uint8_t *next, size_t next_len,
                             uint32_t height, const uint8_t *tip, size_t tip_len,
                             const uint8_t *applied, size_t applied_len, uint8_t caught_up,

@@ -139,6 +139,28 @@ pub record AdmitArgs : Type 0 where
   pub tipFlag : ℕ
   pub tip : Bytes
 
+-- in the order of docs/CALLS.md
+abbrev pub admitArgs : Bytes → Bytes → Bytes → Bytes → ℕ → ℕ → ℕ → ℕ → ℕ → ℕ → ℕ → Bytes → ℕ → ℕ → ℕ → ℕ → Bytes → AdmitArgs
+admitArgs id inputs outputs bytes now timeFlag time heightFlag height priority labelFlag label fee cost tipHeight tipFlag tip = record {
+  id = id;
+  inputs = inputs;
+  outputs = outputs;
+  bytes = bytes;
+  now = now;
+  timeFlag = timeFlag;
+  time = time;
+  heightFlag = heightFlag;
+  height = height;
+  priority = priority;
+  labelFlag = labelFlag;
+  label = label;
+  fee = fee;
+  cost = cost;
+  tipHeight = tipHeight;
+  tipFlag = tipFlag;
+  tip = tip;
+}
+
 abbrev pub admission : AdmitArgs → Admission
 admission a = record {
   id = a .id;

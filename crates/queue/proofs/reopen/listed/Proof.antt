@@ -9,18 +9,18 @@ use Rattle.queue.proofs.reopen.listed.Statement.{statement}
 use Rattle.queue.proofs.reopen.listed.Tie as tie
 use Rattle.queue.proofs.reopen.listed.Reads as reads
 use Rattle.queue.proofs.reopen.listed.Lts as lts
-use Rattle.queue.proofs.scan.has_id.Reads as has-id-reads
+use Rattle.queue.proofs.reopen.find_id.Reads as find-id-reads
 
 returns : tie.Need-returns
 unfolding listedS
 returns c = rw (ne-eqb _ _ (c .if1 .taken))
 
-has-id-requires : tie.Need-has-id-requires
-has-id-requires c κs = search needs
+find-id-requires : tie.Need-find-id-requires
+find-id-requires c κs = search needs
 
 returns-2 : tie.Need-returns-2
 unfolding listedS
-returns-2 c = rw (eq-eqb _ _ (c .before .before .if1 .left)) (c .has-id .ensures)
+returns-2 c = rw (eq-eqb _ _ (c .before .before .if1 .left)) (c .find-id .ensures)
 
 pub listed-spec : {M : Type 1} → statement M
-listed-spec = tie.close (tie.spec returns has-id-requires returns-2)
+listed-spec = tie.close (tie.spec returns find-id-requires returns-2)

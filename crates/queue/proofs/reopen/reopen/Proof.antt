@@ -37,7 +37,7 @@ returns-4 : tie.Need-returns-4
 returns-4 c = reopen-5′ _ _ _ (c .before .before .before .before .before .before .before .before .area-at .ensures) (not-false _ (c .before .before .before .before .before .before .if1 .left)) (c .before .before .before .before .if2 .left) (c .before .before .before .size .result / 32) (lent-whole (c .before .before .before .before .before .before .before .before .before .before .before .before .args .ids .now) (c .before .before .before .size .ensures .0) (c .before .before .before .size .ensures .2) (c .before .before .if3 .left)) (lent-are (c .before .before .before .before .before .before .before .before .before .before .before .before .args .ids .now) (c .before .before .before .size .ensures .0) (c .before .before .before .size .ensures .2) (c .before .before .if3 .left)) (c .before .rise .ensures) (not-true _ (c .if4 .taken))
 
 reopen-those-requires : tie.Need-reopen-those-requires
-reopen-those-requires c κs = (area-in (c .before .before .before .before .before .before .before .before .before .area-at .ensures) (not-false _ (c .before .before .before .before .before .before .before .if1 .left)), lent-in (c .before .before .before .before .before .before .before .before .before .before .before .before .before .args .ids .now) (c .before .before .before .before .size .ensures .0) (c .before .before .before .before .size .ensures .2) (c .before .before .before .if3 .left), c .before .before .before .before .before .if2 .left)
+reopen-those-requires c κs = (area-in (c .before .before .before .before .before .before .before .before .before .area-at .ensures) (not-false _ (c .before .before .before .before .before .before .before .if1 .left)), record { all = lent-in (c .before .before .before .before .before .before .before .before .before .before .before .before .before .args .ids .now) (c .before .before .before .before .size .ensures .0) (c .before .before .before .before .size .ensures .2) (c .before .before .before .if3 .left); rise = sym (c .before .before .rise .ensures) ∙ not-false _ (c .before .if4 .left) }, c .before .before .before .before .before .if2 .left)
 
 same-length : tie.Need-same-length
 same-length c = search needs

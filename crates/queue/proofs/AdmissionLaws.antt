@@ -1,0 +1,395 @@
+-- Admission, exit by exit. Assumes nothing.
+use mathlib.Core.Path.{_≡_, refl, ap, sym, _∙_}
+use mathlib.Core.Bool.{Bool, true, false, cond, not, _&&_, _||_}
+use mathlib.Core.Option.{Option, none, some}
+use mathlib.Core.List.{List, [], _∷_, _++_}
+use Prim.Native.Nat.{ℕ, zero, suc, _+_, _-_, _*_, _/_, _%_, _^_, _≤_, _<_}
+use native.Mathlib.Omega.{arith}
+use lib.Dec.{ltb, leb, eqb}
+use lib.ListN.{length, drop, take}
+use borrow.Author.Tests.{lt-ltb, le-ltb, ltb-false, eq-eqb, ne-eqb, eqb-true}
+use Rattle.queue.specs.Codec.{cases, optC}
+use Rattle.queue.specs.Splice.{Put, splice}
+use Rattle.queue.specs.Frames.{Head, idC, recC}
+use Rattle.queue.specs.Ids.{part}
+use Rattle.queue.specs.View.{view}
+use Rattle.queue.specs.Reads.{whole, listAt}
+use Rattle.queue.specs.ReadLaws as readlaws
+use Rattle.queue.specs.Forms.{formC, queueC, headFor, storeOf}
+use Rattle.queue.specs.Facts.{HeadAs, factsOf}
+use Rattle.queue.specs.Areas.{readArea}
+use Rattle.queue.specs.Bound.{fits-need}
+use Rattle.queue.specs.Lists.{and-true}
+use Rattle.queue.specs.Order.{or-false, or-true}
+use Rattle.queue.specs.Sounds.{Fit, fit-sound, fit-ok}
+use Rattle.queue.specs.Keeps.{leaves-kept}
+use Rattle.queue.specs.Admits.{Admissible, new-leaves}
+use Rattle.queue.specs.Arguments.{Small, AdmitLent, admission-ok}
+use Rattle.queue.specs.Opens.{AreaAs, AreaIs}
+use Rattle.queue.specs.Fronts.{tipOf}
+use Rattle.queue.specs.Writes.{TipIs}
+use Rattle.queue.specs.CallsAs.{AreaIn, FoundIn}
+use Rattle.queue.specs.ReadingAs.{FoundAs, EntryIn, entryAt, entryLen}
+use Rattle.queue.specs.Reopens.{IdsIn, idsAt}
+use Rattle.queue.specs.Admitting.{argsOf, newOf, TermsFit, HeldFit, withR, WithFrom, WithTo, roomOf, RoomIs, entryNewLen, NumbersFit, AskedIn, FreeOf, TipFor, NewTold, FoundTold, AdmitTold, ListsAre, FlagsAre, LentIn}
+use Rattle.queue.specs.paper.Records.{Bytes, Id, Rec, Queue}
+use Rattle.queue.specs.paper.Lists.{find}
+use Rattle.queue.specs.paper.Sound.{need, pending?, mined?, labelLen, clash?}
+use Rattle.queue.specs.paper.Area.{areaBytes, over}
+use Rattle.queue.specs.paper.Changing.{Out, refused, done, named?, reached?, Admission, newRec, committed, cursorAfter, tipAfter, pendings, pendingBytes, admitNew, admitFound, admit}
+use Rattle.queue.specs.paper.Calls.{Outcome, outcome, told, id?, whole?, items, flag?, given, givenId?, AdmitArgs, admission, admitShape?, overK?, entryBytes, admitOf}
+use Rattle.queue.specs.declared.Kind.the-variants.{Nothing, Whole}
+use Rattle.queue.specs.declared.Answer.the-variants.{Refused, Done}
+use Rattle.queue.specs.declared.admit.Asked.{Asked}
+use Rattle.queue.specs.declared.admit.Tip.{Tip}
+use Rattle.queue.specs.declared.frame.HeadR.{HeadR}
+use Rattle.queue.specs.declared.frame.Seen.{Seen}
+use Rattle.queue.specs.declared.area.Area.{Area}
+use Rattle.queue.specs.declared.reading.Found.{Found}
+use Rattle.queue.proofs.Turns.{SeenIn, ReadsRec}
+use Rattle.queue.proofs.PutLaws.{over-splice}
+use Rattle.queue.proofs.WriteLaws.{fit, one-queue}
+use Rattle.queue.proofs.ReadingLaws.{key, met, entry-in, entry-is, entry-size}
+use Rattle.queue.proofs.ReopenLaws.{ids-in, ids-are}
+use Rattle.queue.proofs.CallLaws.{small-all}
+use Rattle.queue.proofs.AdmitLaws.{entry-long}
+
+-- ---- the cursor of the next queue
+pub tip-own : (s : Bytes) (h : HeadR) (r : Id) (x : Asked) (tip : Bytes) → 0 < h .count → TipIs s h r → TipFor s h x tip (record { height = h .cursor; has = h .tip; id = r })
+tip-own s h r x tip k t z w o = rw (lt-ltb 0 (h .count) k) (sym (w .cursor), t z w o)
+
+pub tip-asked : (s : Bytes) (h : HeadR) {i : Id} (x : Asked) (tip : Bytes) → h .count ≤ 0 → x .tipflag ≡ 1 → length tip ≡ 32 → i ≡ part 32 (view false tip 0) 0 → TipFor s h x tip (record { height = x .tipheight; has = true; id = i })
+tip-asked s h {i} x tip k e l f z w o = rw (le-ltb 0 (h .count) k, eq-eqb (x .tipflag) 1 e) (refl, ap some (key l f))
+
+pub tip-none : (s : Bytes) (h : HeadR) (x : Asked) (tip : Bytes) → h .count ≤ 0 → (x .tipflag ≡ 1 → ⊥) → (z : Head) → HeadAs (view false s 4) h z → optC idC .ok (z .tip)
+    → (x .tipheight .0 ≡ cond (ltb 0 (h .count)) (z .cursor) (x .tipheight .0)) × (none ≡ cond (ltb 0 (h .count)) (z .tip) (given (x .tipflag) tip))
+tip-none s h x tip k e z w o = rw (le-ltb 0 (h .count) k, ne-eqb (x .tipflag) 1 e) (refl, refl)
+
+cursor-is : (a : Admission) (q : Queue) (l : List Rec) → cursorAfter a q l ≡ cond (ltb 0 (length l)) (q .cursor) (a .tipHeight)
+cursor-is a q [] = refl
+cursor-is a q (r ∷ l) = rw (lt-ltb 0 (length (r ∷ l)) (omega arith))
+
+tip-is : (a : Admission) (q : Queue) (l : List Rec) → tipAfter a q l ≡ cond (ltb 0 (length l)) (q .tip) (a .tip)
+tip-is a q [] = refl
+tip-is a q (r ∷ l) = rw (lt-ltb 0 (length (r ∷ l)) (omega arith))
+
+-- ---- room
+room-split : (b c : Bool) → _≡_ {A = ℕ} (cond b 10 (cond c 11 0)) 0 → (b ≡ false) × (c ≡ false)
+room-split true c e = absurd (let y : ⊥ = omega arith in y)
+room-split false true e = absurd (let y : ⊥ = omega arith in y)
+room-split false false e = (refl, refl)
+
+room-full : {A : Type 0} (b c : Bool) (n : ℕ) (o : Out A) → n ≡ cond b 10 (cond c 11 0) → (n ≡ 0 → ⊥) → cond b (refused 10) (cond c (refused 11) o) ≡ refused n
+room-full true c n o e h = ap refused (sym e)
+room-full false true n o e h = ap refused (sym e)
+room-full false false n o e h = absurd (h e)
+
+-- ---- what is lent, and the area
+module _ {s : Bytes} {a : Area} (w : AreaIn s a) {x : Asked} {id ins outs bytes label tip : Bytes} (i : AskedIn x id ins outs bytes label tip (a .open .head .k)) where
+  abbrev G : AdmitArgs
+  G = argsOf x id ins outs bytes label tip
+
+  abbrev R : Rec
+  R = newOf x id ins outs bytes label
+
+  admissible : Admissible (w .q .limits .K) (admission G)
+  admissible = let k : w .q .limits .K ≡ a .open .head .k = w .read .store .head .K in rw k (admission-ok (a .open .head .k) G (i .lent) (i .shape) (i .few))
+
+  parts : (id? id ≡ true) × (whole? 32 ins ≡ true) × (whole? 32 outs ≡ true) × (givenId? (x .tipflag) tip ≡ true)
+  parts =
+      let u = and-true (id? id && (whole? 32 ins && whole? 32 outs)) ((flag? (x .timeflag) && flag? (x .heightflag)) && (flag? (x .labelflag) && givenId? (x .tipflag) tip)) (i .shape) in
+      let v = and-true (id? id) (whole? 32 ins && whole? 32 outs) (u .0) in
+      let y = and-true (whole? 32 ins) (whole? 32 outs) (v .1) in
+      let z = and-true (flag? (x .timeflag) && flag? (x .heightflag)) (flag? (x .labelflag) && givenId? (x .tipflag) tip) (u .1) in
+      (v .0, y .0, y .1, and-true (flag? (x .labelflag)) (givenId? (x .tipflag) tip) (z .1) .1)
+
+  id-32 : length id ≡ 32
+  id-32 = eqb-true (length id) 32 (parts .0)
+
+  pub tip-32 : x .tipflag ≡ 1 → length tip ≡ 32
+  tip-32 e =
+      let u = and-true (flag? (x .tipflag)) (eqb (x .tipflag) 0 || id? tip) (parts .3) in
+      or-true (eqb (x .tipflag) 0) (id? tip) (u .1) (λ t. let z = eqb-true (x .tipflag) 0 t in absurd (let y : ⊥ = omega arith in y)) (λ _ t. eqb-true (length tip) 32 t)
+
+  pub short-label : x .labelflag ≡ 1 → length label ≤ 200
+  short-label e = let z : ltb 200 (length label) ≡ false = rw (eq-eqb (x .labelflag) 1 e) at (i .short) in ltb-false 200 (length label) z
+
+  few-ids : (length ins / 32 ≤ 128) × (length outs / 32 ≤ 128)
+  few-ids =
+      let k : w .q .limits .K ≡ a .open .head .k = w .read .store .head .K in
+      let f = fit (w .read) .sound .range .K-high in
+      let u = or-false (ltb (a .open .head .k) (length ins / 32)) (ltb (a .open .head .k) (length outs / 32)) (i .few) in
+      let v = ltb-false (a .open .head .k) (length ins / 32) (u .0) in
+      let y = ltb-false (a .open .head .k) (length outs / 32) (u .1) in
+      (omega arith, omega arith)
+
+  pub few-bytes : length ins < 4294967296
+  few-bytes = let f = few-ids in omega arith
+
+  -- 10 and 11
+  pub new-room : (next out : Bytes) {r : ℕ} → RoomIs s (length bytes) r → (r ≡ 0 → ⊥) → NewTold s G (outcome (Refused r) next out) next out
+  unfolding roomOf
+  new-room next out {r} m n q e = rw (← (one-queue s (w .is) e), room-full (leb (w .q .limits .P) (pendings (w .q .recs))) (ltb (w .q .limits .B) (pendingBytes (w .q .recs) + length bytes)) r _ (m (w .q) (w .is)) n)
+
+  pub ids-lent : IdsIn ins (length ins / 32)
+  ids-lent = ids-in ins (length ins / 32) (i .lent .inputs) refl (eqb-true (length ins % 32) 0 (parts .1))
+
+  clash-is : {r : Bool} → r ≡ clash? (idsAt ins (length ins / 32)) (listAt (formC false recC) (a .open .head .count) s (a .open .start)) → clash? (items 32 ins) (w .q .recs) ≡ r
+  clash-is {r} c = sym (c ∙ ap (λ l. clash? l (listAt (formC false recC) (a .open .head .count) s (a .open .start))) (ids-are ins (length ins / 32) (i .lent .inputs) refl (eqb-true (length ins % 32) 0 (parts .1))) ∙ ap (clash? (items 32 ins)) (w .read .store .list))
+
+  pub free-of : {r : Bool} → r ≡ clash? (idsAt ins (length ins / 32)) (listAt (formC false recC) (a .open .head .count) s (a .open .start)) → r ≡ false → FreeOf s ins
+  free-of c t q e = rw (← (one-queue s (w .is) e)) (clash-is c ∙ t)
+
+  module _ (m : RoomIs s (length bytes) 0) where
+    rooms : (leb (w .q .limits .P) (pendings (w .q .recs)) ≡ false) × (ltb (w .q .limits .B) (pendingBytes (w .q .recs) + length bytes) ≡ false)
+    unfolding roomOf
+    rooms = room-split (leb (w .q .limits .P) (pendings (w .q .recs))) (ltb (w .q .limits .B) (pendingBytes (w .q .recs) + length bytes)) (sym (m (w .q) (w .is)))
+
+    -- 12
+    pub new-12 : (next out : Bytes) {r : Bool} → r ≡ clash? (idsAt ins (length ins / 32)) (listAt (formC false recC) (a .open .head .count) s (a .open .start)) → r ≡ true → NewTold s G (outcome (Refused 12) next out) next out
+    new-12 next out c t q e = rw (← (one-queue s (w .is) e), rooms .0, rooms .1, clash-is c ∙ t)
+
+    bytes-few : length bytes ≤ 16777216
+    bytes-few = let u = ltb-false (w .q .limits .B) (pendingBytes (w .q .recs) + length bytes) (rooms .1) in let v = fit (w .read) .sound .range .B-high in omega arith
+
+    pub held-fit : HeldFit ins outs bytes
+    held-fit = let f = few-ids in let b = bytes-few in record {
+      wholeIns = eqb-true (length ins % 32) 0 (parts .1);
+      wholeOuts = eqb-true (length outs % 32) 0 (parts .2);
+      fewIns = omega arith;
+      fewOuts = omega arith;
+      fewBytes = omega arith;
+    }
+
+    pub terms-fit : TermsFit x label (length bytes)
+    terms-fit = let b = bytes-few in record {
+      now = i .lent .now;
+      time = i .lent .time;
+      height = i .lent .height;
+      priority = i .lent .priority;
+      short = short-label;
+      fee = i .lent .fee;
+      size = omega arith;
+      cost = i .lent .cost;
+    }
+
+    long : length (entryBytes R) ≡ entryNewLen x ins label
+    long = entry-long x id ins outs bytes label id-32 held-fit
+
+    module _ (f : FreeOf s ins) where
+      abbrev Next : Queue
+      Next = withR (cursorAfter (admission G) (w .q) (w .q .recs)) (tipAfter (admission G) (w .q) (w .q .recs)) R (w .q)
+
+      new-is : admitNew (admission G) (w .q) ≡ done Whole Next R
+      unfolding withR newOf newRec
+      new-is = rw (rooms .0, rooms .1, f (w .q) (w .is))
+
+      next-fit : Fit Next
+      next-fit = leaves-kept (w .q) Next (admitNew (admission G) (w .q)) Whole R (new-leaves (admission G) (w .q) (fit (w .read)) admissible (i .short)) new-is .fit
+
+      module _ (t : Tip) (T : TipFor s (a .open .head) x tip t) where
+        at-tip : (t .height .0 ≡ cursorAfter (admission G) (w .q) (w .q .recs)) × (tipOf (t .has) (t .id) ≡ tipAfter (admission G) (w .q) (w .q .recs))
+        at-tip =
+            let u = T (headFor (storeOf (w .q))) (w .read .store .head) (fit (w .read) .tip) in
+            let n : a .open .head .count ≡ length (w .q .recs) = sym (w .read .store .count) in (
+              u .0 ∙ ap (λ k. cond (ltb 0 k) (w .q .cursor) (x .tipheight .0)) n ∙ sym (cursor-is (admission G) (w .q) (w .q .recs)),
+              u .1 ∙ ap (λ k. cond (ltb 0 k) (w .q .tip) (given (x .tipflag) tip)) n ∙ sym (tip-is (admission G) (w .q) (w .q .recs)),
+            )
+
+        next-is : withR (t .height .0) (tipOf (t .has) (t .id)) R (w .q) ≡ Next
+        next-is = two (at-tip .0) (at-tip .1)
+          where
+            two : {h h′ : ℕ} {o o′ : Option Id} → h ≡ h′ → o ≡ o′ → withR h o R (w .q) ≡ withR h′ o′ R (w .q)
+            two e f = cc
+
+        next-room : length (queueC .enc Next) ≤ need (w .q .limits)
+        unfolding withR committed
+        next-room = fits-need Next (fit-sound _ next-fit) (fit-ok _ next-fit)
+
+        next-low : cursorAfter (admission G) (w .q) (w .q .recs) < 256 ^ 4
+        unfolding withR committed
+        next-low = next-fit .cursor
+
+        pub with-from : WithFrom s a (t .height .0) (tipOf (t .has) (t .id)) R
+        with-from = record {
+          q = w .q;
+          is = w .is;
+          read = w .read;
+          fits = let u = ap (λ v. length (queueC .enc v)) next-is in let v = next-room in omega arith;
+          small = let u = at-tip .0 in let v = next-low in omega arith;
+        }
+
+        pub new-102 : (next out : Bytes) {next′ out′ : Bytes} {r : ℕ} → entryNewLen x ins label ≤ length out → WithTo s (t .height .0) (tipOf (t .has) (t .id)) R next next′ → Put out 0 (entryBytes R) (entryNewLen x ins label) r out′
+            → NewTold s G (outcome (Done Whole) next′ out′) next out
+        new-102 next out {next′} {out′} h y p q e =
+            let z : out′ ≡ over (entryBytes R) out = p .is ∙ sym (over-splice out (entryBytes R) (omega (arith, long))) in
+            let v : next′ ≡ over (areaBytes Next) next = y (w .q) (w .is) ∙ ap (λ u. over (areaBytes u) next) next-is in
+            rw (← (one-queue s (w .is) e), new-is, le-ltb (length out) (length (entryBytes R)) (omega (arith, long)), z, v)
+
+      -- 4
+      pub new-4 : (next out : Bytes) → length out < entryNewLen x ins label → NewTold s G (outcome (Refused 4) next out) next out
+      new-4 next out h q e = rw (← (one-queue s (w .is) e), new-is, lt-ltb (length out) (length (entryBytes R)) (omega (arith, long)))
+
+-- ---- from the id on
+pub area-of : {s : Bytes} {a : Area} {id : Id} {at : ℕ} → FoundIn s a id at → AreaIn s a
+area-of w = record { q = w .q; is = w .is; read = w .read }
+
+module _ {s : Bytes} {a : Area} {id : Id} {at : ℕ} (w : FoundIn s a id at) {ok : Bool} {y : Seen} (x : ReadsRec false s at ok (y .size) y) (g : AdmitArgs) (same : g .id ≡ id) where
+  it : SeenIn false s at ok (y .size) y (w .r)
+  it = met (w .here) x
+
+  found-is : find (named? (g .id)) (w .q .recs) ≡ some (w .r)
+  found-is = ap (λ k. find (named? k) (w .q .recs)) same ∙ w .found
+
+  known-is : {b : Bool} → b ≡ (pending? (y .facts .state) || eqb (y .facts .state) 2) → (pending? (w .r .state) || mined? (w .r)) ≡ b
+  unfolding factsOf
+  known-is {b} e = sym (e ∙ ap (λ k. pending? (k .state) || eqb (k .state) 2) (it .0 .facts))
+
+  module _ {b : Bool} (e : b ≡ (pending? (y .facts .state) || eqb (y .facts .state) 2)) (next out : Bytes) where
+    pub known-4 : {n : ℕ} → b ≡ true → n ≡ entryLen y → length out < n → FoundTold s g (outcome (Refused 4) next out) next out
+    known-4 {n} t l k q f = rw (← (one-queue s (w .is) f), found-is, known-is e ∙ t, lt-ltb (length out) (length (entryBytes (w .r))) (omega (arith, entry-size (w .here .0) it)))
+
+    pub known-100 : {out′ : Bytes} {r n : ℕ} → b ≡ true → n ≡ entryLen y → n ≤ length out → Put out 0 (entryAt s at y) (entryLen y) r out′ → FoundTold s g (outcome (Done Nothing) next out′) next out
+    known-100 {out′} t l k p q f =
+        let z : out′ ≡ over (entryBytes (w .r)) out = p .is ∙ ap (splice out 0) (entry-is (w .here .0) it) ∙ sym (over-splice out (entryBytes (w .r)) (omega (arith, entry-size (w .here .0) it))) in
+        rw (← (one-queue s (w .is) f), found-is, known-is e ∙ t, le-ltb (length out) (length (entryBytes (w .r))) (omega (arith, entry-size (w .here .0) it)), z)
+
+    pub known-not : {o : Outcome} → b ≡ false → NewTold s g o next out → FoundTold s g o next out
+    known-not t h q f = rw (← (one-queue s (w .is) f), found-is, known-is e ∙ t) (h (w .q) (w .is))
+
+module _ {s : Bytes} {a : Area} {id : Id} (w : AreaIn s a) {f : Found} (x : FoundAs s f (find (named? id) (listAt (formC false recC) (a .open .head .count) s (a .open .start)))) where
+  pub id-found : f .found ≡ true → FoundIn s a id (f .at)
+  id-found n = let y = x .good n in record { q = w .q; is = w .is; read = w .read; r = y .0; found = ap (find (named? id)) (sym (w .read .store .list)) ∙ y .1; here = y .2 }
+
+  pub id-new : (g : AdmitArgs) (next out : Bytes) {o : Outcome} → g .id ≡ id → f .found ≡ false → NewTold s g o next out → FoundTold s g o next out
+  id-new g next out e n h q k =
+      let z : find (named? (g .id)) (w .q .recs) ≡ none = ap (λ y. find (named? y) (w .q .recs)) e ∙ ap (find (named? id)) (sym (w .read .store .list)) ∙ x .bad n in
+      rw (← (one-queue s (w .is) k), z) (h (w .q) (w .is))
+
+-- ---- 7, 8 and 9
+reached-is : (flag d n : ℕ) → reached? (given flag d) n ≡ (eqb flag 1 && leb d n)
+reached-is flag d n = cases (eqb flag 1) (λ t. rw t) (λ t. rw t)
+
+pub label-is : (flag : ℕ) (label : Bytes) {b : Bool} → b ≡ (eqb flag 1 && ltb 200 (length label)) → b ≡ ltb 200 (labelLen (given flag label))
+label-is flag label {b} e = e ∙ cases (eqb flag 1) (λ t. rw t) (λ t. rw t)
+
+pub asked-in : {x : Asked} {id ins outs bytes label tip : Bytes} {K : ℕ} {b : Bool} → LentIn x id ins outs bytes label tip K → b ≡ ltb 200 (labelLen (given (x .labelflag) label)) → b ≡ false → AskedIn x id ins outs bytes label tip K
+asked-in l e t = record { lent = l .lent; shape = l .shape; few = l .few; short = sym e ∙ t }
+
+module _ (s : Bytes) (x : Asked) (id ins outs bytes label tip : Bytes) (next out : Bytes) {b7 : Bool} (e7 : b7 ≡ (eqb (x .timeflag) 1 && leb (x .time .0) (x .now .0))) where
+  abbrev Args : AdmitArgs
+  Args = argsOf x id ins outs bytes label tip
+
+  is-7 : reached? (given (x .timeflag) (x .time .0)) (x .now .0) ≡ b7
+  is-7 = reached-is (x .timeflag) (x .time .0) (x .now .0) ∙ sym e7
+
+  pub timely-7 : b7 ≡ true → AdmitTold s Args (outcome (Refused 7) next out) next out
+  unfolding admit
+  timely-7 t q e = rw (is-7 ∙ t)
+
+  module _ (f7 : b7 ≡ false) {b8 : Bool} (e8 : b8 ≡ (eqb (x .heightflag) 1 && leb (x .height .0) (x .tipheight .0))) where
+    is-8 : reached? (given (x .heightflag) (x .height .0)) (x .tipheight .0) ≡ b8
+    is-8 = reached-is (x .heightflag) (x .height .0) (x .tipheight .0) ∙ sym e8
+
+    pub timely-8 : b8 ≡ true → AdmitTold s Args (outcome (Refused 8) next out) next out
+    unfolding admit
+    timely-8 t q e = rw (is-7 ∙ f7, is-8 ∙ t)
+
+    module _ (f8 : b8 ≡ false) {b9 : Bool} (e9 : b9 ≡ ltb 200 (labelLen (given (x .labelflag) label))) where
+      pub timely-9 : b9 ≡ true → AdmitTold s Args (outcome (Refused 9) next out) next out
+      unfolding admit
+      timely-9 t q e = rw (is-7 ∙ f7, is-8 ∙ f8, sym e9 ∙ t)
+
+      pub timely : {o : Outcome} → b9 ≡ false → FoundTold s Args o next out → AdmitTold s Args o next out
+      unfolding admit
+      timely t h q e = rw (is-7 ∙ f7, is-8 ∙ f8, sym e9 ∙ t) (h q e)
+
+-- ---- 5 and 6
+pub mod-is : (s : Bytes) {n : ℕ} → n ≡ length (view false s 0) → eqb (n % 32) 0 ≡ whole? 32 s
+unfolding view
+mod-is s e = ap (λ (m : ℕ). eqb (m % 32) 0) e
+
+pub long-is : (s : Bytes) {n : ℕ} → n ≡ length (view false s 0) → eqb n 32 ≡ id? s
+unfolding view
+long-is s e = ap (λ (m : ℕ). eqb m 32) e
+
+pub small-of : (s : Bytes) → readlaws.Small (view false s 0) → Small s
+unfolding view
+small-of s h = small-all s h
+
+and-of : {a a′ b b′ : Bool} → a ≡ a′ → b ≡ b′ → (a && b) ≡ (a′ && b′)
+and-of e f = cc
+
+pub lists-are : (id ins outs : Bytes) {a b c : ℕ} {r u : Bool} → r ≡ (eqb a 32 && u) → u ≡ (eqb (b % 32) 0 && eqb (c % 32) 0)
+    → a ≡ length (view false id 0) → readlaws.Small (view false id 0) → b ≡ length (view false ins 0) → readlaws.Small (view false ins 0) → c ≡ length (view false outs 0) → readlaws.Small (view false outs 0) → ListsAre id ins outs r
+lists-are id ins outs e f la sa lb sb lc sc = (e ∙ and-of (long-is id la) (f ∙ and-of (mod-is ins lb) (mod-is outs lc)), (small-of id sa, small-of ins sb, small-of outs sc))
+
+pub flags-are : (x : Asked) (bytes label tip : Bytes) {c : ℕ} {r d u v : Bool} → r ≡ (d && u) → d ≡ (leb (x .timeflag) 1 && leb (x .heightflag) 1) → u ≡ (leb (x .labelflag) 1 && v) → v ≡ (leb (x .tipflag) 1 && (eqb (x .tipflag) 0 || eqb c 32))
+    → readlaws.Small (view false bytes 0) → readlaws.Small (view false label 0) → c ≡ length (view false tip 0) → readlaws.Small (view false tip 0) → FlagsAre x bytes label tip r
+flags-are x bytes label tip e f g h sb sl lt st =
+    (e ∙ and-of f (g ∙ and-of {a = leb (x .labelflag) 1} refl (h ∙ and-of {a = leb (x .tipflag) 1} refl (ap (λ (k : Bool). eqb (x .tipflag) 0 || k) (long-is tip lt)))), (small-of bytes sb, small-of label sl, small-of tip st))
+
+pub lent-of : {x : Asked} {id ins outs bytes label tip : Bytes} {l f : Bool} → NumbersFit x → ListsAre id ins outs l → FlagsAre x bytes label tip f → AdmitLent (argsOf x id ins outs bytes label tip)
+lent-of n l f = record {
+  id = l .1 .0;
+  inputs = l .1 .1;
+  outputs = l .1 .2;
+  bytes = f .1 .0;
+  now = n .now;
+  time = n .time;
+  height = n .height;
+  priority = n .priority;
+  label = f .1 .1;
+  fee = n .fee;
+  cost = n .cost;
+  tipHeight = n .tipheight;
+  tip = f .1 .2;
+}
+
+pub admit-3 : (cur next out : Bytes) (g : AdmitArgs) → readArea cur ≡ none → outcome (Refused 3) next out ≡ admitOf cur next out g
+unfolding admitOf
+admit-3 cur next out g e = rw e
+
+module _ (cur next out : Bytes) {a : Area} (i : AreaIs cur a) (t : a .ok ≡ true) (x : Asked) (id ins outs bytes label tip : Bytes) where
+  abbrev Given : AdmitArgs
+  Given = argsOf x id ins outs bytes label tip
+
+  pub admit-2 : length next < a .need → outcome (Refused 2) next out ≡ admitOf cur next out Given
+  unfolding admitOf
+  admit-2 h = let g = i .good t in rw (g .1, lt-ltb (length next) (need (g .0 .limits)) (omega (arith, g .2 .need)))
+
+  module _ (h : a .need ≤ length next) {l f r : Bool} (L : ListsAre id ins outs l) (F : FlagsAre x bytes label tip f) (e : r ≡ (l && f)) where
+    enough : ltb (length next) (need (i .good t .0 .limits)) ≡ false
+    enough = le-ltb (length next) (need (i .good t .0 .limits)) (omega (arith, i .good t .2 .need))
+
+    shape-is : admitShape? Given ≡ r
+    shape-is = sym (e ∙ and-of (L .0) (F .0))
+
+    pub admit-5 : r ≡ false → outcome (Refused 5) next out ≡ admitOf cur next out Given
+    unfolding admitOf
+    admit-5 n = let g = i .good t in rw (g .1, enough, shape-is ∙ n)
+
+    module _ (n : r ≡ true) {b : Bool} (k : b ≡ (ltb (a .open .head .k) (length ins / 32) || ltb (a .open .head .k) (length outs / 32))) where
+      over-is : overK? (i .good t .0 .limits .K) Given ≡ b
+      over-is = let u : i .good t .0 .limits .K ≡ a .open .head .k = i .good t .2 .store .head .K in ap (λ v. overK? v Given) u ∙ sym k
+
+      pub admit-6 : b ≡ true → outcome (Refused 6) next out ≡ admitOf cur next out Given
+      unfolding admitOf
+      admit-6 y = let g = i .good t in rw (g .1, enough, shape-is ∙ n, over-is ∙ y)
+
+      pub id-whole : length id ≡ 32
+      id-whole = eqb-true (length id) 32 (and-true (id? id) (whole? 32 ins && whole? 32 outs) (sym (L .0) ∙ and-true l f (sym e ∙ n) .0) .0)
+
+      module _ (y : b ≡ false) {j : Id} (z : j ≡ part 32 (view false id 0) 0) where
+        pub lent-in : NumbersFit x → LentIn x j ins outs bytes label tip (a .open .head .k)
+        lent-in m = rw (key id-whole z) (record { lent = lent-of m L F; shape = shape-is ∙ n; few = sym k ∙ y })
+
+        pub admit-rest : {o : Outcome} → AdmitTold cur (argsOf x j ins outs bytes label tip) o next out → o ≡ admitOf cur next out Given
+        unfolding admitOf
+        admit-rest {o} c =
+            let g = i .good t in
+            let v = c (g .0) (g .1) ∙ ap (λ (u : Id). told entryBytes next out (admit (admission (argsOf x u ins outs bytes label tip)) (g .0))) (key id-whole z) in
+            rw (g .1, enough, shape-is ∙ n, over-is ∙ y) v
+
+pub no-refusal : (s : Bytes) (n : ℕ) {r : ℕ} → RoomIs s n r → r ≡ 0 → RoomIs s n 0
+no-refusal s n m e q f = sym e ∙ m q f

@@ -1,0 +1,22 @@
+use mathlib.Core.Path.{_≡_, refl, sym, ap, _∙_}
+use native.Mathlib.Omega.{arith}
+use mathlib.Core.Bool.{Bool, true, false, _&&_, _||_}
+use Prim.Native.Nat.{ℕ, _≤_, _+_, _-_, _*_, _/_, _<_}
+use lib.Dec.{eqb}
+use borrow.Author.Tests.{not-true, not-false}
+use Rattle.queue.proofs.AdmissionLaws.{label-is}
+use borrow.Author.Needs.{needs}
+use Rattle.queue.proofs.admit.long_label.Statement.{statement}
+use Rattle.queue.proofs.admit.long_label.Tie as tie
+use Rattle.queue.proofs.admit.long_label.Reads as reads
+use Rattle.queue.proofs.admit.long_label.Lts as lts
+use Rattle.queue.proofs.logic.both.Reads as both-reads
+
+both-requires : tie.Need-both-requires
+both-requires c κs = search needs
+
+returns : tie.Need-returns
+returns c = label-is (c .before .before .args .flag) (c .before .before .args .label .now) (c .both .ensures)
+
+pub long-label-spec : {M : Type 1} → statement M
+long-label-spec = tie.close (tie.spec both-requires returns)

@@ -1,0 +1,33 @@
+use mathlib.Core.Path.{_≡_, refl, sym, ap, _∙_}
+use native.Mathlib.Omega.{arith}
+use mathlib.Core.Bool.{Bool, true, false, _&&_, _||_}
+use Prim.Native.Nat.{ℕ, _≤_, _+_, _-_, _*_, _/_, _<_}
+use lib.Dec.{eqb}
+use borrow.Author.Tests.{not-true, not-false}
+use Rattle.queue.proofs.CallLaws.{view-long}
+use Rattle.queue.proofs.AdmissionLaws.{tip-own, tip-asked, tip-none}
+use borrow.Author.Needs.{needs}
+use Rattle.queue.proofs.admit.tip_for.Statement.{statement}
+use Rattle.queue.proofs.admit.tip_for.Tie as tie
+use Rattle.queue.proofs.admit.tip_for.Reads as reads
+use Rattle.queue.proofs.admit.tip_for.Lts as lts
+use Rattle.queue.proofs.view.id_at.Reads as id-at-reads
+use Rattle.queue.proofs.write.tip_at.Reads as tip-at-reads
+
+tip-at-requires : tie.Need-tip-at-requires
+tip-at-requires c κs = c .before .before .before .before .before .pre .0
+
+returns : tie.Need-returns
+returns c = tip-own (c .before .before .before .before .before .before .args .s .now) (c .before .before .before .before .before .before .args .h) (c .tip-at .result) (c .before .before .before .before .before .before .args .x) (c .before .before .before .before .before .before .args .tip .now) (c .before .before .if1 .taken) (c .tip-at .ensures)
+
+id-at-requires : tie.Need-id-at-requires
+id-at-requires c κs = omega (arith, view-long (c .before .before .before .before .before .before .before .args .tip .now), c .before .before .before .before .before .before .before .pre .1 (c .if2 .taken))
+
+returns-2 : tie.Need-returns-2
+returns-2 c = tip-asked (c .before .before .before .before .before .before .before .before .args .s .now) (c .before .before .before .before .before .before .before .before .args .h) (c .before .before .before .before .before .before .before .before .args .x) (c .before .before .before .before .before .before .before .before .args .tip .now) (c .before .before .before .before .if1 .left) (c .before .if2 .taken) (c .before .before .before .before .before .before .before .before .pre .1 (c .before .if2 .taken)) (c .id-at .ensures)
+
+returns-3 : tie.Need-returns-3
+returns-3 c = tip-none (c .before .before .before .before .before .before .before .args .s .now) (c .before .before .before .before .before .before .before .args .h) (c .before .before .before .before .before .before .before .args .x) (c .before .before .before .before .before .before .before .args .tip .now) (c .before .before .before .if1 .left) (c .if2 .left)
+
+pub tip-for-spec : {M : Type 1} → statement M
+tip-for-spec = tie.close (tie.spec tip-at-requires returns id-at-requires returns-2 returns-3)
