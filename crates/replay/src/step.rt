@@ -4,6 +4,7 @@ use super::text::copy;
 use super::text::fill;
 use super::text::filled;
 use super::text::least;
+use super::text::length_at;
 use super::text::letter;
 use super::text::number;
 use super::text::number_8;
@@ -14,6 +15,7 @@ use super::text::rest;
 use super::text::say;
 use super::text::say_bytes;
 use super::text::say_number;
+use pokerbox::pokerbox_admit;
 use pokerbox::pokerbox_cancel;
 use pokerbox::pokerbox_confirmations;
 use pokerbox::pokerbox_deadline_due;
@@ -85,10 +87,48 @@ impl Lent {
 
 // ---- calls
 
+// What has one length stands first, then the lengths of the other six, then these.
+fn admit(a: &[u8], cur: &[u8], next: &mut [u8], out: &mut [u8]) -> u64 {
+    let id = length_at(a, 48);
+    let inputs = length_at(a, 50);
+    let outputs = length_at(a, 52);
+    let signed = length_at(a, 54);
+    let label = length_at(a, 56);
+    let tip = length_at(a, 58);
+    let b = 60 + id;
+    let c = b + inputs;
+    let d = c + outputs;
+    let e = d + signed;
+    let f = e + label;
+    pokerbox_admit(
+        cur,
+        next,
+        part(a, 60, id),
+        part(a, b, inputs),
+        part(a, c, outputs),
+        part(a, d, signed),
+        number(a, 0, 8),
+        number_8(a, 8),
+        number(a, 9, 8),
+        number_8(a, 17),
+        number_32(a, 18),
+        number_32(a, 22),
+        number_8(a, 26),
+        part(a, e, label),
+        number(a, 27, 8),
+        number(a, 35, 8),
+        number_32(a, 43),
+        number_8(a, 47),
+        part(a, f, tip),
+        out,
+    )
+}
+
 // A changing call.
 fn change(op: u8, a: &[u8], cur: &[u8], next: &mut [u8], out: &mut [u8]) -> u64 {
     match op {
         b'c' => pokerbox_cancel(cur, next, a, out),
+        b'd' => admit(a, cur, next, out),
         b'e' => pokerbox_expire(cur, next, number(a, 0, 8), number_32(a, 8), out),
         b'r' => pokerbox_reopen(cur, next, a),
         _ => pokerbox_set_cursor(cur, next, number_32(a, 0), number_8(a, 4), rest(a, 5)),
@@ -282,7 +322,7 @@ fn call(op: u8, a: &[u8], lent: Lent, cur: &mut [u8], next: &mut [u8], stored: &
         b'b' => put(a, next),
         b'k' => put(next, cur),
         b'f' | b'o' => made(op, a, lent, cur, stored),
-        b'c' | b'e' | b'r' | b's' | b'u' => moved(op, a, lent, cur, next),
+        b'c' | b'd' | b'e' | b'r' | b's' | b'u' => moved(op, a, lent, cur, next),
         _ => looked(op, a, lent, cur),
     }
 }

@@ -5,7 +5,7 @@ use queue::put::put_text;
 use queue::view::be;
 use queue::view::size;
 use queue::view::wide;
-ghost use Prim.Native.Nat.{_≤_};
+ghost use Prim.Native.Nat.{_≤_, _<_};
 ghost use lib.ListN.{length};
 
 // The next byte of the input; 256 at its end.
@@ -97,6 +97,13 @@ pub fn number_32(a: &[u8], at: usize) -> u32 {
 
 pub fn number_8(a: &[u8], at: usize) -> u8 {
     (number(a, at, 1) % 256) as u8
+}
+
+// A length of 2 bytes.
+pub fn length_at(a: &[u8], at: usize) -> usize
+    ensures { λ r. ⌜ r < 65536 ⌝ }
+{
+    (number(a, at, 2) % 65536) as usize
 }
 
 // Every byte becomes b.

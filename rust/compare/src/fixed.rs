@@ -5,6 +5,7 @@ use std::collections::{BTreeMap, BTreeSet};
 use std::fmt::Write as _;
 use std::path::Path;
 
+use model::calls::AdmitArgs;
 use model::random::{self, Rng};
 use model::rules::{Admission, Reconciliation};
 use model::{area, calls, image, Height, Id, Limits, Queue, Record, State, TimeMs};
@@ -26,7 +27,7 @@ const AREA: usize = 8_192;
 const IMAGE: usize = 16_384;
 
 /// The numbers that each step has to meet.
-const TO_MEET: [(char, &[u64]); 24] = [
+const TO_MEET: [(char, &[u64]); 25] = [
     ('f', &[1, 2, 100]),
     ('o', &[2, 16, 100]),
     ('v', &[3, 100]),
@@ -34,6 +35,7 @@ const TO_MEET: [(char, &[u64]); 24] = [
     ('q', &[3, 100]),
     ('s', &[2, 3, 5, 17, 100]),
     ('c', &[2, 3, 4, 5, 13, 14, 15, 100, 102]),
+    ('d', &[2, 3, 4, 5, 6, 7, 8, 9, 10, 11, 12, 100, 102]),
     ('e', &[2, 3, 4, 15, 100, 102]),
     ('r', &[2, 3, 5, 100, 102]),
     ('u', &[2, 3, 5, 101]),
@@ -470,7 +472,8 @@ fn longer(rng: &mut Rng, answer: &[u8]) -> Vec<u8> {
 /// The letter of an exported changing call. Of the others the list gives the next area; their arguments are ready below.
 fn letter(call: &Call) -> Option<char> {
     match call {
-        Call::Admit(_) | Call::Reconcile(_) => None,
+        Call::Admit(_) => Some('d'),
+        Call::Reconcile(_) => None,
         Call::Cancel(_) => Some('c'),
         Call::Expire(..) => Some('e'),
         Call::Reopen(_) => Some('r'),
@@ -492,12 +495,14 @@ fn arguments(call: &Call) -> Vec<u8> {
     }
 }
 
-/// What has one length, then the lengths of the rest, then the rest.
 fn admission(given: &Admission) -> Vec<u8> {
     let (inputs, outputs) = (given.inputs.concat(), given.outputs.concat());
-    let args = admit_args(given, &inputs, &outputs);
-    let mut bytes = args.id.to_vec();
-    bytes.extend(args.now.to_be_bytes());
+    admission_bytes(&admit_args(given, &inputs, &outputs))
+}
+
+/// What has one length, then the lengths of the rest, then the rest.
+fn admission_bytes(args: &AdmitArgs<'_>) -> Vec<u8> {
+    let mut bytes = args.now.to_be_bytes().to_vec();
     bytes.push(args.time_flag);
     bytes.extend(args.time.to_be_bytes());
     bytes.push(args.height_flag);
@@ -508,10 +513,16 @@ fn admission(given: &Admission) -> Vec<u8> {
     bytes.extend(args.cost.to_be_bytes());
     bytes.extend(args.tip_height.to_be_bytes());
     bytes.push(args.tip_flag);
-    put_lists(
-        &mut bytes,
-        &[args.tip, args.inputs, args.outputs, args.signed, args.label],
-    );
+    let AdmitArgs {
+        id,
+        inputs,
+        outputs,
+        signed,
+        label,
+        tip,
+        ..
+    } = *args;
+    put_lists(&mut bytes, &[id, inputs, outputs, signed, label, tip]);
     bytes
 }
 
@@ -607,6 +618,16 @@ impl Lent<'_> {
             _ => calls::set_cursor(cur, next, number_32(a), a[4], &a[5..]),
         };
         self.fixed.output(letter, a, number, &out);
+        number
+    }
+
+    fn admit(&mut self, length: usize, args: &AdmitArgs<'_>) -> u64 {
+        let [cur, next, _] = self.lengths;
+        let (cur, next) = (&self.cur[..cur], &mut self.next[..next]);
+        next.fill(UNTOUCHED);
+        let mut out = vec![UNTOUCHED; length];
+        let number = calls::admit(cur, next, args, &mut out);
+        self.fixed.output('d', &admission_bytes(args), number, &out);
         number
     }
 
@@ -706,6 +727,7 @@ impl Lent<'_> {
     fn every_call(&mut self, length: usize, id: &Id) {
         self.sound();
         self.image('q');
+        self.admit(length, &known(id));
         self.change('c', length, id);
         self.change('e', length, &moment(5, 5));
         self.change('r', 0, id);
@@ -717,6 +739,29 @@ impl Lent<'_> {
             self.value(letter, &reading_arguments(letter, id));
         }
         self.signed(id);
+    }
+}
+
+/// The admission of this id with nothing else.
+fn known(id: &Id) -> AdmitArgs<'_> {
+    AdmitArgs {
+        id,
+        inputs: &[],
+        outputs: &[],
+        signed: &[],
+        now: 5,
+        time_flag: 0,
+        time: 0,
+        height_flag: 0,
+        height: 0,
+        priority: 0,
+        label_flag: 0,
+        label: &[],
+        fee: 0,
+        cost: 0,
+        tip_height: 0,
+        tip_flag: 0,
+        tip: &[],
     }
 }
 
@@ -814,9 +859,62 @@ fn shapes(lent: &mut Lent<'_>, bytes: &[u8], id: &Id) {
         let tip = [&[0, 0, 0, 1, 1][..], &vec![7; length]].concat();
         lent.change('u', 0, &tip);
     }
+    admissions(lent, id, &long);
     lent.put('b', bytes);
     for (kind, outcome) in [(0, 0), (1, 1), (4, 0), (2, 2), (3, 2)] {
         lent.settle(kind, outcome);
+    }
+}
+
+/// Each wrong by itself: 5, and 6 for one more than K.
+fn admissions(lent: &mut Lent<'_>, id: &Id, long: &[u8]) {
+    let right = known(id);
+    let many = [*id; 3].concat();
+    for wrong in [
+        AdmitArgs { id: long, ..right },
+        AdmitArgs {
+            id: &id[..31],
+            ..right
+        },
+        AdmitArgs {
+            inputs: long,
+            ..right
+        },
+        AdmitArgs {
+            outputs: &id[..31],
+            ..right
+        },
+        AdmitArgs {
+            time_flag: 2,
+            ..right
+        },
+        AdmitArgs {
+            height_flag: 255,
+            ..right
+        },
+        AdmitArgs {
+            label_flag: 2,
+            ..right
+        },
+        AdmitArgs {
+            tip_flag: 2,
+            ..right
+        },
+        AdmitArgs {
+            tip_flag: 1,
+            tip: long,
+            ..right
+        },
+        AdmitArgs {
+            inputs: &many,
+            ..right
+        },
+        AdmitArgs {
+            outputs: &many,
+            ..right
+        },
+    ] {
+        lent.admit(0, &wrong);
     }
 }
 
@@ -831,6 +929,12 @@ fn short_outputs(lent: &mut Lent<'_>, bytes: &[u8], text: &[u8], id: &Id) {
         lent.read(letter, length - 1, &a);
         lent.read(letter, length, &a);
     }
+    let length = shortest(|length| {
+        let mut silent = Fixed::default();
+        silent_lent(&mut silent, bytes).admit(length, &known(id))
+    });
+    lent.admit(length - 1, &known(id));
+    lent.admit(length, &known(id));
     for (letter, a) in [('c', id.to_vec()), ('e', moment(5, 5))] {
         let length = shortest(|length| {
             let mut silent = Fixed::default();
