@@ -19,3 +19,6 @@ pub mod FindLaws
 pub mod ReopenLaws
 pub mod AdmissionLaws
 pub mod AdmitLaws
+pub mod ReserveLaws
+pub mod StandLaws
+pub mod SnapshotLaws

@@ -13,6 +13,7 @@ pub mod pieces;
 pub mod put;
 pub mod reading;
 pub mod reopen;
+pub mod reserved;
 pub mod rules;
 pub mod scan;
 pub mod select;
