@@ -389,6 +389,21 @@ impl<'a> Bench<'a> {
             raw::guarded_ids(area, out),
             oracle.guarded_ids()
         );
+        reading!(
+            "reserved_inputs",
+            raw::reserved_inputs(area, out),
+            oracle.reserved_inputs()
+        );
+        reading!(
+            "reservation_snapshot",
+            raw::reservation_snapshot(area, out),
+            oracle.reservation_snapshot()
+        );
+        reading!(
+            "guard_snapshot",
+            raw::guard_snapshot(area, out),
+            oracle.guard_snapshot()
+        );
         reading!("list", raw::list(area, out), oracle.list());
         reading!("entry", raw::entry(area, &id, out), oracle.entry(&text));
         reading!(
