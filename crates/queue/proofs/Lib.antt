@@ -3,6 +3,7 @@ pub mod FrameLaws
 pub mod PutLaws
 pub mod Turns
 pub mod ScanLaws
+pub mod FilterLaws
 pub mod OpenLaws
 pub mod ByteLaws
 pub mod FinishLaws

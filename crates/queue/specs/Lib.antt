@@ -12,6 +12,7 @@ pub mod Forms
 pub mod Areas
 pub mod Facts
 pub mod Rules
+pub mod Filter
 pub mod Opens
 pub mod Plain
 pub mod Order
