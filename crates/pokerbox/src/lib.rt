@@ -23,12 +23,15 @@ use queue::reading::observed_height;
 use queue::reading::revision;
 use queue::reading::signed_place;
 use queue::reopen::reopen;
+use queue::reserved::guard_snapshot;
+use queue::reserved::reservation_snapshot;
+use queue::reserved::reserved_inputs;
 use queue::select::selection_at;
 ghost use mathlib.Core.Path.{_≡_};
 ghost use mathlib.Core.List.{[]};
 ghost use Prim.Native.Nat.{_≤_};
 ghost use Rattle.queue.specs.Opens.{limits};
-ghost use Rattle.queue.specs.paper.Calls.{number, kindNumber, freshOf, soundOf, admitArgs, admitOf, cancelOf, expireOf, reopenOf, setCursorOf, settleOf, entryOf, selectionAtOf, recordIdsOf, guardedIdsOf, listOf, confirmationsOf, dueOf, observationCursorOf, revisionOf, observedHeightOf, isEmptyOf, deadlineDueOf};
+ghost use Rattle.queue.specs.paper.Calls.{number, kindNumber, freshOf, soundOf, admitArgs, admitOf, cancelOf, expireOf, reopenOf, setCursorOf, settleOf, entryOf, selectionAtOf, recordIdsOf, guardedIdsOf, reservedInputsOf, reservationSnapshotOf, guardSnapshotOf, listOf, confirmationsOf, dueOf, observationCursorOf, revisionOf, observedHeightOf, isEmptyOf, deadlineDueOf};
 ghost use Rattle.image.specs.paper.Image.{imageOf, openOf};
 ghost use Rattle.pokerbox.specs.paper.Exports.{given, ofOutcome, ofWritten, ofImaged, ofNumbered, Placed};
 
@@ -240,6 +243,30 @@ pub extern "C" fn pokerbox_guarded_ids(area: &[u8], out: &mut [u8]) -> u64
     ensures { λ r. ⌜ (r, now (out .exit)) ≡ ofWritten (guardedIdsOf (now (area .entry)) (now (out .entry))) ⌝ }
 {
     number(guarded_ids(area, out))
+}
+
+// The input ids of all records, rising, each once. 3, 4.
+#[no_mangle]
+pub extern "C" fn pokerbox_reserved_inputs(area: &[u8], out: &mut [u8]) -> u64
+    ensures { λ r. ⌜ (r, now (out .exit)) ≡ ofWritten (reservedInputsOf (now (area .entry)) (now (out .entry))) ⌝ }
+{
+    number(reserved_inputs(area, out))
+}
+
+// The revision, and the reserved inputs. 3, 4.
+#[no_mangle]
+pub extern "C" fn pokerbox_reservation_snapshot(area: &[u8], out: &mut [u8]) -> u64
+    ensures { λ r. ⌜ (r, now (out .exit)) ≡ ofWritten (reservationSnapshotOf (now (area .entry)) (now (out .entry))) ⌝ }
+{
+    number(reservation_snapshot(area, out))
+}
+
+// The ids of the holders, and the reserved inputs. 3, 4.
+#[no_mangle]
+pub extern "C" fn pokerbox_guard_snapshot(area: &[u8], out: &mut [u8]) -> u64
+    ensures { λ r. ⌜ (r, now (out .exit)) ≡ ofWritten (guardSnapshotOf (now (area .entry)) (now (out .entry))) ⌝ }
+{
+    number(guard_snapshot(area, out))
 }
 
 // The entries of all records. 3, 4.

@@ -71,12 +71,12 @@ first-below i (x ∷ l) (suc j) r h =
     let u = and-true (below? i x) (rise? (x ∷ l)) r in
     below-trans i x (getD l j []) (u .0) (first-below x l j (u .1) (le-of-suc-le-suc h))
 
-rest-rises : (i : Id) (l : List Id) → rise? (i ∷ l) ≡ true → rise? l ≡ true
+pub rest-rises : (i : Id) (l : List Id) → rise? (i ∷ l) ≡ true → rise? l ≡ true
 unfolding rise?
 rest-rises i [] r = refl
 rest-rises i (x ∷ l) r = and-true (below? i x) (rise? (x ∷ l)) r .1
 
-rising-at : (l : List Id) (i j : ℕ) → rise? l ≡ true → i < j → j < length l → below? (getD l i []) (getD l j []) ≡ true
+pub rising-at : (l : List Id) (i j : ℕ) → rise? l ≡ true → i < j → j < length l → below? (getD l i []) (getD l j []) ≡ true
 rising-at [] i j r p h = absurd (let y : ⊥ = omega arith in y)
 rising-at (x ∷ l) i zero r p h = absurd (let y : ⊥ = omega arith in y)
 rising-at (x ∷ l) zero (suc j) r p h = first-below x l j r (le-of-suc-le-suc h)
@@ -115,7 +115,7 @@ module _ {z : Id} {l : List Id} {lo hi : ℕ} (g : Finding z l lo hi) where
     at-here : cmpL z y ≡ 1 → true ≡ among? z l
     at-here e = is-among z l m (let w = g .within in omega arith) (ap (cmpL z) (sym q) ∙ e)
 
-    at-low : cmpL z y ≡ 0 → Finding z l lo m
+    pub at-low : cmpL z y ≡ 0 → Finding z l lo m
     at-low e = record {
       within = let w = g .within in omega arith;
       low = g .low;
@@ -130,7 +130,7 @@ module _ {z : Id} {l : List Id} {lo hi : ℕ} (g : Finding z l lo hi) where
         eqb-0 : (i : ℕ) → below? z (getD l i []) ≡ true → cmpL z (getD l i []) ≡ 0
         eqb-0 i t = eqb-true (cmpL z (getD l i [])) 0 t
 
-    at-high : (cmpL z y ≡ 0 → ⊥) → (cmpL z y ≡ 1 → ⊥) → Finding z l (m + 1) hi
+    pub at-high : (cmpL z y ≡ 0 → ⊥) → (cmpL z y ≡ 1 → ⊥) → Finding z l (m + 1) hi
     at-high a b = record {
       within = g .within;
       low = λ i k. cases (ltb i m)

@@ -3,6 +3,7 @@ pub mod FrameLaws
 pub mod PutLaws
 pub mod Turns
 pub mod ScanLaws
+pub mod FilterLaws
 pub mod OpenLaws
 pub mod ByteLaws
 pub mod FinishLaws
@@ -19,3 +20,6 @@ pub mod FindLaws
 pub mod ReopenLaws
 pub mod AdmissionLaws
 pub mod AdmitLaws
+pub mod ReserveLaws
+pub mod StandLaws
+pub mod SnapshotLaws

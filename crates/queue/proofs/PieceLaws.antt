@@ -238,7 +238,7 @@ pub ids-told : (s out : Bytes) → toldPieces Ids s out ≡ recordIdsOf s out
 unfolding toldPieces recordIdsOf answerBytes idsBytes
 ids-told s out = reads-same (λ q. answerBytes Ids (q .recs)) (λ q. idsBytes (reading.recordIds q)) s out (λ q. let i = ids-each (q .recs) in glue (i .0) (i .1))
 
-guarded-each : (l : List Rec) → (count (passes? Guarded) l ≡ length (map (λ r. r .id) (filter holder? l))) × (piecesOf Guarded l ≡ concat (map (λ r. r .id) (filter holder? l)))
+pub guarded-each : (l : List Rec) → (count (passes? Guarded) l ≡ length (map (λ r. r .id) (filter holder? l))) × (piecesOf Guarded l ≡ concat (map (λ r. r .id) (filter holder? l)))
 unfolding passesF pieceOf piecesOf factsOf
 guarded-each [] = (refl, refl)
 guarded-each (r ∷ l) = let i = guarded-each l in cases (holder? r)

@@ -1,6 +1,6 @@
 -- Each loop's turn and end, over plain values. Assumes nothing.
 use mathlib.Core.Path.{_≡_, refl, ap, sym, _∙_}
-use mathlib.Core.Bool.{Bool, true, false, cond, not, _&&_, _||_}
+use mathlib.Core.Bool.{Bool, true, false, cond, not, _&&_}
 use mathlib.Core.List.{List, [], _∷_, _++_}
 use Prim.Native.Nat.{ℕ, zero, suc, _+_, _-_, _*_, _≤_, _<_}
 use native.Mathlib.Omega.{arith}
@@ -21,7 +21,7 @@ use Rattle.queue.specs.Areas.{zero?}
 use Rattle.queue.specs.paper.Records.{Bytes, Id, Rec}
 use Rattle.queue.specs.paper.Lists.{any?, total, count}
 use Rattle.queue.specs.paper.Ids.{cmpL}
-use Rattle.queue.specs.paper.Sound.{holder?, inputs, rising?, stamped?, distinct?, among?, used?, clash?, apart?}
+use Rattle.queue.specs.paper.Sound.{rising?, stamped?, among?, used?, clash?}
 use Rattle.queue.specs.declared.frame.Seen.{Seen}
 use Rattle.queue.specs.declared.rules.Query.{Query}
 use Rattle.queue.specs.declared.rules.Query.the-variants.{Stamped}
@@ -107,6 +107,9 @@ module _ (hex : Bool) {s : Bytes} {n at i left : ℕ} {p₀ p : Id} (x : Scan (f
   rise-end z = end x z
 
 -- ---- searches: no state
+unfoldable pub nothingF : Unit {0} → List Rec → Unit {0}
+nothingF u l = u
+
 unfoldable pub amongF : Id → Unit {0} → List Id → Bool
 amongF x u l = among? x l
 
@@ -155,58 +158,10 @@ module _ (l : List Rec) {v : Bytes} {n at i left : ℕ} (x : Scan idC (clashF l)
   unfolding clash? clashF
   clash-end e = end x e
 
-unfoldable pub apartF : Unit {0} → List Rec → Bool
-apartF u l = apart? l
-
-module _ (hex : Bool) {s : Bytes} {n at i left : ℕ} (x : Scan (formC hex recC) apartF s n at tt i left tt) where
-  pub apart-go : {m j : ℕ} {ok b : Bool} {y : Seen} → 0 < left → ReadsRec hex s i ok m y → j ≡ afterIn hex s i m → b ≡ clash? (listAt idC (y .facts .ins) (view hex s i) (y .at)) (listAt (formC hex recC) (left - 1) s j) → b ≡ false → Scan (formC hex recC) apartF s n at tt j (left - 1) tt
-  unfolding apart? apartF
-  apart-go h r g e f = let t = see hex x h r g in on x tt h t (rw (← (t .is .0 .insList), ← e, f))
-
-  pub apart-stop : {m j : ℕ} {ok b : Bool} {y : Seen} → 0 < left → ReadsRec hex s i ok m y → j ≡ afterIn hex s i m → b ≡ clash? (listAt idC (y .facts .ins) (view hex s i) (y .at)) (listAt (formC hex recC) (left - 1) s j) → b ≡ true → false ≡ apart? (listAt (formC hex recC) n s at)
-  unfolding apart? apartF
-  apart-stop h r g e f = let t = see hex x h r g in stop x t (rw (← (t .is .0 .insList), ← e, f))
-
-  pub apart-end : left ≡ 0 → true ≡ apart? (listAt (formC hex recC) n s at)
-  unfolding apart? apartF
-  apart-end e = end x e
-
--- ---- distinct finish numbers
-unfoldable pub distinctF : Unit {0} → List Rec → Bool
-distinctF u l = distinct? l
-
+-- ---- tombstones with a finish number
 pub stamped-sum : (n : ℕ) (l : List Rec) → sum (Stamped (record { 0 = n })) l ≡ count (stamped? n) l
 unfolding sum weight factsOf stampedF
 stamped-sum n l = refl
-
-module _ (hex : Bool) {s : Bytes} {n at i left : ℕ} (x : Scan (formC hex recC) distinctF s n at tt i left tt) where
-  holds : {m : ℕ} {ok : Bool} {y : Seen} (h : 0 < left) (r : ReadsRec hex s i ok m y) → holder? (seen hex x h r .item) ≡ y .facts .holder
-  unfolding factsOf
-  holds h r = sym (ap (λ v. v .holder) (seen hex x h r .is .0 .facts))
-
-  stamp : {m : ℕ} {ok : Bool} {y : Seen} (h : 0 < left) (r : ReadsRec hex s i ok m y) → seen hex x h r .item .finish ≡ y .facts .finish .0
-  unfolding factsOf
-  stamp h r = sym (ap (λ v. v .finish .0) (seen hex x h r .is .0 .facts))
-
-  step : {m : ℕ} {ok : Bool} {y : Seen} (h : 0 < left) (r : ReadsRec hex s i ok m y) (j : ℕ) → distinct? (seen hex x h r .item ∷ listAt (formC hex recC) (left - 1) s j) ≡ ((y .facts .holder || eqb (sum (Stamped (y .facts .finish)) (listAt (formC hex recC) (left - 1) s j)) 0) && distinct? (listAt (formC hex recC) (left - 1) s j))
-  unfolding distinct?
-  step {y = y} h r j = rw (holds h r, stamp h r, stamped-sum (y .facts .finish .0) (listAt (formC hex recC) (left - 1) s j))
-
-  pub distinct-held : {m j : ℕ} {ok : Bool} {y : Seen} → 0 < left → ReadsRec hex s i ok m y → j ≡ afterIn hex s i m → y .facts .holder ≡ true → Scan (formC hex recC) distinctF s n at tt j (left - 1) tt
-  unfolding distinctF
-  distinct-held {j = j} h r g e = rw g (on x tt h (seen hex x h r) (step h r (afterIn hex s i _) ∙ rw e))
-
-  pub distinct-go : {m j k : ℕ} {ok : Bool} {y : Seen} → 0 < left → ReadsRec hex s i ok m y → j ≡ afterIn hex s i m → y .facts .holder ≡ false → k ≡ sum (Stamped (y .facts .finish)) (listAt (formC hex recC) (left - 1) s j) → k ≡ 0 → Scan (formC hex recC) distinctF s n at tt j (left - 1) tt
-  unfolding distinctF
-  distinct-go {m} {j} {k} {ok} {y} h r g e f z = rw g (on x tt h (seen hex x h r) (step h r (afterIn hex s i _) ∙ rw (e, eq-eqb (sum (Stamped (y .facts .finish)) (listAt (formC hex recC) (left - 1) s (afterIn hex s i m))) 0 (ap (λ w. sum (Stamped (y .facts .finish)) (listAt (formC hex recC) (left - 1) s w)) (sym g) ∙ sym f ∙ z))))
-
-  pub distinct-stop : {m j k : ℕ} {ok : Bool} {y : Seen} → 0 < left → ReadsRec hex s i ok m y → j ≡ afterIn hex s i m → y .facts .holder ≡ false → k ≡ sum (Stamped (y .facts .finish)) (listAt (formC hex recC) (left - 1) s j) → (k ≡ 0 → ⊥) → false ≡ distinct? (listAt (formC hex recC) n s at)
-  unfolding distinctF
-  distinct-stop {m} {j} {k} {ok} {y} h r g e f z = stop x (seen hex x h r) (step h r (afterIn hex s i _) ∙ rw (e, ne-eqb (sum (Stamped (y .facts .finish)) (listAt (formC hex recC) (left - 1) s (afterIn hex s i m))) 0 (λ w. z (f ∙ ap (λ w. sum (Stamped (y .facts .finish)) (listAt (formC hex recC) (left - 1) s w)) g ∙ w))))
-
-  pub distinct-end : left ≡ 0 → true ≡ distinct? (listAt (formC hex recC) n s at)
-  unfolding distinct? distinctF
-  distinct-end e = end x e
 
 -- ---- zeros
 zero-cut : (s : Bytes) (i to : ℕ) → i < to → to ≤ length s → zero? (take (to - i) (drop i s)) ≡ cond (eqb (getD s i 0) 0) (zero? (take (to - (i + 1)) (drop (i + 1) s))) false

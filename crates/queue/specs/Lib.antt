@@ -12,6 +12,7 @@ pub mod Forms
 pub mod Areas
 pub mod Facts
 pub mod Rules
+pub mod Filter
 pub mod Opens
 pub mod Plain
 pub mod Order
@@ -33,3 +34,4 @@ pub mod CallsAs
 pub mod PiecesAs
 pub mod Reopens
 pub mod Admitting
+pub mod Reserving

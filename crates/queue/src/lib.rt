@@ -3,6 +3,7 @@
 pub mod admit;
 pub mod area;
 pub mod calls;
+pub mod filter;
 pub mod finish;
 pub mod forms;
 pub mod frame;
@@ -13,6 +14,7 @@ pub mod pieces;
 pub mod put;
 pub mod reading;
 pub mod reopen;
+pub mod reserved;
 pub mod rules;
 pub mod scan;
 pub mod select;

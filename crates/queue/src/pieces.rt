@@ -110,7 +110,7 @@ fn size_if(a: bool, n: usize) -> usize
 }
 
 // How many of the n records at `at` pass, and how long their pieces are.
-fn measure(s: &[u8], at: usize, n: u64, w: What) -> Sizes
+pub fn measure(s: &[u8], at: usize, n: u64, w: What) -> Sizes
     requires { ⌜ (at ≤ length (now s)) × (whole (formC false recC) n (now s) at ≡ true) × (n < 4294967296) ⌝ }
     ensures { λ r. ⌜ MeasureAs w (listAt (formC false recC) n (now (s .entry)) at) n r ⌝ }
 {
@@ -133,7 +133,7 @@ fn measure(s: &[u8], at: usize, n: u64, w: What) -> Sizes
     }
 }
 
-fn put_pieces(s: &[u8], from: usize, n: u64, w: What, dst: &mut [u8], at: usize) -> usize
+pub fn put_pieces(s: &[u8], from: usize, n: u64, w: What, dst: &mut [u8], at: usize) -> usize
     requires { ⌜ (from ≤ length (now s)) × (whole (formC false recC) n (now s) from ≡ true) × (at + length (piecesOf w (listAt (formC false recC) n (now s) from)) ≤ length (now dst)) ⌝ }
     ensures { λ r. ⌜ Put (now (dst .entry)) at (piecesOf w (listAt (formC false recC) n (now (s .entry)) from)) (length (piecesOf w (listAt (formC false recC) n (now (s .entry)) from))) r (now (dst .exit)) ⌝ }
 {

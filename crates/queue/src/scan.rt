@@ -1,10 +1,13 @@
-// Loops over the records of a queue, as bytes or as lines of text. Each is one pass; `at` is where the first of n records stands.
+// Loops over the records of a queue, as bytes or as lines of text; `at` is where the first of n records stands.
+use super::filter::hash;
+use super::filter::mark;
+use super::filter::seen;
 use super::forms::after_in;
 use super::forms::ends_line;
-use super::frame::Finish;
+use super::frame::Facts;
 use super::frame::id_read;
 use super::frame::rec_at;
-use super::logic::both;
+use super::logic::one_if;
 use super::rules::Query;
 use super::rules::weigh;
 use super::view::cmp_id;
@@ -16,9 +19,11 @@ ghost use Rattle.queue.specs.Frames.{recC, idC};
 ghost use Rattle.queue.specs.Forms.{formC, Many};
 ghost use Rattle.queue.specs.View.{view};
 ghost use Rattle.queue.specs.Reads.{whole, listAt};
-ghost use Rattle.queue.specs.Rules.{sum};
+ghost use Rattle.queue.specs.Rules.{sum, stampedF};
+ghost use Rattle.queue.specs.Filter.{hashL, heldBy, numbered, Passed};
+ghost use Rattle.queue.specs.paper.Ids.{same?};
 ghost use Rattle.queue.specs.Areas.{zero?};
-ghost use Rattle.queue.specs.paper.Sound.{rising?, distinct?, among?, used?, clash?, apart?};
+ghost use Rattle.queue.specs.paper.Sound.{rising?, distinct?, among?, used?, apart?};
 
 pub struct Span {
     pub ok: bool,
@@ -88,25 +93,49 @@ pub fn rising(s: &[u8], hex: bool, at: usize, n: u64) -> bool
     true
 }
 
-pub fn distinct(s: &[u8], hex: bool, at: usize, n: u64) -> bool
-    requires { ⌜ (at ≤ length (now s)) × (whole (formC hex recC) n (now s) at ≡ true) × (n < 4294967296) ⌝ }
+// Is the finish number of a tombstone one of two or more? Only a number that the filter has is counted; another is marked.
+fn repeated(s: &[u8], hex: bool, at: usize, n: u64, f: Facts, t: &mut [u64]) -> bool
+    requires { ⌜ (at ≤ length (now s)) × (whole (formC hex recC) n (now s) at ≡ true) × (n < 4294967296) × (0 < length (now t)) ⌝ }
+    ensures { λ r. ⌜ Passed (λ k. stampedF k f) (λ k. k) (numbered (listAt (formC hex recC) n (now (s .entry)) at)) (now (t .entry)) r (now (t .exit)) ⌝ }
+{
+    if f.holder {
+        return false;
+    }
+    let m = f.finish;
+    let h = m.0;
+    if seen(t, h) {
+        let c = tally(s, hex, at, n, Query::Stamped(m));
+        return 1 < c;
+    }
+    mark(t, h);
+    false
+}
+
+// Whatever t holds: what it holds too much only costs time.
+fn distinct_by(s: &[u8], hex: bool, at: usize, n: u64, t: &mut [u64]) -> bool
+    requires { ⌜ (at ≤ length (now s)) × (whole (formC hex recC) n (now s) at ≡ true) × (n < 4294967296) × (0 < length (now t)) ⌝ }
     ensures { λ r. ⌜ r ≡ distinct? (listAt (formC hex recC) n (now (s .entry)) at) ⌝ }
 {
     let mut i = at;
     let mut left = n;
     while 0 < left {
         let x = rec_at(s, hex, i);
+        let f = x.facts;
+        if repeated(s, hex, at, n, f, t) {
+            return false;
+        }
         i = after_in(s, hex, i, x.size);
         left = left - 1;
-        let f = x.facts;
-        if !f.holder {
-            let m = f.finish;
-            if tally(s, hex, i, left, Query::Stamped(m)) != 0 {
-                return false;
-            }
-        }
     }
     true
+}
+
+pub fn distinct(s: &[u8], hex: bool, at: usize, n: u64) -> bool
+    requires { ⌜ (at ≤ length (now s)) × (whole (formC hex recC) n (now s) at ≡ true) × (n < 4294967296) ⌝ }
+    ensures { λ r. ⌜ r ≡ distinct? (listAt (formC hex recC) n (now (s .entry)) at) ⌝ }
+{
+    let mut t = [0u64; 2048];
+    distinct_by(s, hex, at, n, &mut t)
 }
 
 // Is the id one of the n ids at offset `at` of the frame at base?
@@ -146,17 +175,59 @@ pub fn used_in(s: &[u8], hex: bool, at: usize, n: u64, id: [u8; 32]) -> bool
     false
 }
 
-// Is one of the m ids at offset `ids` of the frame at base an input of one of the n records at `at`?
-pub fn clashes(s: &[u8], hex: bool, base: usize, ids: usize, m: u64, at: usize, n: u64) -> bool
-    requires { ⌜ (at ≤ length (now s)) × (whole (formC hex recC) n (now s) at ≡ true) × (ids ≤ length (view hex (now s) base)) × (whole idC m (view hex (now s) base) ids ≡ true) ⌝ }
-    ensures { λ r. ⌜ r ≡ clash? (listAt idC m (view hex (now (s .entry)) base) ids) (listAt (formC hex recC) n (now (s .entry)) at) ⌝ }
+// How many of the n records at `at` have the input id?
+fn held_by(s: &[u8], hex: bool, at: usize, n: u64, id: [u8; 32]) -> u64
+    requires { ⌜ (at ≤ length (now s)) × (whole (formC hex recC) n (now s) at ≡ true) ⌝ }
+    ensures { λ r. ⌜ r ≡ heldBy (listAt (formC hex recC) n (now (s .entry)) at) id ⌝ }
+{
+    let mut i = at;
+    let mut left = n;
+    let mut total: u64 = 0;
+    while 0 < left {
+        let x = rec_at(s, hex, i);
+        let f = x.facts;
+        let b = has_id(s, hex, i, x.at, f.ins, id);
+        total = total + one_if(b);
+        i = after_in(s, hex, i, x.size);
+        left = left - 1;
+    }
+    total
+}
+
+// Is the id in two or more records? Only an id that the filter has is looked for; another is marked.
+fn shared(s: &[u8], hex: bool, at: usize, n: u64, id: [u8; 32], t: &mut [u64]) -> bool
+    requires { ⌜ (at ≤ length (now s)) × (whole (formC hex recC) n (now s) at ≡ true) × (0 < length (now t)) ⌝ }
+    ensures { λ r. ⌜ Passed (same? id) hashL (heldBy (listAt (formC hex recC) n (now (s .entry)) at)) (now (t .entry)) r (now (t .exit)) ⌝ }
+{
+    let h = hash(id);
+    if seen(t, h) {
+        let c = held_by(s, hex, at, n, id);
+        return 1 < c;
+    }
+    mark(t, h);
+    false
+}
+
+// Is one of the m ids at offset `ids` of the frame at base in two or more records?
+fn any_shared(
+    s: &[u8],
+    hex: bool,
+    at: usize,
+    n: u64,
+    base: usize,
+    ids: usize,
+    m: u64,
+    t: &mut [u64],
+) -> bool
+    requires { ⌜ (at ≤ length (now s)) × (whole (formC hex recC) n (now s) at ≡ true) × (ids ≤ length (view hex (now s) base)) × (whole idC m (view hex (now s) base) ids ≡ true) × (0 < length (now t)) ⌝ }
+    ensures { λ r. ⌜ Passed (λ z. among? z (listAt idC m (view hex (now (s .entry)) base) ids)) hashL (heldBy (listAt (formC hex recC) n (now (s .entry)) at)) (now (t .entry)) r (now (t .exit)) ⌝ }
 {
     let mut i = ids;
     let mut left = m;
     while 0 < left {
         let x = id_read(s, hex, base, i);
         let id = x.id;
-        if used_in(s, hex, at, n, id) {
+        if shared(s, hex, at, n, id, t) {
             return true;
         }
         i = x.next;
@@ -165,23 +236,31 @@ pub fn clashes(s: &[u8], hex: bool, base: usize, ids: usize, m: u64, at: usize, 
     false
 }
 
-pub fn apart(s: &[u8], hex: bool, at: usize, n: u64) -> bool
-    requires { ⌜ (at ≤ length (now s)) × (whole (formC hex recC) n (now s) at ≡ true) ⌝ }
+// Whatever t holds: what it holds too much only costs time.
+fn apart_by(s: &[u8], hex: bool, at: usize, n: u64, t: &mut [u64]) -> bool
+    requires { ⌜ (at ≤ length (now s)) × (whole (formC hex recC) n (now s) at ≡ true) × (0 < length (now t)) ⌝ }
     ensures { λ r. ⌜ r ≡ apart? (listAt (formC hex recC) n (now (s .entry)) at) ⌝ }
 {
     let mut i = at;
     let mut left = n;
     while 0 < left {
         let x = rec_at(s, hex, i);
-        let j = after_in(s, hex, i, x.size);
-        left = left - 1;
         let f = x.facts;
-        if clashes(s, hex, i, x.at, f.ins, j, left) {
+        if any_shared(s, hex, at, n, i, x.at, f.ins, t) {
             return false;
         }
-        i = j;
+        i = after_in(s, hex, i, x.size);
+        left = left - 1;
     }
     true
+}
+
+pub fn apart(s: &[u8], hex: bool, at: usize, n: u64) -> bool
+    requires { ⌜ (at ≤ length (now s)) × (whole (formC hex recC) n (now s) at ≡ true) ⌝ }
+    ensures { λ r. ⌜ r ≡ apart? (listAt (formC hex recC) n (now (s .entry)) at) ⌝ }
+{
+    let mut t = [0u64; 2048];
+    apart_by(s, hex, at, n, &mut t)
 }
 
 pub fn zeros(s: &[u8], from: usize, to: usize) -> bool

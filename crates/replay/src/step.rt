@@ -23,6 +23,7 @@ use pokerbox::pokerbox_due;
 use pokerbox::pokerbox_entry;
 use pokerbox::pokerbox_expire;
 use pokerbox::pokerbox_fresh;
+use pokerbox::pokerbox_guard_snapshot;
 use pokerbox::pokerbox_guarded_ids;
 use pokerbox::pokerbox_image;
 use pokerbox::pokerbox_is_empty;
@@ -32,6 +33,8 @@ use pokerbox::pokerbox_observed_height;
 use pokerbox::pokerbox_open;
 use pokerbox::pokerbox_record_ids;
 use pokerbox::pokerbox_reopen;
+use pokerbox::pokerbox_reservation_snapshot;
+use pokerbox::pokerbox_reserved_inputs;
 use pokerbox::pokerbox_revision;
 use pokerbox::pokerbox_selection_entries;
 use pokerbox::pokerbox_selection_entries_at;
@@ -146,6 +149,9 @@ fn read(op: u8, a: &[u8], cur: &[u8], out: &mut [u8]) -> u64 {
         b'N' => pokerbox_entry(cur, a, out),
         b'S' => pokerbox_selection_entries(cur, out),
         b'T' => pokerbox_selection_entries_at(cur, number(a, 0, 8), number_32(a, 8), out),
+        b'X' => pokerbox_reserved_inputs(cur, out),
+        b'Y' => pokerbox_reservation_snapshot(cur, out),
+        b'Z' => pokerbox_guard_snapshot(cur, out),
         _ => pokerbox_due(cur, number(a, 0, 8), number_32(a, 8), out),
     }
 }

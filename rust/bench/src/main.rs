@@ -6,7 +6,7 @@ use std::path::{Path, PathBuf};
 use std::time::{Duration, Instant};
 
 use compare::oracle::{hex, options_of, pool_entry, register, set_limits, whole_store};
-use compare::side::{Library, Reading, Side};
+use compare::side::{Library, Side};
 use compare::unit::admit_args;
 use model::calls::ReconcileArgs;
 use model::random::nth_id;
@@ -521,6 +521,21 @@ impl<'a> Bench<'a> {
             raw::guarded_ids(area, out),
             oracle.guarded_ids()
         );
+        reading!(
+            "reserved_inputs",
+            raw::reserved_inputs(area, out),
+            oracle.reserved_inputs()
+        );
+        reading!(
+            "reservation_snapshot",
+            raw::reservation_snapshot(area, out),
+            oracle.reservation_snapshot()
+        );
+        reading!(
+            "guard_snapshot",
+            raw::guard_snapshot(area, out),
+            oracle.guard_snapshot()
+        );
         reading!("list", raw::list(area, out), oracle.list());
         reading!("entry", raw::entry(area, &id, out), oracle.entry(&text));
         reading!(
@@ -534,29 +549,6 @@ impl<'a> Bench<'a> {
             oracle.selection_entries_at(DUE, 0)
         );
         reading!("due", raw::due(area, DUE, 0, out), oracle.due(DUE, 0));
-        /// A reading call that may not be exported yet.
-        macro_rules! reading_if_exported {
-            ($reading:expr, $oracle:expr) => {
-                if is_exported($reading.name()) {
-                    rows.push(Row {
-                        work: $reading.name().into(),
-                        library: Some(median(
-                            || (),
-                            || assert_eq!(Library.read($reading, area, out), Some(100)),
-                        )),
-                        oracle: Some(median(
-                            || (),
-                            || {
-                                black_box($oracle);
-                            },
-                        )),
-                    });
-                }
-            };
-        }
-        reading_if_exported!(Reading::ReservedInputs, oracle.reserved_inputs());
-        reading_if_exported!(Reading::ReservationSnapshot, oracle.reservation_snapshot());
-        reading_if_exported!(Reading::GuardSnapshot, oracle.guard_snapshot());
         inspect::set_whole_store(oracle, self.mined_store.clone());
         reading!(
             "confirmations (one)",

@@ -7,7 +7,7 @@ use std::path::Path;
 
 use model::calls::AdmitArgs;
 use model::random::{self, Rng};
-use model::rules::{Admission, Reconciliation};
+use model::rules::{reserved_inputs, Admission, Reconciliation};
 use model::{area, calls, image, Height, Id, Limits, Queue, Record, State, TimeMs};
 
 use crate::generate;
@@ -21,13 +21,13 @@ use crate::unit::{admit_args, applied_bytes, optional_id, UNTOUCHED};
 pub const REPLAY: &str = "../../crates/replay";
 
 const LISTS: u64 = 36;
-const EVENTS: usize = 9;
+const EVENTS: usize = 7;
 /// What the program has of each area, and of an image.
 const AREA: usize = 8_192;
 const IMAGE: usize = 16_384;
 
 /// The numbers that each step has to meet.
-const TO_MEET: [(char, &[u64]); 25] = [
+const TO_MEET: [(char, &[u64]); 28] = [
     ('f', &[1, 2, 100]),
     ('o', &[2, 16, 100]),
     ('v', &[3, 100]),
@@ -53,6 +53,9 @@ const TO_MEET: [(char, &[u64]); 25] = [
     ('S', &[3, 4, 100]),
     ('T', &[3, 4, 100]),
     ('U', &[3, 4, 100]),
+    ('X', &[3, 4, 100]),
+    ('Y', &[3, 4, 100]),
+    ('Z', &[3, 4, 100]),
 ];
 
 /// The list and the answers.
@@ -250,7 +253,7 @@ impl<'a> List<'a> {
         Ok(())
     }
 
-    /// Exported calls, and reopened records, are met more often than in other lists.
+    /// Exported calls, reopened records, reserved inputs and cursor writes are met more often than in other lists.
     fn event(&self, rng: &mut Rng) -> Event {
         let queue = self.oracle.queue();
         let mut event = generate::event(rng, &queue);
@@ -260,9 +263,26 @@ impl<'a> List<'a> {
             }
         }
         if let Event::Call(call, _) = &mut event {
-            if matches!(**call, Call::Reopen(_)) && rng.once_in(2) {
-                let mined = queue.records.iter().filter(|record| record.mined.is_some());
-                **call = Call::Reopen(mined.map(|record| record.id).collect());
+            match &mut **call {
+                Call::Reopen(ids) if rng.once_in(2) => {
+                    let mined = queue.records.iter().filter(|record| record.mined.is_some());
+                    *ids = mined.map(|record| record.id).collect();
+                }
+                // An input of another record, and nothing else to refuse.
+                Call::Admit(given) if rng.once_in(4) => {
+                    given.inputs = reserved_inputs(&queue).into_iter().take(1).collect();
+                    given.signed.clear();
+                    given.label = None;
+                    (given.time_deadline, given.height_deadline) = (None, None);
+                }
+                // No record changes, and a cursor write is due.
+                Call::Reconcile(given) if rng.once_in(3) => {
+                    given.applied.clear();
+                    given.caught_up = false;
+                    given.window = u32::MAX;
+                    given.height = Height(queue.persisted.0.saturating_add(32));
+                }
+                _ => {}
             }
         }
         event
@@ -405,11 +425,8 @@ impl<'a> List<'a> {
     fn readings(&mut self, rng: &mut Rng) {
         let (now, height) = (random::time(rng).0, random::height(rng).0);
         for reading in Reading::all(now, height) {
-            let Some(letter) = reading_letter(reading) else {
-                continue;
-            };
-            if rng.once_in(6) {
-                self.reading(rng, letter, reading);
+            if rng.once_in(8) {
+                self.reading(rng, reading_letter(reading), reading);
             }
         }
         if rng.once_in(3) {
@@ -549,28 +566,29 @@ fn moment(now: u64, height: u32) -> Vec<u8> {
     [&now.to_be_bytes()[..], &height.to_be_bytes()].concat()
 }
 
-/// The letter of an exported reading call.
-fn reading_letter(reading: Reading) -> Option<char> {
+fn reading_letter(reading: Reading) -> char {
     match reading {
-        Reading::Revision => Some('R'),
-        Reading::IsEmpty => Some('E'),
-        Reading::DeadlineDue(..) => Some('D'),
-        Reading::ObservedHeight => Some('H'),
-        Reading::ObservationCursor => Some('C'),
-        Reading::RecordIds => Some('I'),
-        Reading::GuardedIds => Some('G'),
-        Reading::ReservedInputs | Reading::ReservationSnapshot | Reading::GuardSnapshot => None,
-        Reading::List => Some('L'),
-        Reading::SelectionEntries => Some('S'),
-        Reading::SelectionEntriesAt(..) => Some('T'),
-        Reading::Due(..) => Some('U'),
-        Reading::Confirmations => Some('F'),
+        Reading::Revision => 'R',
+        Reading::IsEmpty => 'E',
+        Reading::DeadlineDue(..) => 'D',
+        Reading::ObservedHeight => 'H',
+        Reading::ObservationCursor => 'C',
+        Reading::RecordIds => 'I',
+        Reading::GuardedIds => 'G',
+        Reading::ReservedInputs => 'X',
+        Reading::ReservationSnapshot => 'Y',
+        Reading::GuardSnapshot => 'Z',
+        Reading::List => 'L',
+        Reading::SelectionEntries => 'S',
+        Reading::SelectionEntriesAt(..) => 'T',
+        Reading::Due(..) => 'U',
+        Reading::Confirmations => 'F',
     }
 }
 
 // ---- refusals that the oracle has not, by the model
 
-const READINGS: [char; 9] = ['C', 'F', 'G', 'I', 'L', 'N', 'S', 'T', 'U'];
+const READINGS: [char; 12] = ['C', 'F', 'G', 'I', 'L', 'N', 'S', 'T', 'U', 'X', 'Y', 'Z'];
 const VALUES: [char; 4] = ['D', 'E', 'H', 'R'];
 
 /// What the program has: two areas, an image, and how much of each it lends.
@@ -644,6 +662,9 @@ impl Lent<'_> {
             'N' => calls::entry(cur, a, o),
             'S' => calls::selection_entries(cur, o),
             'T' => calls::selection_entries_at(cur, number_64(a), number_32(&a[8..]), o),
+            'X' => calls::reserved_inputs(cur, o),
+            'Y' => calls::reservation_snapshot(cur, o),
+            'Z' => calls::guard_snapshot(cur, o),
             _ => calls::due(cur, number_64(a), number_32(&a[8..]), o),
         };
         self.fixed.output(letter, a, number, &out);

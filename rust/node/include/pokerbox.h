@@ -131,6 +131,18 @@ uint64_t pokerbox_record_ids(const uint8_t *area, size_t area_len, uint8_t *out,
 /* A count of 4 bytes and the ids of the holders, rising. */
 uint64_t pokerbox_guarded_ids(const uint8_t *area, size_t area_len, uint8_t *out, size_t out_len);
 
+/* A count of 4 bytes and the input ids of all records, rising, each once. */
+uint64_t pokerbox_reserved_inputs(const uint8_t *area, size_t area_len, uint8_t *out,
+                                  size_t out_len);
+
+/* The revision, 8 bytes, then as pokerbox_reserved_inputs. */
+uint64_t pokerbox_reservation_snapshot(const uint8_t *area, size_t area_len, uint8_t *out,
+                                       size_t out_len);
+
+/* As pokerbox_guarded_ids, then as pokerbox_reserved_inputs. */
+uint64_t pokerbox_guard_snapshot(const uint8_t *area, size_t area_len, uint8_t *out,
+                                 size_t out_len);
+
 /* A count of 4 bytes and the entries of all records, by id. */
 uint64_t pokerbox_list(const uint8_t *area, size_t area_len, uint8_t *out, size_t out_len);
 
@@ -149,12 +161,6 @@ uint64_t pokerbox_reconcile(const uint8_t *cur, size_t cur_len, uint8_t *next, s
                             const uint8_t *applied, size_t applied_len, uint8_t caught_up,
                             const uint8_t *available, size_t available_len, uint32_t window,
                             uint8_t *out, size_t out_len);
-uint64_t pokerbox_reserved_inputs(const uint8_t *area, size_t area_len, uint8_t *out,
-                                  size_t out_len);
-uint64_t pokerbox_reservation_snapshot(const uint8_t *area, size_t area_len, uint8_t *out,
-                                       size_t out_len);
-uint64_t pokerbox_guard_snapshot(const uint8_t *area, size_t area_len, uint8_t *out,
-                                 size_t out_len);
 
 */
 

@@ -13,7 +13,7 @@ use model::random::{self, Rng};
 use model::{area, calls, image, Limits, Queue, State};
 use pokerbox::raw;
 
-/// The power of two above 64 KiB, which is enough; 32 KiB is not.
+/// The power of two above 96 KiB, which is enough; 64 KiB is not.
 const STACK: usize = 1 << 17;
 
 fn stack() -> usize {
@@ -112,7 +112,7 @@ fn small_queues() {
     }
 }
 
-/// Some hundred records, some of them with up to 128 inputs. The time of the area's check grows
+/// Some hundred records, some of them with up to 128 inputs. The time of the area's check can grow
 /// with the square of the number of inputs, so that most have few.
 #[test]
 fn large_limits() {

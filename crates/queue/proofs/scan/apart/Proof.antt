@@ -1,67 +1,24 @@
-use mathlib.Core.Path.{_≡_, refl, sym, ap, _∙_}
-use native.Mathlib.Omega.{arith}
-use mathlib.Core.Bool.{Bool, true, false, _&&_}
-use Prim.Native.Nat.{ℕ, _≤_, _+_, _-_, _*_, _<_}
-use lib.ListN.{length, take, drop}
-use Rattle.queue.specs.Frames.{recC, idC}
-use Rattle.queue.specs.Forms.{formC}
-use Rattle.queue.specs.View.{view}
-use Rattle.queue.proofs.Turns.{Scan, start, here, seen, see}
-use Rattle.queue.proofs.ScanLaws.{apartF, apart-go, apart-stop, apart-end}
+use native.Mathlib.Nat.{zero-lt-suc}
 use borrow.Author.Needs.{needs}
 use Rattle.queue.proofs.scan.apart.Statement.{statement}
 use Rattle.queue.proofs.scan.apart.Tie as tie
 use Rattle.queue.proofs.scan.apart.Reads as reads
 use Rattle.queue.proofs.scan.apart.Lts as lts
-use Rattle.queue.proofs.forms.after_in.Reads as after-in-reads
-use Rattle.queue.proofs.frame.rec_at.Reads as rec-at-reads
-use Rattle.queue.proofs.scan.clashes.Reads as clashes-reads
+use Rattle.queue.proofs.scan.apart_by.Reads as apart-by-reads
 
-abbrev Inv-loop : tie.InvT-loop
-Inv-loop s hex at n i₀ left₀ i left = Scan (formC hex recC) apartF s n at tt i left tt
+slice-aggregate-apart-by : tie.Need-slice-aggregate-apart-by
+slice-aggregate-apart-by c = search needs
 
-abbrev μ-loop : tie.MeasureT-loop
-μ-loop s hex at n i₀ left₀ i left = left
+apart-by-requires : tie.Need-apart-by-requires
+apart-by-requires c κs = (c .before .before .pre .0, c .before .before .pre .1, zero-lt-suc _)
 
-loop-holds : tie.Need-loop-holds Inv-loop μ-loop
-loop-holds c = start (formC (c .before .args .hex) recC) _ _ _ _ _ (c .before .pre .0) (c .before .pre .1)
-
-rec-at-requires : tie.Need-rec-at-requires Inv-loop μ-loop
-rec-at-requires c κs = search needs
-
-after-in-requires : tie.Need-after-in-requires Inv-loop μ-loop
-after-in-requires c κs = seen (c .before .before .before .before .args .hex) (c .before .before .loop .inv) (c .before .loop-test .taken) (c .rec-at .ensures) .is .1 .within
-
-sub-left : tie.Need-sub-left Inv-loop μ-loop
-sub-left c = search needs
-
-clashes-requires : tie.Need-clashes-requires Inv-loop μ-loop
-clashes-requires c κs = let t = see (c .before .before .before .before .before .before .args .hex) (c .before .before .before .before .loop .inv) (c .before .before .before .loop-test .taken) (c .before .before .rec-at .ensures) (c .before .after-in .ensures) in (t .within, t .rest, t .is .0 .insIn, t .is .0 .insAll)
-
-returns : tie.Need-returns Inv-loop μ-loop
-returns c = apart-stop (c .before .before .before .before .before .before .before .before .args .hex) (c .before .before .before .before .before .before .loop .inv) (c .before .before .before .before .before .loop-test .taken) (c .before .before .before .before .rec-at .ensures) (c .before .before .before .after-in .ensures) (c .before .clashes .ensures) (c .if1 .taken)
-
-loop-less : tie.Need-loop-less Inv-loop μ-loop
-loop-less c = search needs
-
-loop-again : tie.Need-loop-again Inv-loop μ-loop
-loop-again c = apart-go (c .before .before .before .before .before .before .before .before .args .hex) (c .before .before .before .before .before .before .loop .inv) (c .before .before .before .before .before .loop-test .taken) (c .before .before .before .before .rec-at .ensures) (c .before .before .before .after-in .ensures) (c .before .clashes .ensures) (c .if1 .left)
-
-returns-2 : tie.Need-returns-2 Inv-loop μ-loop
-returns-2 c = apart-end (c .before .before .before .args .hex) (c .before .loop .inv) (omega arith)
+returns : tie.Need-returns
+returns c = search needs
 
 pub apart-spec : {M : Type 1} → statement M
 apart-spec =
     tie.close
     (tie.spec
-    Inv-loop
-    μ-loop
-    loop-holds
-    rec-at-requires
-    after-in-requires
-    sub-left
-    clashes-requires
-    returns
-    loop-less
-    loop-again
-    returns-2)
+    slice-aggregate-apart-by
+    apart-by-requires
+    returns)

@@ -1,0 +1,25 @@
+use mathlib.Core.Path.{_≡_, refl, sym, ap, _∙_}
+use Rattle.pokerbox.specs.paper.Exports.{ofWritten}
+use borrow.Author.Needs.{needs}
+use Rattle.pokerbox.proofs.pokerbox_guard_snapshot.Statement.{statement}
+use Rattle.pokerbox.proofs.pokerbox_guard_snapshot.Tie as tie
+use Rattle.pokerbox.proofs.pokerbox_guard_snapshot.Reads as reads
+use Rattle.pokerbox.proofs.pokerbox_guard_snapshot.Lts as lts
+use Rattle.pokerbox.proofs.number.Reads as number-reads
+use Rattle.queue.proofs.reserved.guard_snapshot.Reads as guard-snapshot-reads
+
+guard-snapshot-requires : tie.Need-guard-snapshot-requires
+guard-snapshot-requires c κs = search needs
+
+number-requires : tie.Need-number-requires
+number-requires c κs = search needs
+
+same-length : tie.Need-same-length
+same-length c = search needs
+
+returns : tie.Need-returns
+returns c = rw (c .number .ensures) (ap ofWritten (c .before .before .before .guard-snapshot .ensures))
+
+pub pokerbox-guard-snapshot-spec : {M : Type 1} → statement M
+pokerbox-guard-snapshot-spec =
+    tie.close (tie.spec guard-snapshot-requires number-requires same-length returns)

@@ -1,0 +1,21 @@
+use mathlib.Core.Path.{_≡_, refl, sym, ap, _∙_}
+use Rattle.queue.specs.Filter.{maskL}
+use borrow.Author.Needs.{needs}
+use Rattle.queue.proofs.filter.mask.Statement.{statement}
+use Rattle.queue.proofs.filter.mask.Tie as tie
+use Rattle.queue.proofs.filter.mask.Reads as reads
+use Rattle.queue.proofs.filter.mask.Lts as lts
+use Rattle.queue.proofs.filter.bit.Reads as bit-reads
+
+bit-requires : tie.Need-bit-requires
+bit-requires c κs = search needs
+
+bit-requires-2 : tie.Need-bit-requires-2
+bit-requires-2 c κs = search needs
+
+returns : tie.Need-returns
+unfolding maskL
+returns c = simp (c .before .bit .ensures, c .bit2 .ensures)
+
+pub mask-spec : {M : Type 1} → statement M
+mask-spec = tie.close (tie.spec bit-requires bit-requires-2 returns)

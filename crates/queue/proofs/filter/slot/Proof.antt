@@ -1,0 +1,18 @@
+use mathlib.Core.Path.{_≡_, refl, sym, ap, _∙_}
+use native.Mathlib.Nat.{mod-lt}
+use Rattle.queue.specs.Filter.{slotL}
+use borrow.Author.Needs.{needs}
+use Rattle.queue.proofs.filter.slot.Statement.{statement}
+use Rattle.queue.proofs.filter.slot.Tie as tie
+use Rattle.queue.proofs.filter.slot.Reads as reads
+use Rattle.queue.proofs.filter.slot.Lts as lts
+
+rem-result : tie.Need-rem-result
+rem-result c = search needs
+
+returns : tie.Need-returns
+unfolding slotL
+returns c = (refl, mod-lt _ (c .pre))
+
+pub slot-spec : {M : Type 1} → statement M
+slot-spec = tie.close (tie.spec rem-result returns)

@@ -1,0 +1,71 @@
+use mathlib.Core.Path.{_≡_, refl, sym, ap, _∙_}
+use native.Mathlib.Omega.{arith}
+use mathlib.Core.Bool.{Bool, true, false, _&&_}
+use Prim.Native.Nat.{ℕ, _≤_, _+_, _-_, _*_, _<_}
+use lib.ListN.{length, take, drop}
+use Rattle.queue.specs.Frames.{recC, idC}
+use Rattle.queue.specs.Forms.{formC}
+use Rattle.queue.specs.Reads.{listAt}
+use Rattle.queue.specs.View.{view}
+use Rattle.queue.specs.Filter.{heldBy}
+use Rattle.queue.proofs.FilterLaws.{Passing, passing, passing-go, passing-stop, passing-end}
+use borrow.Author.Needs.{needs}
+use Rattle.queue.proofs.scan.any_shared.Statement.{statement}
+use Rattle.queue.proofs.scan.any_shared.Tie as tie
+use Rattle.queue.proofs.scan.any_shared.Reads as reads
+use Rattle.queue.proofs.scan.any_shared.Lts as lts
+use Rattle.queue.proofs.frame.id_read.Reads as id-read-reads
+use Rattle.queue.proofs.scan.shared.Reads as shared-reads
+
+abbrev Inv-loop : tie.InvT-loop
+Inv-loop s hex at n base ids m t₀ i₀ left₀ t i left = Passing (heldBy (listAt (formC hex recC) n s at)) (view hex s base) (listAt idC m (view hex s base) ids) t₀ i left t
+
+abbrev μ-loop : tie.MeasureT-loop
+μ-loop s hex at n base ids m t₀ i₀ left₀ t i left = left
+
+loop-holds : tie.Need-loop-holds Inv-loop μ-loop
+loop-holds c = passing _ _ _ _ _ (c .before .before .pre .2) (c .before .before .pre .3)
+
+id-read-requires : tie.Need-id-read-requires Inv-loop μ-loop
+id-read-requires c κs = search needs
+
+shared-requires : tie.Need-shared-requires Inv-loop μ-loop
+shared-requires c κs = (c .before .before .before .before .before .before .before .pre .0, c .before .before .before .before .before .before .before .pre .1, omega (arith, c .before .before .before .before .loop .inv .size, c .before .before .before .before .before .before .before .pre .4))
+
+same-length : tie.Need-same-length Inv-loop μ-loop
+same-length c = search needs
+
+returns : tie.Need-returns Inv-loop μ-loop
+returns c = passing-stop (c .before .before .before .before .before .before .before .before .loop .inv) (c .before .before .before .before .before .before .before .loop-test .taken) (c .before .before .before .before .before .before .id-read .ensures) (c .before .before .before .shared .ensures) (c .if1 .taken)
+
+sub-left : tie.Need-sub-left Inv-loop μ-loop
+sub-left c = search needs
+
+loop-less : tie.Need-loop-less Inv-loop μ-loop
+loop-less c = search needs
+
+loop-again : tie.Need-loop-again Inv-loop μ-loop
+loop-again c = passing-go (c .before .before .before .before .before .before .before .before .loop .inv) (c .before .before .before .before .before .before .before .loop-test .taken) (c .before .before .before .before .before .before .id-read .ensures) (c .before .before .before .shared .ensures) (c .if1 .left)
+
+same-length-2 : tie.Need-same-length-2 Inv-loop μ-loop
+same-length-2 c = search needs
+
+returns-2 : tie.Need-returns-2 Inv-loop μ-loop
+returns-2 c = passing-end (c .before .loop .inv) (omega arith)
+
+pub any-shared-spec : {M : Type 1} → statement M
+any-shared-spec =
+    tie.close
+    (tie.spec
+    Inv-loop
+    μ-loop
+    loop-holds
+    id-read-requires
+    shared-requires
+    same-length
+    returns
+    sub-left
+    loop-less
+    loop-again
+    same-length-2
+    returns-2)

@@ -1,0 +1,77 @@
+use mathlib.Core.Path.{_≡_, refl, sym, ap, _∙_}
+use native.Mathlib.Omega.{arith}
+use mathlib.Core.Bool.{Bool, true, false, _&&_}
+use Prim.Native.Nat.{ℕ, _≤_, _+_, _-_, _*_, _<_}
+use lib.ListN.{length, take, drop}
+use Rattle.queue.specs.Frames.{recC, idC}
+use Rattle.queue.specs.Forms.{formC}
+use Rattle.queue.specs.Reads.{listAt}
+use Rattle.queue.specs.paper.Sound.{stamped?}
+use Rattle.queue.proofs.Turns.{Scan, start, seen}
+use Rattle.queue.proofs.ScanLaws.{nothingF}
+use Rattle.queue.proofs.FilterLaws.{Walk, walk-start, distinct-go, distinct-stop, distinct-end}
+use borrow.Author.Needs.{needs}
+use Rattle.queue.proofs.scan.distinct_by.Statement.{statement}
+use Rattle.queue.proofs.scan.distinct_by.Tie as tie
+use Rattle.queue.proofs.scan.distinct_by.Reads as reads
+use Rattle.queue.proofs.scan.distinct_by.Lts as lts
+use Rattle.queue.proofs.forms.after_in.Reads as after-in-reads
+use Rattle.queue.proofs.frame.rec_at.Reads as rec-at-reads
+use Rattle.queue.proofs.scan.repeated.Reads as repeated-reads
+
+abbrev Inv-loop : tie.InvT-loop
+Inv-loop s hex at n t₀ i₀ left₀ t i left = Scan (formC hex recC) nothingF s n at tt i left tt × Walk stamped? (λ k. k) (listAt (formC hex recC) n s at) (listAt (formC hex recC) left s i) t × (length t ≡ length t₀)
+
+abbrev μ-loop : tie.MeasureT-loop
+μ-loop s hex at n t₀ i₀ left₀ t i left = left
+
+loop-holds : tie.Need-loop-holds Inv-loop μ-loop
+loop-holds c = (start (formC (c .before .before .args .hex) recC) _ _ _ _ _ (c .before .before .pre .0) (c .before .before .pre .1), walk-start _ _ _ _, refl)
+
+rec-at-requires : tie.Need-rec-at-requires Inv-loop μ-loop
+rec-at-requires c κs = search needs
+
+repeated-requires : tie.Need-repeated-requires Inv-loop μ-loop
+repeated-requires c κs = (c .before .before .before .before .before .before .before .pre .0, c .before .before .before .before .before .before .before .pre .1, c .before .before .before .before .before .before .before .pre .2, omega (arith, c .before .before .before .before .loop .inv .2, c .before .before .before .before .before .before .before .pre .3))
+
+same-length : tie.Need-same-length Inv-loop μ-loop
+same-length c = search needs
+
+returns : tie.Need-returns Inv-loop μ-loop
+returns c = distinct-stop (c .before .before .before .before .before .before .before .before .before .before .before .args .hex) (c .before .before .before .before .before .before .before .before .loop .inv .0) (c .before .before .before .before .before .before .before .before .loop .inv .1) (c .before .before .before .before .before .before .before .loop-test .taken) (c .before .before .before .before .before .before .rec-at .ensures) (c .before .before .before .repeated .ensures) (c .if1 .taken)
+
+after-in-requires : tie.Need-after-in-requires Inv-loop μ-loop
+after-in-requires c κs = seen (c .before .before .before .before .before .before .before .before .before .before .before .args .hex) (c .before .before .before .before .before .before .before .before .loop .inv .0) (c .before .before .before .before .before .before .before .loop-test .taken) (c .before .before .before .before .before .before .rec-at .ensures) .is .1 .within
+
+sub-left : tie.Need-sub-left Inv-loop μ-loop
+sub-left c = search needs
+
+loop-less : tie.Need-loop-less Inv-loop μ-loop
+loop-less c = search needs
+
+loop-again : tie.Need-loop-again Inv-loop μ-loop
+loop-again c = let g = distinct-go (c .before .before .before .before .before .before .before .before .before .before .before .before .args .hex) (c .before .before .before .before .before .before .before .before .before .loop .inv .0) (c .before .before .before .before .before .before .before .before .before .loop .inv .1) (c .before .before .before .before .before .before .before .before .loop-test .taken) (c .before .before .before .before .before .before .before .rec-at .ensures) (c .before .before .before .before .repeated .ensures) (c .after-in .ensures) (c .before .if1 .left) in (g .0, g .1, c .before .before .before .before .repeated .ensures .size ∙ c .before .before .before .before .before .before .before .before .before .loop .inv .2)
+
+same-length-2 : tie.Need-same-length-2 Inv-loop μ-loop
+same-length-2 c = search needs
+
+returns-2 : tie.Need-returns-2 Inv-loop μ-loop
+returns-2 c = distinct-end (c .before .before .before .before .args .hex) (c .before .loop .inv .0) (c .before .loop .inv .1) (omega arith)
+
+pub distinct-by-spec : {M : Type 1} → statement M
+distinct-by-spec =
+    tie.close
+    (tie.spec
+    Inv-loop
+    μ-loop
+    loop-holds
+    rec-at-requires
+    repeated-requires
+    same-length
+    returns
+    after-in-requires
+    sub-left
+    loop-less
+    loop-again
+    same-length-2
+    returns-2)

@@ -1,0 +1,72 @@
+use mathlib.Core.Path.{_≡_, refl, sym, ap, _∙_}
+use native.Mathlib.Omega.{arith}
+use mathlib.Core.Bool.{Bool, true, false, _&&_}
+use Prim.Native.Nat.{ℕ, _≤_, _+_, _-_, _*_, _<_}
+use lib.ListN.{length, take, drop}
+use Rattle.queue.specs.Frames.{recC, idC}
+use Rattle.queue.specs.Forms.{formC}
+use Rattle.queue.specs.Reads.{listAt}
+use Rattle.queue.proofs.Turns.{Scan, start, seen}
+use Rattle.queue.proofs.FilterLaws.{heldF, held-go, held-end}
+use borrow.Author.Needs.{needs}
+use Rattle.queue.proofs.scan.held_by.Statement.{statement}
+use Rattle.queue.proofs.scan.held_by.Tie as tie
+use Rattle.queue.proofs.scan.held_by.Reads as reads
+use Rattle.queue.proofs.scan.held_by.Lts as lts
+use Rattle.queue.proofs.forms.after_in.Reads as after-in-reads
+use Rattle.queue.proofs.frame.rec_at.Reads as rec-at-reads
+use Rattle.queue.proofs.logic.one_if.Reads as one-if-reads
+use Rattle.queue.proofs.scan.has_id.Reads as has-id-reads
+
+abbrev Inv-loop : tie.InvT-loop
+Inv-loop s hex at n id i₀ left₀ total₀ i left total = Scan (formC hex recC) (heldF id) s n at 0 i left total × (total + left ≤ n)
+
+abbrev μ-loop : tie.MeasureT-loop
+μ-loop s hex at n id i₀ left₀ total₀ i left total = left
+
+loop-holds : tie.Need-loop-holds Inv-loop μ-loop
+loop-holds c = (start (formC (c .before .args .hex) recC) _ _ _ _ _ (c .before .pre .0) (c .before .pre .1), omega arith)
+
+rec-at-requires : tie.Need-rec-at-requires Inv-loop μ-loop
+rec-at-requires c κs = search needs
+
+has-id-requires : tie.Need-has-id-requires Inv-loop μ-loop
+has-id-requires c κs = let t = seen (c .before .before .before .before .before .args .hex) (c .before .before .before .loop .inv .0) (c .before .before .loop-test .taken) (c .before .rec-at .ensures) in (t .is .0 .insIn, t .is .0 .insAll)
+
+one-if-requires : tie.Need-one-if-requires Inv-loop μ-loop
+one-if-requires c κs = search needs
+
+add-total : tie.Need-add-total Inv-loop μ-loop
+add-total c = omega (arith, c .before .before .before .before .before .loop .inv .1, c .one-if .ensures .1, c .before .before .before .before .loop-test .taken)
+
+after-in-requires : tie.Need-after-in-requires Inv-loop μ-loop
+after-in-requires c κs = seen (c .before .before .before .before .before .before .before .args .hex) (c .before .before .before .before .before .loop .inv .0) (c .before .before .before .before .loop-test .taken) (c .before .before .before .rec-at .ensures) .is .1 .within
+
+sub-left : tie.Need-sub-left Inv-loop μ-loop
+sub-left c = search needs
+
+loop-less : tie.Need-loop-less Inv-loop μ-loop
+loop-less c = search needs
+
+loop-again : tie.Need-loop-again Inv-loop μ-loop
+loop-again c = (held-go (c .before .before .before .before .before .before .before .before .args .hex) _ (c .before .before .before .before .before .before .loop .inv .0) (c .before .before .before .before .before .loop-test .taken) (c .before .before .before .before .rec-at .ensures) (c .after-in .ensures) (c .before .before .has-id .ensures) (c .before .one-if .ensures .0), omega (arith, c .before .before .before .before .before .before .loop .inv .1, c .before .one-if .ensures .1, c .before .before .before .before .before .loop-test .taken))
+
+returns : tie.Need-returns Inv-loop μ-loop
+returns c = held-end (c .before .before .before .args .hex) _ (c .before .loop .inv .0) (omega arith)
+
+pub held-by-spec : {M : Type 1} → statement M
+held-by-spec =
+    tie.close
+    (tie.spec
+    Inv-loop
+    μ-loop
+    loop-holds
+    rec-at-requires
+    has-id-requires
+    one-if-requires
+    add-total
+    after-in-requires
+    sub-left
+    loop-less
+    loop-again
+    returns)

@@ -1,0 +1,47 @@
+-- A filter: numbers marked in a table of bits. It can only say yes too often. And what a pass over records with a filter ensures.
+use mathlib.Core.Path.{_≡_}
+use mathlib.Core.Bool.{Bool, true, false}
+use mathlib.Core.List.{List}
+use Prim.Native.Nat.{ℕ, _+_, _/_, _%_, _^_, _≤_}
+use lib.Dec.{eqb}
+use lib.Bits.{bitOr}
+use lib.ListN.{length, getD, set}
+use Rattle.queue.specs.View.{view}
+use Rattle.queue.specs.ReadLaws.{beAt}
+use Rattle.queue.specs.paper.Records.{Id, Rec}
+use Rattle.queue.specs.paper.Lists.{count}
+use Rattle.queue.specs.paper.Sound.{inputs, among?, stamped?}
+
+-- any place in the table, any bits and any number of an id serve: only speed depends on them
+unfoldable pub slotL : ℕ → ℕ → ℕ
+slotL n h = h % n
+
+unfoldable pub maskL : ℕ → ℕ
+maskL h = bitOr (2 ^ (h / 2048 % 64)) (2 ^ (h / 131072 % 64))
+
+unfoldable pub hashL : Id → ℕ
+hashL x = (beAt 8 (view false x 0) 0 + beAt 8 (view false x 0) 24) % 2 ^ 64 % 8388593
+
+unfoldable pub marked : List ℕ → ℕ → Bool
+marked t h = eqb (bitOr (getD t (slotL (length t) h) 0) (maskL h)) (getD t (slotL (length t) h) 0)
+
+unfoldable pub markL : List ℕ → ℕ → List ℕ
+markL t h = set t (slotL (length t) h) (bitOr (getD t (slotL (length t) h) 0) (maskL h))
+
+-- how many records have x among their inputs, and how many tombstones have the number m
+abbrev pub hasIn : Id → Rec → Bool
+hasIn x r = among? x (inputs (r .body))
+
+unfoldable pub heldBy : List Rec → Id → ℕ
+heldBy l x = count (hasIn x) l
+
+unfoldable pub numbered : List Rec → ℕ → ℕ
+numbered l m = count (stamped? m) l
+
+-- own keys passed: b, and some key counts twice; or every own key is marked now, and counts at most once if it was marked before
+pub record Passed {K : Type 0} (own : K → Bool) (hash H : K → ℕ) (t : List ℕ) (b : Bool) (t′ : List ℕ) : Type 0 where
+  pub size : length t′ ≡ length t
+  pub old : (h : ℕ) → marked t h ≡ true → marked t′ h ≡ true
+  pub two : b ≡ true → (x : K) × (2 ≤ H x)
+  pub one : b ≡ false → (x : K) → own x ≡ true → marked t (hash x) ≡ true → H x ≤ 1
+  pub new : b ≡ false → (x : K) → own x ≡ true → marked t′ (hash x) ≡ true

@@ -1,0 +1,55 @@
+// A filter: numbers marked in a table of bits. It can only say yes too often, so that only speed depends on what is marked where.
+use super::view::be;
+ghost use mathlib.Core.Path.{_≡_};
+ghost use Prim.Native.Nat.{_<_, _^_};
+ghost use lib.ListN.{length};
+ghost use Rattle.queue.specs.Filter.{slotL, maskL, hashL, marked, markL};
+
+fn bit(k: u64) -> u64
+    requires { ⌜ k < 64 ⌝ }
+    ensures { λ r. ⌜ r ≡ 2 ^ k ⌝ }
+{
+    1u64 << k
+}
+
+fn mask(h: u64) -> u64
+    ensures { λ r. ⌜ r ≡ maskL h ⌝ }
+{
+    bit(h / 2048 % 64) | bit(h / 131072 % 64)
+}
+
+fn slot(n: usize, h: u64) -> usize
+    requires { ⌜ 0 < n ⌝ }
+    ensures { λ r. ⌜ (r ≡ slotL n h) × (r < n) ⌝ }
+{
+    h as usize % n
+}
+
+pub fn seen(t: &[u64], h: u64) -> bool
+    requires { ⌜ 0 < length (now t) ⌝ }
+    ensures { λ r. ⌜ r ≡ marked (now (t .entry)) h ⌝ }
+{
+    let i = slot(t.len(), h);
+    let m = mask(h);
+    let w = t[i];
+    (w | m) == w
+}
+
+pub fn mark(t: &mut [u64], h: u64)
+    requires { ⌜ 0 < length (now t) ⌝ }
+    ensures { λ _. ⌜ now (t .exit) ≡ markL (now (t .entry)) h ⌝ }
+{
+    let i = slot(t.len(), h);
+    let m = mask(h);
+    let w = t[i];
+    t[i] = w | m;
+}
+
+// A number of an id: its first and its last 8 bytes added, modulo the largest prime below 2 ^ 23.
+pub fn hash(id: [u8; 32]) -> u64
+    ensures { λ r. ⌜ r ≡ hashL id ⌝ }
+{
+    let a = be(&id, false, 0, 0, 8);
+    let b = be(&id, false, 0, 24, 8);
+    std::num::wrapping_add_u64(a, b) % 8388593
+}
