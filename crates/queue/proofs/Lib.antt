@@ -19,3 +19,4 @@ pub mod FindLaws
 pub mod ReopenLaws
 pub mod AdmissionLaws
 pub mod AdmitLaws
+pub mod TouchLaws

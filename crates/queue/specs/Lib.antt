@@ -33,3 +33,4 @@ pub mod CallsAs
 pub mod PiecesAs
 pub mod Reopens
 pub mod Admitting
+pub mod Touching

@@ -16,6 +16,7 @@ pub mod reopen;
 pub mod rules;
 pub mod scan;
 pub mod select;
+pub mod touch;
 pub mod view;
 pub mod write;
 
