@@ -20,3 +20,4 @@ pub mod ReopenLaws
 pub mod AdmissionLaws
 pub mod AdmitLaws
 pub mod TouchLaws
+pub mod ReleaseLaws

@@ -69,7 +69,7 @@ module _ (t : Bytes) (p : ℕ) where
   unfolding part view
   entry-id = take-take 32 68 (drop p t) (omega arith)
 
-  entry-height : p + 68 ≤ length t → entryIn t p .height ≡ beAt 4 (view false t 0) (p + 32)
+  pub entry-height : p + 68 ≤ length t → entryIn t p .height ≡ beAt 4 (view false t 0) (p + 32)
   unfolding view
   entry-height h =
       ap (λ (l : Bytes). beVal (take 4 l)) (drop-take 32 36 (drop p t)) ∙ ap beVal (take-take 4 36 (drop 32 (drop p t)) (omega arith)) ∙ ap (λ (l : Bytes). beVal (take 4 l)) (drop-drop 32 p t)

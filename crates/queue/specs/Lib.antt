@@ -34,3 +34,4 @@ pub mod PiecesAs
 pub mod Reopens
 pub mod Admitting
 pub mod Touching
+pub mod Releasing
