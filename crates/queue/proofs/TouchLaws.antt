@@ -47,7 +47,7 @@ val-snoc (c ∷ l) b =
     let p : c * 256 ^ suc (length l) ≡ c * 256 ^ length l * 256 = ap (λ (k : ℕ). c * k) (pow-succ' 256 (length l) ∙ mul-comm 256 (256 ^ length l)) ∙ sym (mul-assoc c (256 ^ length l) 256) in
     ap (λ (k : ℕ). c * 256 ^ k + beVal (l ++ (b ∷ []))) n ∙ omega arith
 
-be-val : (n : ℕ) (s : Bytes) (at : ℕ) → at + n ≤ length s → beAt n s at ≡ beVal (take n (drop at s))
+pub be-val : (n : ℕ) (s : Bytes) (at : ℕ) → at + n ≤ length s → beAt n s at ≡ beVal (take n (drop at s))
 unfolding beAt beVal
 be-val zero s at h = refl
 be-val (suc n) s at h =
@@ -55,7 +55,7 @@ be-val (suc n) s at h =
     let t = take-suc (drop at s) n 0 (omega (arith, length-drop at s)) in
     sym (ap beVal t ∙ val-snoc (take n (drop at s)) (getD (drop at s) n 0) ∙ ap (λ (k : ℕ). beVal (take n (drop at s)) * 256 + k) (getD-drop at s n 0) ∙ ap (λ (k : ℕ). k * 256 + getD s (at + n) 0) (sym i))
 
-drop-take : (a n : ℕ) (l : Bytes) → drop a (take (a + n) l) ≡ take n (drop a l)
+pub drop-take : (a n : ℕ) (l : Bytes) → drop a (take (a + n) l) ≡ take n (drop a l)
 drop-take zero n l = ap (λ (k : ℕ). take k l) (zero-add n)
 drop-take (suc a) n [] = ap (λ (k : ℕ). drop {A = ℕ} (suc a) (take k [])) (suc-add a n) ∙ go n
   where

@@ -12,6 +12,7 @@ pub mod logic;
 pub mod pieces;
 pub mod put;
 pub mod reading;
+pub mod rebuild;
 pub mod release;
 pub mod reopen;
 pub mod rules;
