@@ -22,3 +22,4 @@ pub mod AdmitLaws
 pub mod TouchLaws
 pub mod ReleaseLaws
 pub mod RebuildLaws
+pub mod TrimLaws
