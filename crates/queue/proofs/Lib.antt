@@ -23,3 +23,4 @@ pub mod TouchLaws
 pub mod ReleaseLaws
 pub mod RebuildLaws
 pub mod TrimLaws
+pub mod ReconcileLaws

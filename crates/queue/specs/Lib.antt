@@ -36,3 +36,4 @@ pub mod Admitting
 pub mod Touching
 pub mod Releasing
 pub mod Rebuilding
+pub mod Reconciling

@@ -13,6 +13,7 @@ pub mod pieces;
 pub mod put;
 pub mod reading;
 pub mod rebuild;
+pub mod reconcile;
 pub mod release;
 pub mod reopen;
 pub mod rules;

@@ -1,0 +1,2 @@
+-- Reconciliation, exit by exit. Assumes nothing.
+use mathlib.Core.Path.{_≡_}

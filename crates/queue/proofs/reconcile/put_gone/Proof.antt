@@ -1,0 +1,27 @@
+use borrow.Author.Needs.{needs}
+use Rattle.queue.proofs.reconcile.put_gone.Statement.{statement}
+use Rattle.queue.proofs.reconcile.put_gone.Tie as tie
+use Rattle.queue.proofs.reconcile.put_gone.Reads as reads
+use Rattle.queue.proofs.reconcile.put_gone.Lts as lts
+use Rattle.queue.proofs.put.put_be.Reads as put-be-reads
+use Rattle.queue.proofs.reconcile.put_flag.Reads as put-flag-reads
+use Rattle.queue.proofs.select.put_ids.Reads as put-ids-reads
+
+put-flag-requires : tie.Need-put-flag-requires
+put-flag-requires c κs = search needs
+
+put-be-requires : tie.Need-put-be-requires
+put-be-requires c κs = search needs
+
+put-ids-requires : tie.Need-put-ids-requires
+put-ids-requires c κs = search needs
+
+same-length : tie.Need-same-length
+same-length c = search needs
+
+returns : tie.Need-returns
+returns c = ?
+
+pub put-gone-spec : {M : Type 1} → statement M
+put-gone-spec =
+    tie.close (tie.spec put-flag-requires put-be-requires put-ids-requires same-length returns)
