@@ -21,3 +21,4 @@ pub mod AdmissionLaws
 pub mod AdmitLaws
 pub mod TouchLaws
 pub mod ReleaseLaws
+pub mod LentLaws

@@ -35,3 +35,4 @@ pub mod Reopens
 pub mod Admitting
 pub mod Touching
 pub mod Releasing
+pub mod Lent
