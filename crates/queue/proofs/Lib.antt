@@ -24,3 +24,4 @@ pub mod ReleaseLaws
 pub mod RebuildLaws
 pub mod TrimLaws
 pub mod ReconcileLaws
+pub mod LentLaws

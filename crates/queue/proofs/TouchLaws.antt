@@ -22,7 +22,7 @@ use Rattle.queue.specs.Forms.{formC, afterIn}
 use Rattle.queue.specs.Facts.{factsOf, placeHeight, SeenAs}
 use Rattle.queue.specs.Plain.{place-plain}
 use Rattle.queue.specs.Sounds.{fields-of}
-use Rattle.queue.specs.Touching.{entryIn, appliedIn, EntryAs, SeenOf, SeenHere, ConfirmedIs, ownIds, judgeF, asTouched, TouchIs}
+use Rattle.queue.specs.Touching.{entryIn, appliedIn, EntryAs, SeenOf, SeenHere, ConfirmedIs, ownIds, judgeF, asTouched, TouchIs, changes?}
 use Rattle.queue.specs.paper.Records.{Bytes, Id, Rec, queued, conflicted}
 use Rattle.queue.specs.paper.Lists.{isSome, any?, all?, find, map, concat}
 use Rattle.queue.specs.paper.Ids.{cmpL, same?}
@@ -293,3 +293,33 @@ module _ (s : Bytes) (at n base : ℕ) (x : Seen) (t : Bytes) (k : ℕ) (caught 
           missing-is r w ∙ rw y (ap (λ v. judge v r) z ∙ judge-is t a r ∙ ap (λ v. asTouched t (record { what = v; at = 0 }) r) (ap (judgeF a) (sym (w .0 .facts)) ∙ sym i));
       within = λ z. absurd (judge-not a (x .facts) (sym i ∙ z));
     }
+
+-- ---- does any change
+unfoldable pub changeF : Bool → List Id → List Applied → Unit {0} → List Rec → Bool
+changeF caught own es u l = any? (changes? caught own es) l
+
+changed : (t : Bytes) (v : Verdict) (r : Rec) → (v .what ≡ 0 → ⊥) → isSome (asTouched t v r) ≡ true
+unfolding asTouched
+changed t v r n = rw (ne-eqb (v .what) 0 n) (cases (eqb (v .what) 1) (λ e. rw e) (λ e. rw e (cases (eqb (v .what) 2) (λ f. rw f) (λ f. rw f))))
+
+unchanged : (t : Bytes) (v : Verdict) (r : Rec) → v .what ≡ 0 → isSome (asTouched t v r) ≡ false
+unfolding asTouched
+unchanged t v r e = rw (eq-eqb (v .what) 0 e)
+
+module _ {s : Bytes} {at n : ℕ} (t : Bytes) (k : ℕ) (caught : Bool) (ids : List Id) {i left : ℕ} (x : Scan (formC false recC) (changeF caught (ownIds ids (listAt (formC false recC) n s at)) (appliedIn t k)) s n at tt i left tt) where
+  module _ (h : 0 < left) {m : ℕ} {ok : Bool} {y : Seen} (r : ReadsRec false s i ok m y) where
+    pub change-seen : SeenOf s i y (seen false x h r .item)
+    change-seen = let u = seen false x h r in (u .is .0, u .is .1 .fine)
+
+    module _ {v : Verdict} (w : TouchIs s at n i y t k caught ids v) where
+      pub change-go : {j : ℕ} → j ≡ afterIn false s i m → v .what ≡ 0 → Scan (formC false recC) (changeF caught (ownIds ids (listAt (formC false recC) n s at)) (appliedIn t k)) s n at tt j (left - 1) tt
+      unfolding changeF
+      change-go g e = let u = seen false x h r in rw g (on x tt h u (rw (ap isSome (w .is (u .item) change-seen) ∙ unchanged t v (u .item) e)))
+
+      pub change-stop : (v .what ≡ 0 → ⊥) → true ≡ any? (changes? caught (ownIds ids (listAt (formC false recC) n s at)) (appliedIn t k)) (listAt (formC false recC) n s at)
+      unfolding changeF
+      change-stop e = let u = seen false x h r in stop x u (rw (ap isSome (w .is (u .item) change-seen) ∙ changed t v (u .item) e))
+
+  pub change-end : left ≡ 0 → false ≡ any? (changes? caught (ownIds ids (listAt (formC false recC) n s at)) (appliedIn t k)) (listAt (formC false recC) n s at)
+  unfolding changeF
+  change-end e = end x e

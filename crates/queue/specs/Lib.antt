@@ -37,3 +37,4 @@ pub mod Touching
 pub mod Releasing
 pub mod Rebuilding
 pub mod Reconciling
+pub mod Lent

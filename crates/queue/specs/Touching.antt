@@ -12,7 +12,7 @@ use Rattle.queue.specs.Reads.{listAt}
 use Rattle.queue.specs.Forms.{formC}
 use Rattle.queue.specs.Facts.{SeenAs}
 use Rattle.queue.specs.paper.Records.{Bytes, Id, Rec, queued, conflicted}
-use Rattle.queue.specs.paper.Lists.{find, map}
+use Rattle.queue.specs.paper.Lists.{isSome, find, map}
 use Rattle.queue.specs.paper.Ids.{same?}
 use Rattle.queue.specs.paper.Sound.{mined?}
 use Rattle.queue.specs.paper.Changing.{Applied, confirmed?, confirm, judged, queuedOutputs, touchFound}
@@ -60,3 +60,7 @@ asTouched t v r =
 pub record TouchIs (s : Bytes) (at n base : ℕ) (x : Seen) (t : Bytes) (k : ℕ) (caught : Bool) (ids : List Id) (v : Verdict) : Type 0 where
   pub is : (r : Rec) → SeenOf s base x r → touchFound caught (ownIds ids (listAt (formC false recC) n s at)) r (find (λ a. same? (r .id) (a .id)) (appliedIn t k)) ≡ asTouched t v r
   pub within : v .what ≡ 1 → v .at + 68 ≤ length t
+
+-- does a reconciliation change a record, given the own ids and the applied entries?
+abbrev pub changes? : Bool → List Id → List Applied → Rec → Bool
+changes? caught own es r = isSome (touchFound caught own r (find (λ a. same? (r .id) (a .id)) es))

@@ -7,6 +7,7 @@ pub mod finish;
 pub mod forms;
 pub mod frame;
 pub mod head;
+pub mod lent;
 pub mod limits;
 pub mod logic;
 pub mod pieces;

@@ -22,8 +22,8 @@ ghost use Rattle.queue.specs.Reads.{whole, listAt};
 ghost use Rattle.queue.specs.Forms.{formC};
 ghost use Rattle.queue.specs.View.{view};
 ghost use Rattle.queue.specs.Reopens.{IdsRise, idsAt};
-ghost use Rattle.queue.specs.Touching.{EntryAs, SeenHere, ConfirmedIs, ownIds, judgeF, TouchIs};
-ghost use Rattle.queue.specs.paper.Lists.{all?};
+ghost use Rattle.queue.specs.Touching.{appliedIn, EntryAs, SeenHere, ConfirmedIs, ownIds, judgeF, TouchIs, changes?};
+ghost use Rattle.queue.specs.paper.Lists.{any?, all?};
 ghost use Rattle.queue.specs.paper.Sound.{among?};
 ghost use Rattle.queue.specs.paper.Changing.{queuedOutputs};
 
@@ -182,4 +182,32 @@ pub fn touched(
         what: judge(a, f),
         at: 0,
     }
+}
+
+// Does one of the n records at `at` change?
+pub fn any_touched(
+    s: &[u8],
+    at: usize,
+    n: u64,
+    t: &[u8],
+    k: u64,
+    caught: bool,
+    ids: &[u8],
+    m: u64,
+) -> bool
+    requires { ⌜ (at ≤ length (now s)) × (whole (formC false recC) n (now s) at ≡ true) × (length (now t) ≡ k * 68) × IdsRise (now ids) m ⌝ }
+    ensures { λ r. ⌜ r ≡ any? (changes? caught (ownIds (idsAt (now (ids .entry)) m) (listAt (formC false recC) n (now (s .entry)) at)) (appliedIn (now (t .entry)) k)) (listAt (formC false recC) n (now (s .entry)) at) ⌝ }
+{
+    let mut i = at;
+    let mut left = n;
+    while 0 < left {
+        let x = rec_at(s, false, i);
+        let v = touched(s, at, n, i, x, t, k, caught, ids, m);
+        if v.what != 0 {
+            return true;
+        }
+        i = after_in(s, false, i, x.size);
+        left = left - 1;
+    }
+    false
 }
