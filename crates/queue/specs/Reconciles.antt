@@ -416,7 +416,7 @@ reconcile-leaves c q f o =
 
 -- ---- the answer
 
-releases-all : (P : Id → Type 0) (m : Limits) (height window n b : ℕ) (l : List Rec) → All (λ r. P (r .id)) l → All P (releases m height window n b l) × (length (releases m height window n b l) ≤ length l)
+pub releases-all : (P : Id → Type 0) (m : Limits) (height window n b : ℕ) (l : List Rec) → All (λ r. P (r .id)) l → All P (releases m height window n b l) × (length (releases m height window n b l) ≤ length l)
 unfolding releases
 releases-all P m height window n b [] h = (tt, omega arith)
 releases-all P m height window n b (r ∷ l) h =
@@ -428,7 +428,7 @@ length-total : {A : Type 0} (l : List A) → length l ≡ total (λ a. 1) l
 length-total [] = refl
 length-total (a ∷ l) = let i = length-total l in omega arith
 
-released-all : (P : Id → Type 0) (c : Reconciling) (m : Limits) (l : List Rec) → All (λ r. P (r .id)) l → All P (released c m l) × (length (released c m l) ≤ length l)
+pub released-all : (P : Id → Type 0) (c : Reconciling) (m : Limits) (l : List Rec) → All (λ r. P (r .id)) l → All P (released c m l) × (length (released c m l) ≤ length l)
 unfolding released
 released-all P c m l h =
     let s = sort newer? (filter minedHolder? l) in

@@ -3,7 +3,7 @@ use mathlib.Core.Path.{_≡_}
 use mathlib.Core.Bool.{Bool, true, false, cond, _||_}
 use mathlib.Core.Option.{Option, none, some}
 use mathlib.Core.List.{List, [], _∷_, _++_}
-use Prim.Native.Nat.{ℕ, _+_, _*_, _≤_, _<_}
+use Prim.Native.Nat.{ℕ, _+_, _*_, _≤_, _<_, min}
 use lib.Dec.{ltb, leb}
 use lib.ListN.{length}
 use mathlib.Core.Logic.{_⊎_}
@@ -24,9 +24,13 @@ use Rattle.queue.specs.Touching.{appliedIn}
 use Rattle.queue.specs.paper.Records.{Bytes, Id, Rec, Queue}
 use Rattle.queue.specs.paper.Lists.{isSome, one, any?, map, concat}
 use Rattle.queue.specs.paper.Area.{areaBytes, over}
-use Rattle.queue.specs.paper.Changing.{Reconciling, queuedOutputs, touch, orElse, released, releaseOne, trimmed, committed, reconcile}
+use Rattle.queue.specs.paper.Changing.{Reconciling, queuedOutputs, touch, orElse, released, releaseOne, trimmed, committed, moved, someReleased?, topHeight, reconcile}
 use Rattle.queue.specs.paper.Calls.{Outcome, told, releasedBytes}
 use Rattle.queue.specs.declared.area.Area.{Area}
+use Rattle.queue.specs.declared.Kind.{Kind}
+use Rattle.queue.specs.declared.Kind.the-variants.{Memory, Cursor}
+use Rattle.queue.specs.declared.Answer.{Answer}
+use Rattle.queue.specs.declared.Answer.the-variants.{Done}
 use Rattle.queue.specs.declared.rules.Query.the-variants.{Tombstones}
 
 -- what is lent: k applied entries in t, m available ids in ids
@@ -63,6 +67,20 @@ pub record GoneAre (s : Bytes) (c : Reconciling) (gone : List ℕ) : Type 0 wher
   pub are : (q : Queue) → readArea s ≡ some q → map (idAt s) gone ≡ goneIds c q
   pub placed : All (λ p. p + 33 ≤ length s) gone
   pub few : length gone ≤ 2048
+
+-- did a record change, or is one released?
+abbrev pub ChangedIs : Bytes → Reconciling → Bool → Type 0
+ChangedIs s c b = (q : Queue) → readArea s ≡ some q → b ≡ (anyTouched c q || someReleased? (goneIds c q))
+
+-- what a reconciliation that changes nothing leaves: kind 3 or 1, and the cursor
+abbrev pub cursorKind : ℕ → ℕ → Kind
+cursorKind persisted height = cond (leb (min (persisted + 32) topHeight) height) Cursor Memory
+
+abbrev pub cursorTo : ℕ → Id → Queue → Queue
+cursorTo height tip q = moved (cond (leb (min (q .persisted + 32) topHeight) height) height (q .persisted)) height (some tip) q
+
+abbrev pub CursorTold : Bytes → ℕ → Id → Answer → Bytes → Bytes → Type 0
+CursorTold s height tip r d d′ = (q : Queue) → readArea s ≡ some q → (r ≡ Done (cursorKind (q .persisted) height)) × (d′ ≡ over (areaBytes (cursorTo height tip q)) d)
 
 abbrev pub WholeTo : Bytes → Reconciling → Bytes → Bytes → Type 0
 WholeTo s c d d′ = (q : Queue) → readArea s ≡ some q → d′ ≡ over (areaBytes (wholeQ c q)) d

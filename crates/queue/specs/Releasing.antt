@@ -44,6 +44,9 @@ heightF t v f = cond (eqb (v .what) 1) (beAt 4 (view false t 0) (v .at + 32)) (f
 abbrev pub Stands : Bytes → ℕ → Type 0
 Stands s p = (p ≤ length s) × (whole (formC false recC) 1 s p ≡ true)
 
+abbrev pub StandsAt : Bytes → Row → Type 0
+StandsAt s w = Stands s (w .1 .1)
+
 unfoldable pub bytesAt : Bytes → ℕ → ℕ
 bytesAt s p = total (λ r. length (content (r .body))) (listAt (formC false recC) 1 s p)
 

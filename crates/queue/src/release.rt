@@ -123,7 +123,7 @@ pub fn release(
     gone: &mut [usize],
 ) -> usize
     requires { ⌜ (length (now ranks) ≡ length (now places)) × (length (now places) ≤ length (now gone)) × (length (now places) ≤ 2048) × All (Stands (now s)) (now places) ⌝ }
-    ensures { λ r. ⌜ (r ≤ length (now (places .entry))) × (take r (now (gone .exit)) ≡ walkC (limits p b 0 0) (height .0) window (now (s .entry)) 0 0 (now (ranks .entry)) (now (places .entry))) ⌝ }
+    ensures { λ r. ⌜ (r ≤ length (now (places .entry))) × (take r (now (gone .exit)) ≡ walkC (limits p b 0 0) (height .0) window (now (s .entry)) 0 0 (now (ranks .entry)) (now (places .entry))) × (length (now (gone .exit)) ≡ length (now (gone .entry))) ⌝ }
 {
     let mut j: usize = 0;
     let mut g: usize = 0;

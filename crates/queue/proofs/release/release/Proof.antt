@@ -63,7 +63,7 @@ same-length : tie.Need-same-length Inv-loop μ-loop
 same-length c = search needs
 
 returns : tie.Need-returns Inv-loop μ-loop
-returns c = walk-end _ _ _ _ _ _ (c .before .loop .inv) (c .before .before .before .before .before .before .pre .0) (omega arith)
+returns c = let e = walk-end _ _ _ _ _ _ (c .before .loop .inv) (c .before .before .before .before .before .before .pre .0) (omega arith) in (e .0, e .1, c .before .loop .inv .size)
 
 pub release-spec : {M : Type 1} → statement M
 release-spec =
