@@ -80,13 +80,13 @@ unfolding forget
 forget-walk p state reason n t floor l h = walk-filter p state reason floor (λ r. ltb (higher (r .finish) (finishThose p state reason n l)) t) n l h
 
 -- ---- how many tombstones are above a number
-new-none : (num x : ℕ) → newAbove num 0 x ≡ 0
+pub new-none : (num x : ℕ) → newAbove num 0 x ≡ 0
 unfolding newAbove
 new-none num x = cases (ltb x num)
     (λ t. rw t)
     (λ t. let k = ltb-false x num t in rw (t, le-ltb x (num + 0) (omega arith)))
 
-new-one : (num k x : ℕ) → one (ltb x (num + 1)) + newAbove (num + 1) k x ≡ newAbove num (1 + k) x
+pub new-one : (num k x : ℕ) → one (ltb x (num + 1)) + newAbove (num + 1) k x ≡ newAbove num (1 + k) x
 unfolding newAbove
 new-one num k x = cases (ltb x num)
     (λ t. let h = ltb-true x num t in rw (t, lt-ltb x (num + 1) (omega arith)))
@@ -157,19 +157,24 @@ tombs-sum : (l : List Rec) → sum Tombstones l ≡ tombstones l
 unfolding sum weight factsOf
 tombs-sum l = refl
 
-zero-leb : (n : ℕ) → leb 0 n ≡ true
+pub zero-leb : (n : ℕ) → leb 0 n ≡ true
 zero-leb n = le-leb 0 n (omega arith)
+
+-- the floor of l parts the tombstones of a list m that has those of l and k more, with the numbers after n
+pub floors-of : (n k t floor : ℕ) (l m : List Rec) → tombstones m ≡ tombstones l + k → ((x : ℕ) → higher x m ≡ above n k l x)
+    → ((sum Tombstones l + k ≤ t) × (floor ≡ 0)) ⊎ ((x : ℕ) → ltb (above n k l x) t ≡ leb floor x)
+    → Floors t floor m
+floors-of n k t floor l m e h = ⊎-elim
+    (λ w.
+    let f = tombs-sum l in
+    all-to m (λ r g b. let i = g b in rw (w .1, zero-leb (r .finish)) (lt-ltb (higher (r .finish) m) t (omega (arith, w .0)))) (own-all m m (λ x. own x m)))
+    (λ w. all-any m (λ r b. ap (λ y. ltb y t) (h (r .finish)) ∙ w (r .finish)))
 
 pub floors : (p : Rec → Bool) (state reason n t floor : ℕ) (l : List Rec) → Picks p l
     → ((sum Tombstones l + count p l ≤ t) × (floor ≡ 0)) ⊎ ((x : ℕ) → ltb (above n (count p l) l x) t ≡ leb floor x)
     → Floors t floor (finishThose p state reason n l)
-floors p state reason n t floor l h = ⊎-elim
-    (λ w.
-    let e = tombs-finished p state reason n l h in
-    let f = tombs-sum l in
-    all-to (finishThose p state reason n l) (λ r g b. let k = g b in rw (w .1, zero-leb (r .finish)) (lt-ltb (higher (r .finish) (finishThose p state reason n l)) t (omega (arith, w .0))))
-    (own-all (finishThose p state reason n l) (finishThose p state reason n l) (λ x. own x (finishThose p state reason n l))))
-    (λ w. all-any (finishThose p state reason n l) (λ r b. ap (λ y. ltb y t) (above-finished p state reason n l (r .finish) h) ∙ w (r .finish)))
+floors p state reason n t floor l h =
+    floors-of n (count p l) t floor l (finishThose p state reason n l) (tombs-finished p state reason n l h) (λ x. above-finished p state reason n l x h)
 
 -- ---- the search for the floor
 sum-falls : (a b : ℕ) (l : List Rec) → a ≤ b → sum (Above (record { 0 = b })) l ≤ sum (Above (record { 0 = a })) l

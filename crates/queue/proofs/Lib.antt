@@ -23,3 +23,9 @@ pub mod AdmitLaws
 pub mod ReserveLaws
 pub mod StandLaws
 pub mod SnapshotLaws
+pub mod TouchLaws
+pub mod ReleaseLaws
+pub mod RebuildLaws
+pub mod TrimLaws
+pub mod ReconcileLaws
+pub mod LentLaws

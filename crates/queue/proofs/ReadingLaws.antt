@@ -53,7 +53,7 @@ use Rattle.queue.proofs.Turns.{Scan, start, on, stop, end, SeenIn, Read
 unfoldable pub findF : Id → Unit {0} → List Rec → Option Rec
 findF z u l = find (named? z) l
 
-one-here : (s : Bytes) (i next : ℕ) (r : Rec) → formC false recC .dec (drop i s) ≡ got r (drop next s) → (whole (formC false recC) 1 s i ≡ true) × (listAt (formC false recC) 1 s i ≡ r ∷ [])
+pub one-here : (s : Bytes) (i next : ℕ) (r : Rec) → formC false recC .dec (drop i s) ≡ got r (drop next s) → (whole (formC false recC) 1 s i ≡ true) × (listAt (formC false recC) 1 s i ≡ r ∷ [])
 unfolding whole listAt decs
 one-here s i next r e = rw e (refl, refl)
 

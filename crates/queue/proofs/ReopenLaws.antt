@@ -202,7 +202,7 @@ unfolding recBytes reopened placeBytes
 shape r = refl
 
 module _ (s : Bytes) (base : ℕ) {x : Seen} {r : Rec} (w : SeenAs (view false s base) x r) where
-  terms-part : take (x .after - 35) (drop (base + 35) s) ≡ termsBytes (r .terms)
+  pub terms-part : take (x .after - 35) (drop (base + 35) s) ≡ termsBytes (r .terms)
   unfolding view
   terms-part = ap (take (x .after - 35)) (sym (drop-drop 35 base s)) ∙ between (drop base s) (termsC .enc (r .terms)) 35 (x .after) (w .terms) (w .up) (omega (arith, w .upPlace, w .upBody, w .end)) .0 ∙ terms-plain (r .terms)
 
@@ -210,7 +210,7 @@ module _ (s : Bytes) (base : ℕ) {x : Seen} {r : Rec} (w : SeenAs (view false s
   unfolding beC
   one-byte = codec.be-length 1 (r .mark)
 
-  tail-part : take (x .size - (x .mark + 1)) (drop (base + (x .mark + 1)) s) ≡ codec.be 8 (r .finish) ++ flagged heldBytes (r .body)
+  pub tail-part : take (x .size - (x .mark + 1)) (drop (base + (x .mark + 1)) s) ≡ codec.be 8 (r .finish) ++ flagged heldBytes (r .body)
   unfolding view beC
   tail-part =
       let k = cut-one (drop base s) (beC 1 .enc (r .mark)) (beC 8 .enc (r .finish) ++ drop (x .body) (drop base s)) (x .mark) (w .marks) one-byte in

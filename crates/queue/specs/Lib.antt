@@ -35,3 +35,8 @@ pub mod PiecesAs
 pub mod Reopens
 pub mod Admitting
 pub mod Reserving
+pub mod Touching
+pub mod Releasing
+pub mod Rebuilding
+pub mod Reconciling
+pub mod Lent

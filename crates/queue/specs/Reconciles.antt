@@ -164,13 +164,13 @@ past-zero (suc n) = ne-eqb (suc (suc n)) 0 (λ e. omega arith) ∙ sym (ne-eqb (
 
 -- ---- the walk
 
-abbrev Diff : Rec → Rec → Type 0
+abbrev pub Diff : Rec → Rec → Type 0
 Diff a b = same? (a .id) (b .id) ≡ false
 
-diff-sym : (a b : Rec) → Diff a b → Diff b a
+pub diff-sym : (a b : Rec) → Diff a b → Diff b a
 diff-sym a b h = same-sym (b .id) (a .id) ∙ h
 
-rising-diff : (l : List Rec) → Pairwise Before l → Pairwise Diff l
+pub rising-diff : (l : List Rec) → Pairwise Before l → Pairwise Diff l
 rising-diff l h = pairwise-with (λ r. Unit {0}) Before Diff (λ a b _ _ k. below-not-same (a .id) (b .id) k) l (all-every _ (λ r. tt) l) h
 
 -- the weight of what is not in a list of ids
@@ -182,7 +182,7 @@ module _ (m : Limits) (height window : ℕ) where
   release? n b r = leb window (height - minedHeight r) || (leb (m .P) n || ltb (m .B) (b + length (content (r .body))))
 
   -- an id that none of the list has is not released
-  walk-other : (i : Id) (n b : ℕ) (l : List Rec) → All (λ s. same? i (s .id) ≡ false) l → placeIn i (releases m height window n b l) ≡ 0
+  pub walk-other : (i : Id) (n b : ℕ) (l : List Rec) → All (λ s. same? i (s .id) ≡ false) l → placeIn i (releases m height window n b l) ≡ 0
   unfolding releases
   walk-other i n b [] h = refl
   walk-other i n b (r ∷ l) h = let k = walk-other i (n + 1) (b + length (content (r .body))) l (h .1) in cases (release? n b r)
@@ -224,7 +224,7 @@ module _ (m : Limits) (height window : ℕ) where
       let v = or-false (leb (m .P) n) (ltb (m .B) (b + length (content (r .body)))) (u .1) in
       let x = ltb-false (m .B) (b + length (content (r .body))) (v .1) in rw (t, k) (omega arith))
 
-filter-differs : (p : Rec → Bool) (l : List Rec) → Pairwise Diff l → All (λ r. p r ≡ false → All (Diff r) (filter p l)) l
+pub filter-differs : (p : Rec → Bool) (l : List Rec) → Pairwise Diff l → All (λ r. p r ≡ false → All (Diff r) (filter p l)) l
 filter-differs p [] h = tt
 filter-differs p (x ∷ l) h = let i = filter-differs p l (h .1) in cases (p x)
     (λ t. rw t (λ e. false-true (sym e), all-with (Diff x) _ _ (λ r d k e. (diff-sym x r d, k e)) l (h .0) i))
@@ -416,7 +416,7 @@ reconcile-leaves c q f o =
 
 -- ---- the answer
 
-releases-all : (P : Id → Type 0) (m : Limits) (height window n b : ℕ) (l : List Rec) → All (λ r. P (r .id)) l → All P (releases m height window n b l) × (length (releases m height window n b l) ≤ length l)
+pub releases-all : (P : Id → Type 0) (m : Limits) (height window n b : ℕ) (l : List Rec) → All (λ r. P (r .id)) l → All P (releases m height window n b l) × (length (releases m height window n b l) ≤ length l)
 unfolding releases
 releases-all P m height window n b [] h = (tt, omega arith)
 releases-all P m height window n b (r ∷ l) h =
@@ -428,7 +428,7 @@ length-total : {A : Type 0} (l : List A) → length l ≡ total (λ a. 1) l
 length-total [] = refl
 length-total (a ∷ l) = let i = length-total l in omega arith
 
-released-all : (P : Id → Type 0) (c : Reconciling) (m : Limits) (l : List Rec) → All (λ r. P (r .id)) l → All P (released c m l) × (length (released c m l) ≤ length l)
+pub released-all : (P : Id → Type 0) (c : Reconciling) (m : Limits) (l : List Rec) → All (λ r. P (r .id)) l → All P (released c m l) × (length (released c m l) ≤ length l)
 unfolding released
 released-all P c m l h =
     let s = sort newer? (filter minedHolder? l) in

@@ -62,7 +62,7 @@ pub fn rise(ids: &[u8], n: u64) -> bool
 }
 
 // Is the id one of k lent ids, which rise? Those before lo are lower, those from hi on are higher.
-fn find_id(ids: &[u8], k: u64, id: [u8; 32]) -> bool
+pub fn find_id(ids: &[u8], k: u64, id: [u8; 32]) -> bool
     requires { ⌜ IdsRise (now ids) k ⌝ }
     ensures { λ r. ⌜ r ≡ among? id (idsAt (now (ids .entry)) k) ⌝ }
 {

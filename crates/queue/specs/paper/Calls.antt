@@ -204,6 +204,10 @@ pub record ReconcileArgs : Type 0 where
   pub available : Bytes
   pub window : ℕ
 
+-- in the order of docs/CALLS.md
+abbrev pub reconcileArgs : ℕ → Bytes → Bytes → ℕ → Bytes → ℕ → ReconcileArgs
+reconcileArgs height tip applied caughtUp available window = record { height = height; tip = tip; applied = applied; caughtUp = caughtUp; available = available; window = window }
+
 abbrev pub appliedOf : Bytes → Applied
 appliedOf s = record { id = take 32 s; height = beVal (take 4 (drop 32 s)); block = drop 36 s }
 

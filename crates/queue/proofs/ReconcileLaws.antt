@@ -1,0 +1,481 @@
+-- Reconciliation, exit by exit. Assumes nothing.
+use mathlib.Core.Path.{_≡_, refl, ap, sym, _∙_}
+use mathlib.Core.Bool.{Bool, true, false, cond, _&&_, _||_}
+use mathlib.Core.Option.{Option, none, some}
+use mathlib.Core.List.{List, [], _∷_, _++_}
+use mathlib.Core.Logic.{_⊎_}
+use Prim.Native.Nat.{ℕ, zero, suc, _+_, _-_, _*_, _/_, _%_, _^_, _≤_, _<_, min}
+use native.Mathlib.Omega.{arith}
+use native.Mathlib.Nat.{min-eq-left, min-eq-right, min-le-left}
+use lib.Dec.{ltb, leb, eqb}
+use lib.ListN.{length, take, drop, replicate, length-append, length-take}
+use lib.Seq.{length-take-le}
+use borrow.Author.Tests.{lt-ltb, le-ltb, ltb-false, le-leb, lt-leb, leb-true, eq-eqb, ne-eqb, eqb-true}
+use Rattle.queue.specs.Codec as codec
+use Rattle.queue.specs.Codec.{All, cases, encs, optC}
+use Rattle.queue.specs.Splice.{Put, splice, be}
+use Rattle.queue.specs.Frames.{recC, idC}
+use Rattle.queue.specs.Ids.{part}
+use Rattle.queue.specs.View.{view}
+use Rattle.queue.specs.Reads.{whole, listAt}
+use Rattle.queue.specs.Forms.{formC, queueC}
+use Rattle.queue.specs.Areas.{readArea}
+use Rattle.queue.specs.Bound.{fits-need}
+use Rattle.queue.specs.Lists.{Pairwise, Sub, sub-pairwise, and-true}
+use Rattle.queue.specs.ListLaws.{filter-sub, all-every}
+use Rattle.queue.specs.Order.{or-false}
+use Rattle.queue.specs.Sounds.{Right, Fit, fit-sound, fit-ok, Before}
+use Rattle.queue.specs.Keeps.{Alike, alike-rising, leaves-kept, moved-fit}
+use Rattle.queue.specs.Reconciles.{Reconcilable, touched-alike, reconcile-leaves, released-all}
+use Rattle.queue.specs.Opens.{limits, AreaAs, AreaIs}
+use Rattle.queue.specs.Fronts.{tipOf, tipSize, frontBytes, queueOf}
+use Rattle.queue.specs.Rules.{sum}
+use Rattle.queue.specs.Finishing.{above}
+use Rattle.queue.specs.CallsAs.{AreaIn}
+use Rattle.queue.specs.Writes.{MovedFrom, MovedTo}
+use Rattle.queue.specs.Arguments.{Small, reconciling-ok}
+use Rattle.queue.specs.Lent.{ReconcileAsked}
+use Rattle.queue.specs.Reopens.{IdsRise, idsAt}
+use Rattle.queue.specs.SelectAs.{Row, rows, Even, Table, ahead?, idAt}
+use Rattle.queue.specs.Touching.{appliedIn, ownIds, changes?}
+use Rattle.queue.specs.Releasing.{nextR, nextL, minedHolder?, minedOf, Stands, StandsAt, bytesAt, MinedRow, FallingRows, MinedRows, MinedGathered, walkR, walkC}
+use Rattle.queue.specs.Rebuilding.{keptOf, keptL}
+use Rattle.queue.specs.Reconciling.{asked, LentTo, ownOf, touchedL, goneIds, anyTouched, wholeQ, GoneAre, ChangedIs, cursorKind, cursorTo, CursorTold, WholeTo, FloorFor, goneBytes, ReconcileTold}
+use Rattle.queue.specs.paper.Records.{Bytes, Id, Limits, Rec, Queue}
+use Rattle.queue.specs.paper.Lists.{isSome, one, any?, count, filter, find, sort, map, concat}
+use Rattle.queue.specs.paper.Sound.{need, finishRight?, holder?, mined?, content}
+use Rattle.queue.specs.paper.Area.{areaBytes, over}
+use Rattle.queue.specs.paper.Changing.{Out, refused, done, top, topHeight, Applied, Reconciling, touch, touchFound, orElse, minedHeight, newer?, releases, released, releaseOne, trimmed, committed, moved, someReleased?, reconcile}
+use Rattle.queue.specs.paper.Calls.{Outcome, outcome, told, releasedBytes, idsBytes, ReconcileArgs, reconcileArgs, reconciling, reconcileShape?, reconcileOf}
+use Rattle.queue.specs.declared.Kind.the-variants.{Memory, Whole, Cursor}
+use Rattle.queue.specs.declared.Answer.{Answer}
+use Rattle.queue.specs.declared.Answer.the-variants.{Refused, Done}
+use Rattle.queue.specs.declared.area.Area.{Area}
+use Rattle.queue.specs.declared.frame.Height.{Height}
+use Rattle.queue.specs.declared.head.Marks.{Marks}
+use Rattle.queue.specs.declared.rules.Query.the-variants.{Tombstones}
+use Rattle.queue.proofs.PutLaws.{then, recast, kept, over-splice, length-be}
+use Rattle.queue.proofs.ByteLaws.{be-same}
+use Rattle.queue.proofs.FrontLaws.{area-done}
+use Rattle.queue.proofs.WriteLaws.{fit, one-queue, same-queue, the-limits, queue-long, long-need}
+use Rattle.queue.proofs.ReadingLaws.{key}
+use Rattle.queue.proofs.SelectLaws.{rows-places, rows-take, sort-all, map-length, even-to, ids-size}
+use Rattle.queue.proofs.ReleaseLaws.{sort-mined, mined-stand, mined-placed, walk-ids, walk-columns}
+use Rattle.queue.proofs.TrimLaws.{KeepsEach, Placed, releases-placed, trim-is}
+
+-- ---- rows in order, and walked
+all-places : (P : ℕ → Type 0) (z : List Row) → All (λ (w : Row). P (w .1 .1)) z → All P (map (λ (w : Row). w .1 .1) z)
+all-places P [] h = tt
+all-places P (w ∷ z) h = (h .0, all-places P z (h .1))
+
+module _ (s : Bytes) (a b c : List ℕ) {n : ℕ} (a′ b′ c′ : List ℕ) (h : All (StandsAt s) (rows a b c)) (x : Table n a′ b′ c′ (sort ahead? (rows a b c))) where
+  pub rows-stand : All (Stands s) c′
+  rows-stand =
+      let e = x .even in
+      let u : All (StandsAt s) (rows a′ b′ c′) = rw (x .is) (sort-all ahead? (StandsAt s) (rows a b c) h) in
+      rw (rows-places a′ b′ c′ (e .times ∙ sym (e .ranks)) (e .places ∙ sym (e .ranks))) at (all-places (Stands s) (rows a′ b′ c′) u)
+
+  pub rows-walk : (m : Limits) (height window : ℕ) {g : List ℕ} → g ≡ walkC m height window s 0 0 a′ c′ → g ≡ walkR m height window s 0 0 (sort ahead? (rows a b c))
+  rows-walk m height window f = let e = x .even in f ∙ walk-columns m height window s 0 0 a′ b′ c′ (e .times ∙ sym (e .ranks)) (e .places ∙ sym (e .ranks)) ∙ ap (walkR m height window s 0 0) (x .is)
+
+-- ---- the limits count only by P and B
+same-releases : (m m′ : Limits) (height window seen bytes : ℕ) (l : List Rec) → m .P ≡ m′ .P → m .B ≡ m′ .B → releases m height window seen bytes l ≡ releases m′ height window seen bytes l
+unfolding releases
+same-releases m m′ height window seen bytes [] e f = refl
+same-releases m m′ height window seen bytes (r ∷ l) e f =
+    let i = same-releases m m′ height window (seen + 1) (bytes + length (content (r .body))) l e f in
+    two (cc′ e f) i
+  where
+    cc′ : {p p′ b b′ : ℕ} → p ≡ p′ → b ≡ b′ → (leb window (height - minedHeight r) || (leb p seen || ltb b (bytes + length (content (r .body))))) ≡ (leb window (height - minedHeight r) || (leb p′ seen || ltb b′ (bytes + length (content (r .body)))))
+    cc′ e f = cc
+
+    two : {a a′ : Bool} {x x′ : List Id} → a ≡ a′ → x ≡ x′ → cond a (r .id ∷ x) x ≡ cond a′ (r .id ∷ x′) x′
+    two e f = cc
+
+walk-part : (P : ℕ → Type 0) (m : Limits) (height window : ℕ) (s : Bytes) (seen bytes : ℕ) (z : List Row) → All P (map (λ (w : Row). w .1 .1) z) → All P (walkR m height window s seen bytes z)
+unfolding walkR
+walk-part P m height window s seen bytes [] h = tt
+walk-part P m height window s seen bytes (w ∷ z) h =
+    let i = walk-part P m height window s (seen + 1) (bytes + bytesAt s (w .1 .1)) z (h .1) in
+    cases (leb window (height - w .0) || (leb (m .P) seen || ltb (m .B) (bytes + bytesAt s (w .1 .1)))) (λ t. rw t (h .0, i)) (λ t. rw t i)
+
+abbrev FloorOf : ℕ → ℕ → ℕ → ℕ → List Rec → Type 0
+FloorOf fl c n t l = ((sum Tombstones l + n ≤ t) × (fl ≡ 0)) ⊎ ((x : ℕ) → ltb (above c n l x) t ≡ leb fl x)
+
+floors-to : (fl : ℕ) {c c′ n n′ t t′ : ℕ} {l l′ : List Rec} → c ≡ c′ → n ≡ n′ → t ≡ t′ → l ≡ l′ → FloorOf fl c n t l → FloorOf fl c′ n′ t′ l′
+floors-to fl e f g h x = rw (← e, ← f, ← g, ← h) x
+
+-- ---- the floor
+module _ {s : Bytes} {a : Area} (w : AreaIn s a) where
+  pub area-asks : (a .open .start ≤ length s) × (whole (formC false recC) (a .open .head .count) s (a .open .start) ≡ true)
+  area-asks = let g = w .read .store in (omega (arith, g .up, g .ends), g .all)
+
+  stamps : All (λ r. holder? r ≡ false → r .finish ≤ a .open .head .counter .0) (listAt (formC false recC) (a .open .head .count) s (a .open .start))
+  stamps = let st = w .read .store in rw (st .list, ← (st .head .counter)) (stamps′ _ _ (w .q .recs) (fit (w .read) .sound .right))
+    where
+      stamps′ : (K c : ℕ) (l : List Rec) → All (Right K c) l → All (λ r. holder? r ≡ false → r .finish ≤ c) l
+      stamps′ K c [] h = tt
+      stamps′ K c (r ∷ l) h = (λ b. let e : finishRight? c false (r .finish) ≡ true = rw b at (h .0 .finish) in leb-true _ _ (and-true (leb 1 (r .finish)) _ e .1), stamps′ K c l (h .1))
+
+  pub floor-asks : (g : ℕ) → g ≤ a .open .head .count → a .open .head .counter .0 + g < 18446744073709551616 → (a .open .start ≤ length s) × (whole (formC false recC) (a .open .head .count) s (a .open .start) ≡ true) × (a .open .head .count < 4294967296) × (g ≤ a .open .head .count) × (a .open .head .counter .0 + g < 18446744073709551616) × (0 < a .open .head .t) × (a .open .head .t < 4294967296)
+      × All (λ r. holder? r ≡ false → r .finish ≤ a .open .head .counter .0) (listAt (formC false recC) (a .open .head .count) s (a .open .start))
+  floor-asks g h k =
+      let st = w .read .store in let t = st .head .T in
+      (area-asks .0, area-asks .1, st .head .countSmall, h, k, omega (arith, fit (w .read) .sound .range .T-low), st .head .tSmall, stamps)
+
+-- ---- what is lent, and the area
+module _ {s : Bytes} {a : Area} (w : AreaIn s a) {height : ℕ} {tip : Id} {t : Bytes} {k : ℕ} {caught : Bool} {ids : Bytes} {m window : ℕ} (L : LentTo height tip t k caught ids m window) where
+  abbrev C : Reconciling
+  C = asked height tip t k caught ids m window
+
+  abbrev f : Rec → Rec
+  f r = orElse r (touch C (ownOf C (w .q)) r)
+
+  pub list-asks : (a .open .start ≤ length s) × (whole (formC false recC) (a .open .head .count) s (a .open .start) ≡ true)
+  list-asks = let g = w .read .store in (omega (arith, g .up, g .ends), g .all)
+
+  next-is : nextL s (a .open .start) (a .open .head .count) t k caught (idsAt ids m) ≡ touchedL C (w .q)
+  unfolding nextL nextR touchedL touch ownIds
+  next-is = ap (λ l. map (nextR caught (ownIds (idsAt ids m) l) (appliedIn t k)) l) (w .read .store .list)
+
+  alike : (r : Rec) → Alike r (f r)
+  alike r = touched-alike C (ownOf C (w .q)) (L .ok .applied) r
+
+  keeps : (l : List Rec) → KeepsEach f l
+  keeps l = all-every _ (λ r. let x = alike r in (ap isSome (x .body), x .finish, x .id)) l
+
+  mined-is : minedOf s (a .open .start) (a .open .head .count) t k caught (idsAt ids m) ≡ filter minedHolder? (touchedL C (w .q))
+  unfolding minedOf
+  mined-is = ap (filter minedHolder?) next-is
+
+  few-mined′ : (l : List Rec) → length (filter minedHolder? (map f l)) ≤ count holder? l
+  few-mined′ [] = omega arith
+  few-mined′ (r ∷ l) =
+      let i = few-mined′ l in
+      let h : holder? (f r) ≡ holder? r = ap isSome (alike r .body) in
+      cases (minedHolder? (f r))
+      (λ x. let y : holder? r ≡ true = sym h ∙ and-true (mined? (f r)) (holder? (f r)) x .1 in rw (x, y) (omega arith))
+      (λ x. rw x (omega arith))
+
+  pub few-mined : length (minedOf s (a .open .start) (a .open .head .count) t k caught (idsAt ids m)) ≤ 2048
+  unfolding touchedL
+  few-mined =
+      let e = ap length mined-is in let i = few-mined′ (w .q .recs) in
+      let g = fit (w .read) .sound in
+      omega (arith, g .fewHolders, g .range .P-high)
+
+  pub before-mined : Pairwise Before (minedOf s (a .open .start) (a .open .head .count) t k caught (idsAt ids m))
+  unfolding touchedL
+  before-mined = rw mined-is (sub-pairwise Before (filter-sub minedHolder? (map f (w .q .recs))) (alike-rising f alike (w .q .recs) (fit (w .read) .sound .rising)))
+
+  gone-is : releases (limits (a .open .head .p) (a .open .head .b) 0 0) height window 0 0 (sort newer? (minedOf s (a .open .start) (a .open .head .count) t k caught (idsAt ids m))) ≡ goneIds C (w .q)
+  unfolding goneIds released
+  gone-is =
+      let h = w .read .store .head in
+      same-releases _ (w .q .limits) height window 0 0 (sort newer? (minedOf s (a .open .start) (a .open .head .count) t k caught (idsAt ids m))) (sym (h .P)) (sym (h .B))
+      ∙ ap (λ l. releases (w .q .limits) height window 0 0 (sort newer? l)) mined-is
+
+  module _ {n c : ℕ} {ra ti pl : List ℕ} (G : MinedGathered s n (minedOf s (a .open .start) (a .open .head .count) t k caught (idsAt ids m)) 2048 c ra ti pl) where
+    pub mined-even : Even c (take c ra) (take c ti) (take c pl)
+    mined-even = let e = G .even in let q = few-mined in record {
+      ranks = length-take-le c ra (omega (arith, G .all, e .ranks));
+      times = length-take-le c ti (omega (arith, G .all, e .times));
+      places = length-take-le c pl (omega (arith, G .all, e .places));
+    }
+
+    pub mined-few : c ≤ 2048
+    mined-few = let q = few-mined in omega (arith, G .all)
+
+    fall-stand : (b : ℕ) (z : List Row) (l : List Rec) → FallingRows s b z l → All (StandsAt s) z
+    fall-stand b [] l h = tt
+    fall-stand b (v ∷ z) [] h = absurd h
+    fall-stand b (v ∷ z) (x ∷ l) h = (h .0 .stands, fall-stand (v .1 .0) z l (h .2))
+
+    pub mined-stands : All (StandsAt s) (rows (take c ra) (take c ti) (take c pl))
+    mined-stands = rw (rows-take c ra ti pl) (fall-stand (n + 1) (take c (rows ra ti pl)) _ (G .listed))
+
+    sorted : MinedRows s (sort ahead? (rows (take c ra) (take c ti) (take c pl))) (sort newer? (minedOf s (a .open .start) (a .open .head .count) t k caught (idsAt ids m)))
+    sorted = rw (rows-take c ra ti pl) (sort-mined s (n + 1) (take c (rows ra ti pl)) _ (G .listed) before-mined)
+
+    pub gone-are : (r : ℕ) (gone : List ℕ) → r ≤ length (take c ra) → take r gone ≡ walkR (limits (a .open .head .p) (a .open .head .b) 0 0) height window s 0 0 (sort ahead? (rows (take c ra) (take c ti) (take c pl))) → (r ≤ 2048) × GoneAre s (asked height tip t k caught ids m window) (take r gone)
+    gone-are r gone h e =
+        let z : r ≤ 2048 = omega (arith, mined-even .ranks, mined-few) in (
+          z,
+          record {
+            are = λ q x. ap (map (idAt s)) e ∙ walk-ids _ height window s 0 0 _ _ sorted ∙ gone-is ∙ ap (goneIds C) (one-queue s (w .is) x);
+            placed = rw e (walk-part (λ p. p + 33 ≤ length s) _ height window s 0 0 _ (mined-placed s (sort ahead? (rows (take c ra) (take c ti) (take c pl))) (sort newer? (minedOf s (a .open .start) (a .open .head .count) t k caught (idsAt ids m))) sorted));
+            few = let y = length-take r gone in let x = min-le-left r (length gone) in omega arith;
+          },
+        )
+
+  -- ---- the whole area
+  module _ {gone : List ℕ} (G : GoneAre s (asked height tip t k caught ids m window) gone) where
+    abbrev I : List Id
+    I = goneIds C (w .q)
+
+    ids-are : map (idAt s) gone ≡ goneIds C (w .q)
+    ids-are = G .are (w .q) (w .is)
+
+    pub many-gone : length gone ≡ length (goneIds C (w .q))
+    many-gone = sym (map-length (idAt s) gone) ∙ ap length ids-are
+
+    pub gone-count : length gone ≤ a .open .head .count
+    unfolding goneIds touchedL
+    gone-count =
+        let st = w .read .store in
+        let u = released-all (λ i. Unit {0}) C (w .q .limits) (map f (w .q .recs)) (all-every _ (λ r. tt) (map f (w .q .recs))) .1 in
+        let v = map-length f (w .q .recs) in
+        omega (arith, many-gone, st .count)
+
+    placed : Placed (goneIds C (w .q)) (map f (w .q .recs))
+    unfolding goneIds touchedL released
+    placed = releases-placed (w .q .limits) height window (w .q .recs) f (goneIds C (w .q)) (keeps (w .q .recs)) (fit (w .read) .sound .rising) refl
+
+    none-gone : (x : List Id) → length x ≡ 0 → x ≡ []
+    none-gone [] e = refl
+    none-gone (i ∷ x) e = absurd (let y : ⊥ = omega arith in y)
+
+    pub kept-is : {fl : ℕ} → FloorFor s a (length gone) fl → keptL s (a .open .start) (a .open .head .count) t k caught (idsAt ids m) gone (a .open .head .counter .0) fl ≡ trimmed (w .q .limits .T) (goneIds C (w .q)) (map (releaseOne (w .q .counter) (goneIds C (w .q))) (touchedL C (w .q)))
+    unfolding keptL keptOf touchedL
+    kept-is {fl} F =
+        let st = w .read .store in
+        let T : w .q .limits .T ≡ a .open .head .t = st .head .T in
+        let N : w .q .counter ≡ a .open .head .counter .0 = st .head .counter in
+        three (sym N) ids-are next-is
+        ∙ sym (trim-is (w .q .limits .T) (w .q .counter) fl (w .q .recs) f (goneIds C (w .q)) (keeps (w .q .recs)) placed
+        (λ e. F .0 (many-gone ∙ ap length e))
+        (λ n. floors-to fl (sym N) many-gone (sym T) (st .list) (F .1 (λ z. n (none-gone (goneIds C (w .q)) (sym many-gone ∙ z))))))
+      where
+        three : {c c′ : ℕ} {x x′ : List Id} {l l′ : List Rec} → c ≡ c′ → x ≡ x′ → l ≡ l′ → filter (λ y. holder? y || leb fl (y .finish)) (map (releaseOne c x) l) ≡ filter (λ y. holder? y || leb fl (y .finish)) (map (releaseOne c′ x′) l′)
+        three e f g = cc
+
+    module _ (room : a .open .head .counter .0 + length gone < 18446744073709551616) where
+      fits-top : ltb top (w .q .counter + length (goneIds C (w .q))) ≡ false
+      fits-top = let N : w .q .counter ≡ a .open .head .counter .0 = w .read .store .head .counter in le-ltb top (w .q .counter + length (goneIds C (w .q))) (omega (arith, many-gone))
+
+      module _ (ch : (anyTouched C (w .q) || someReleased? (goneIds C (w .q))) ≡ true) where
+        whole-done : reconcile C (w .q) ≡ done Whole (wholeQ C (w .q)) (true, goneIds C (w .q))
+        unfolding reconcile wholeQ goneIds touchedL anyTouched
+        whole-done = rw (fits-top, ch)
+
+        whole-fit : Fit (wholeQ C (w .q))
+        whole-fit = leaves-kept (w .q) (wholeQ C (w .q)) (reconcile C (w .q)) Whole (true, goneIds C (w .q)) (reconcile-leaves C (w .q) (fit (w .read)) (L .ok)) whole-done .fit
+
+        abbrev pub LimsW : Limits
+        LimsW = limits (a .open .head .p) (a .open .head .b) (a .open .head .t) (a .open .head .k)
+
+        abbrev pub recsW : ℕ → List Rec
+        recsW fl = keptL s (a .open .start) (a .open .head .count) t k caught (idsAt ids m) gone (a .open .head .counter .0) fl
+
+        module _ {fl revision many : ℕ} (F : FloorFor s a (length gone) fl) (e : revision ≡ (a .open .head .revision + 1) % 2 ^ 64) (n : many ≡ length (recsW fl)) where
+          abbrev pub marksW : Marks
+          marksW = record { persisted = record { 0 = height }; revision = revision; cursor = record { 0 = height }; tip = true; counter = record { 0 = a .open .head .counter .0 + length gone }; count = many }
+
+          whole-is : queueOf LimsW marksW tip (recsW fl) ≡ wholeQ C (w .q)
+          unfolding wholeQ committed
+          whole-is =
+              let st = w .read .store in
+              same-queue refl (sym (the-limits (w .read))) (e ∙ ap (λ v. (v + 1) % 2 ^ 64) (sym (st .head .revision))) refl refl
+              (ap (λ v. v + length gone) (sym (st .head .counter)) ∙ ap (λ v. w .q .counter + v) many-gone) (kept-is F)
+
+          whole-need : length (queueC .enc (wholeQ C (w .q))) ≤ need (w .q .limits)
+          unfolding wholeQ committed
+          whole-need = fits-need (wholeQ C (w .q)) (fit-sound _ whole-fit) (fit-ok _ whole-fit)
+
+          whole-fits : length (queueC .enc (queueOf LimsW marksW tip (recsW fl))) ≤ need LimsW
+          whole-fits = let u = ap (λ v. length (queueC .enc v)) whole-is in let v = ap need (the-limits (w .read)) in let y = whole-need in omega arith
+
+          pub whole-room : 78 + length (encs recC (recsW fl)) ≤ a .need
+          whole-room =
+              let q = queue-long LimsW marksW tip (recsW fl) n (L .long) in
+              let v = ap need (the-limits (w .read)) in let y = whole-fits in omega (arith, w .read .need)
+
+          pub whole-put : {d d₁ d₂ d₃ : Bytes} {o y y′ to : ℕ} {q′ : Queue} → readArea s ≡ some q′ → a .need ≤ length d → to ≡ 78
+              → Put d to (encs recC (recsW fl)) (length (encs recC (recsW fl))) o d₁ → Put d₁ 0 (frontBytes LimsW marksW tip) 78 y d₂ → Put d₂ o (replicate (a .need - o) 0) (a .need - o) y′ d₃
+              → d₃ ≡ over (areaBytes (wholeQ C q′)) d
+          whole-put {d} x g h p1 p2 p3 =
+              area-done LimsW marksW tip (recsW fl) n whole-fits (w .read .need ∙ ap need (the-limits (w .read))) g p1 (recast p2 refl (sym h) refl) p3
+              ∙ ap (λ v. over (areaBytes v) d) (whole-is ∙ ap (wholeQ C) (one-queue s (w .is) x))
+
+          whole-count : length (trimmed (w .q .limits .T) (goneIds C (w .q)) (map (releaseOne (w .q .counter) (goneIds C (w .q))) (touchedL C (w .q)))) ≤ 2 * w .q .limits .P + w .q .limits .T
+          unfolding wholeQ committed
+          whole-count = whole-fit .sound .few
+
+          pub whole-few : many < 4294967296
+          whole-few = let z = fit (w .read) .sound .range in let y = whole-count in omega (arith, n, ap length (kept-is F), z .P-high, z .T-high)
+
+      -- ---- the answer
+      pub some-gone : someReleased? (goneIds C (w .q)) ≡ ltb 0 (length gone)
+      some-gone = go (goneIds C (w .q)) many-gone
+        where
+          go : (x : List Id) → length gone ≡ length x → someReleased? x ≡ ltb 0 (length gone)
+          go [] e = sym (le-ltb 0 (length gone) (omega arith))
+          go (i ∷ x) e = sym (lt-ltb 0 (length gone) (omega arith))
+
+      still-done : (anyTouched C (w .q) || someReleased? (goneIds C (w .q))) ≡ false → reconcile C (w .q) ≡ done (cursorKind (w .q .persisted) height) (cursorTo height tip (w .q)) (false, [])
+      unfolding reconcile goneIds touchedL anyTouched
+      still-done ch = rw (fits-top, ch) (cases (leb (min (w .q .persisted + 32) topHeight) height) (λ b. rw b) (λ b. rw b))
+
+      gone-long : length (concat (map (idAt s) gone)) ≡ 32 * length gone
+      gone-long = ids-size s gone (G .placed)
+
+      answer-long : (b : Bool) → length (releasedBytes (b, goneIds C (w .q))) ≡ 5 + 32 * length gone
+      unfolding releasedBytes idsBytes
+      answer-long b =
+          let e = ap (λ x. length (concat x)) ids-are in
+          let u = length-append (codec.be 4 (length (goneIds C (w .q)))) (concat (goneIds C (w .q))) in
+          let v = codec.be-length 4 (length (goneIds C (w .q))) in
+          let z = gone-long in omega arith
+
+      none-long : length (releasedBytes (false, [])) ≡ 5
+      unfolding releasedBytes idsBytes
+      none-long = refl
+
+      answer-is : (b : Bool) → goneBytes s b gone ≡ releasedBytes (b, goneIds C (w .q))
+      unfolding goneBytes releasedBytes idsBytes
+      answer-is b = ap (λ (y : Bytes). one b ∷ y) (two (be-same 4 (length gone) (let z = G .few in omega arith) ∙ ap (codec.be 4) many-gone) (ap concat ids-are))
+        where
+          two : {x x′ y y′ : Bytes} → x ≡ x′ → y ≡ y′ → x ++ y ≡ x′ ++ y′
+          two e f = cc
+
+      no-ids : (anyTouched C (w .q) || someReleased? (goneIds C (w .q))) ≡ false → length gone ≡ 0
+      no-ids ch = let z = or-false (anyTouched C (w .q)) (someReleased? (goneIds C (w .q))) ch .1 in let y = ltb-false 0 (length gone) (sym some-gone ∙ z) in omega arith
+
+      pub gone-4 : (next out : Bytes) → length out < 5 + 32 * length gone → ReconcileTold s C (outcome (Refused 4) next out) next out
+      gone-4 next out h q e = cases (anyTouched C (w .q) || someReleased? (goneIds C (w .q)))
+          (λ c. rw (← (one-queue s (w .is) e), whole-done c, lt-ltb (length out) (length (releasedBytes (true, goneIds C (w .q)))) (omega (arith, answer-long true))))
+          (λ c. rw (← (one-queue s (w .is) e), still-done c, lt-ltb (length out) (length (releasedBytes (false, []))) (omega (arith, none-long, no-ids c))))
+
+      module _ (next out : Bytes) (h : 5 + 32 * length gone ≤ length out) {b : Bool} (ch : b ≡ (anyTouched C (w .q) || someReleased? (goneIds C (w .q)))) {out′ : Bytes} {r : ℕ} (p : Put out 0 (goneBytes s b gone) (5 + 32 * length gone) r out′) where
+        pub gone-102 : {next′ : Bytes} → b ≡ true → WholeTo s C next next′ → ReconcileTold s C (outcome (Done Whole) next′ out′) next out
+        gone-102 {next′} t x q e =
+            let c = sym ch ∙ t in
+            let z : out′ ≡ over (releasedBytes (true, goneIds C (w .q))) out = p .is ∙ ap (splice out 0) (ap (λ v. goneBytes s v gone) t ∙ answer-is true) ∙ sym (over-splice out (releasedBytes (true, goneIds C (w .q))) (omega (arith, answer-long true))) in
+            rw (← (one-queue s (w .is) e), whole-done c, le-ltb (length out) (length (releasedBytes (true, goneIds C (w .q)))) (omega (arith, answer-long true)), z, x (w .q) (w .is))
+
+        pub gone-10x : {next′ : Bytes} {u : Answer} → b ≡ false → CursorTold s height tip u next next′ → ReconcileTold s C (outcome u next′ out′) next out
+        gone-10x {next′} {u} t x q e =
+            let c = sym ch ∙ t in
+            let y = x (w .q) (w .is) in
+            let N : goneIds C (w .q) ≡ [] = none-gone (goneIds C (w .q)) (sym many-gone ∙ no-ids c) in
+            let z : out′ ≡ over (releasedBytes (false, [])) out = p .is ∙ ap (splice out 0) (ap (λ v. goneBytes s v gone) t ∙ answer-is false ∙ ap (λ l. releasedBytes (false, l)) N) ∙ sym (over-splice out (releasedBytes (false, [])) (omega (arith, none-long, no-ids c))) in
+            rw (← (one-queue s (w .is) e), still-done c, le-ltb (length out) (length (releasedBytes (false, []))) (omega (arith, none-long, no-ids c)), z, y .0, y .1)
+            (cases (leb (min (w .q .persisted + 32) topHeight) height) (λ k. rw k) (λ k. rw k))
+
+    pub gone-15 : (next out : Bytes) → 18446744073709551615 - a .open .head .counter .0 < length gone → ReconcileTold s C (outcome (Refused 15) next out) next out
+    unfolding reconcile goneIds touchedL
+    gone-15 next out h q e =
+        let N : w .q .counter ≡ a .open .head .counter .0 = w .read .store .head .counter in
+        let z : ltb top (w .q .counter + length (goneIds C (w .q))) ≡ true = lt-ltb top (w .q .counter + length (goneIds C (w .q))) (omega (arith, many-gone, w .read .store .head .counterSmall)) in
+        rw (← (one-queue s (w .is) e), z)
+
+    pub changed-is : {b c : Bool} → c ≡ any? (changes? caught (ownIds (idsAt ids m) (listAt (formC false recC) (a .open .head .count) s (a .open .start))) (appliedIn t k)) (listAt (formC false recC) (a .open .head .count) s (a .open .start)) → b ≡ (c || ltb 0 (length gone)) → ChangedIs s C b
+    unfolding anyTouched touch ownIds
+    changed-is e f q x = f ∙ two (e ∙ ap (λ l. any? (changes? caught (ownIds (idsAt ids m) l) (appliedIn t k)) l) (w .read .store .list)) (sym some) ∙ ap (λ v. anyTouched C v || someReleased? (goneIds C v)) (one-queue s (w .is) x)
+      where
+        some : someReleased? (goneIds C (w .q)) ≡ ltb 0 (length gone)
+        some = go (goneIds C (w .q)) many-gone
+          where
+            go : (x : List Id) → length gone ≡ length x → someReleased? x ≡ ltb 0 (length gone)
+            go [] e = sym (le-ltb 0 (length gone) (omega arith))
+            go (i ∷ x) e = sym (lt-ltb 0 (length gone) (omega arith))
+
+        two : {a a′ b b′ : Bool} → a ≡ a′ → b ≡ b′ → (a || b) ≡ (a′ || b′)
+        two e f = cc
+
+pub gathered-to : {s : Bytes} {n : ℕ} {l : List Rec} {room m : ℕ} {a b c : List ℕ} → room ≡ 2048 → MinedGathered s n l room m a b c → MinedGathered s n l 2048 m a b c
+gathered-to e g = record { even = even-to (g .even) e; all = g .all; listed = g .listed }
+
+-- ---- the floor, a flag, and the answer's bytes
+pub floor-none : (s : Bytes) (a : Area) (g : ℕ) → g ≡ 0 → FloorFor s a g 0
+floor-none s a g e = (λ _. refl, λ n. absurd (n e))
+
+pub floor-some : (s : Bytes) (a : Area) (g : ℕ) {f : ℕ} → (g ≡ 0 → ⊥) → ((sum Tombstones (listAt (formC false recC) (a .open .head .count) s (a .open .start)) + g ≤ a .open .head .t) × (f ≡ 0)) ⊎ ((x : ℕ) → ltb (above (a .open .head .counter .0) g (listAt (formC false recC) (a .open .head .count) s (a .open .start)) x) (a .open .head .t) ≡ leb f x) → FloorFor s a g f
+floor-some s a g n x = (λ e. absurd (n e), λ _. x)
+
+pub flag-put : {d d′ : Bytes} {at r n : ℕ} (b : Bool) → n ≡ one b → Put d at (n ∷ []) 1 r d′ → Put d at (one b ∷ []) 1 r d′
+flag-put {d} {d′} {at} {r} b e p = recast p (ap (λ k. k ∷ []) e) refl refl
+
+pub gone-put : (s : Bytes) (b : Bool) (gone : List ℕ) {d d₁ d₂ d₃ : Bytes} {x y r : ℕ} → Put d 0 (one b ∷ []) 1 x d₁ → Put d₁ x (be 4 (length gone)) 4 y d₂ → Put d₂ y (concat (map (idAt s) gone)) (32 * length gone) r d₃ → Put d 0 (goneBytes s b gone) (5 + 32 * length gone) r d₃
+unfolding goneBytes
+gone-put s b gone p q u = recast (then (then p q) u) refl (omega arith) refl
+
+-- ---- the cursor
+pub far-low : (p h : ℕ) {b : Bool} → p + 32 ≤ 4294967295 → b ≡ leb (p + 32) h → b ≡ leb (min (p + 32) topHeight) h
+far-low p h k e = e ∙ ap (λ n. leb n h) (sym (min-eq-left k))
+
+pub far-top : (p h : ℕ) {b : Bool} → 4294967295 < p + 32 → b ≡ leb 4294967295 h → b ≡ leb (min (p + 32) topHeight) h
+far-top p h k e = e ∙ ap (λ n. leb n h) (sym (min-eq-right (let z : 4294967295 ≤ p + 32 = omega arith in z)))
+
+module _ {s : Bytes} {a : Area} (w : AreaIn s a) (height : Height) (tip : Id) where
+  pub move-to : (p : Height) → p .0 < 4294967296 → height .0 < 4294967296 → idC .ok tip → MovedFrom s a p height true tip
+  unfolding moved optC
+  move-to p i j o =
+      let g = moved-fit (p .0) (height .0) (some tip) (w .q) i j o (fit (w .read)) in
+      record { q = w .q; is = w .is; read = w .read; fits = lim (fits-need _ (fit-sound _ g) (fit-ok _ g)); small = i; smallCursor = j }
+    where
+      lim : length (queueC .enc (moved (p .0) (height .0) (some tip) (w .q))) ≤ need (moved (p .0) (height .0) (some tip) (w .q) .limits) → length (queueC .enc (moved (p .0) (height .0) (some tip) (w .q))) ≤ need (w .q .limits)
+      lim x = x
+
+  pub low-persisted : a .persisted .0 < 4294967296
+  low-persisted = let e = w .read .persisted in let z = fit (w .read) .persisted in omega arith
+
+  module _ {b : Bool} (e : b ≡ leb (min (a .persisted .0 + 32) topHeight) (height .0)) where
+    far-is : leb (min (w .q .persisted + 32) topHeight) (height .0) ≡ b
+    far-is = ap (λ n. leb (min (n + 32) topHeight) (height .0)) (w .read .persisted) ∙ sym e
+
+    pub cursor-far : (next : Bytes) {next′ : Bytes} → b ≡ true → MovedTo s a height height true tip next next′ → CursorTold s (height .0) tip (Done Cursor) next next′
+    cursor-far next t x q f = rw (← (one-queue s (w .is) f), far-is ∙ t) (refl, x (w .q) (w .is))
+
+    pub cursor-near : (next : Bytes) {next′ : Bytes} → b ≡ false → MovedTo s a (a .persisted) height true tip next next′ → CursorTold s (height .0) tip (Done Memory) next next′
+    cursor-near next t x q f = rw (← (one-queue s (w .is) f), far-is ∙ t) (refl, x (w .q) (w .is) ∙ ap (λ n. over (areaBytes (moved n (height .0) (some tip) (w .q))) next) (sym (w .read .persisted)))
+
+-- ---- the call
+pub reconcile-3 : (cur next out : Bytes) (g : ReconcileArgs) → readArea cur ≡ none → outcome (Refused 3) next out ≡ reconcileOf cur next out g
+unfolding reconcileOf
+reconcile-3 cur next out g e = rw e
+
+module _ (cur next out : Bytes) {a : Area} (i : AreaIs cur a) (ok : a .ok ≡ true) (height : ℕ) (tip t : Bytes) (flag : ℕ) (ids : Bytes) (window : ℕ) where
+  abbrev Given : ReconcileArgs
+  Given = reconcileArgs height tip t flag ids window
+
+  pub reconcile-2 : length next < a .need → outcome (Refused 2) next out ≡ reconcileOf cur next out Given
+  unfolding reconcileOf
+  reconcile-2 h = let g = i .good ok in rw (g .1, lt-ltb (length next) (need (g .0 .limits)) (omega (arith, g .2 .need)))
+
+  module _ (h : a .need ≤ length next) {r : Bool} (A : ReconcileAsked tip flag t ids r) where
+    enough : ltb (length next) (need (i .good ok .0 .limits)) ≡ false
+    enough = le-ltb (length next) (need (i .good ok .0 .limits)) (omega (arith, i .good ok .2 .need))
+
+    shape-is : reconcileShape? Given ≡ r
+    shape-is = sym (A .is)
+
+    pub reconcile-5 : r ≡ false → outcome (Refused 5) next out ≡ reconcileOf cur next out Given
+    unfolding reconcileOf
+    reconcile-5 n = let g = i .good ok in rw (g .1, enough, shape-is ∙ n)
+
+    module _ (n : r ≡ true) {j : Id} (z : j ≡ part 32 (view false tip 0) 0) where
+      tip-key : j ≡ tip
+      tip-key = key (A .good n .long) z
+
+      pub tip-room : length tip ≡ 32
+      tip-room = A .good n .long
+
+      asked-is : asked height j t (length t / 68) (eqb flag 1) ids (length ids / 32) window ≡ reconciling Given
+      asked-is = three tip-key (A .good n .applied) (A .good n .available)
+        where
+          three : {u u′ : Id} {x x′ : List Applied} {y y′ : List Id} → u ≡ u′ → x ≡ x′ → y ≡ y′ → _≡_ {A = Reconciling} (record { height = height; tip = u; applied = x; caughtUp = eqb flag 1; available = y; window = window }) (record { height = height; tip = u′; applied = x′; caughtUp = eqb flag 1; available = y′; window = window })
+          three e f g = cc
+
+      pub lent-to : height < 4294967296 → LentTo height j t (length t / 68) (eqb flag 1) ids (length ids / 32) window
+      lent-to l = record {
+        ok = rw asked-is (reconciling-ok Given (record { height = l; tip = A .smallTip; applied = A .smallApplied }) (shape-is ∙ n));
+        entries = A .good n .whole;
+        rise = A .good n .rise;
+        small = A .smallApplied;
+        long = ap length tip-key ∙ A .good n .long;
+      }
+
+      pub reconcile-rest : {o : Outcome} → ReconcileTold cur (asked height j t (length t / 68) (eqb flag 1) ids (length ids / 32) window) o next out → o ≡ reconcileOf cur next out Given
+      unfolding reconcileOf
+      reconcile-rest {o} c = let g = i .good ok in let v = c (g .0) (g .1) ∙ ap (λ y. told releasedBytes next out (reconcile y (g .0))) asked-is in rw (g .1, enough, shape-is ∙ n) v

@@ -1,0 +1,325 @@
+-- What a reconciliation makes of one record. Assumes nothing.
+use mathlib.Core.Path.{_≡_, refl, ap, sym, _∙_}
+use mathlib.Core.Bool.{Bool, true, false, cond, not, _&&_, _||_}
+use mathlib.Core.Option.{Option, none, some}
+use mathlib.Core.List.{List, [], _∷_, _++_, append-assoc}
+use Prim.Native.Nat.{ℕ, zero, suc, _+_, _-_, _*_, _^_, _≤_, _<_}
+use native.Mathlib.Omega.{arith}
+use native.Mathlib.Numerals.{add-one}
+use native.Mathlib.Nat.{pow-succ', mul-assoc, mul-comm, zero-add, suc-add}
+use lib.Dec.{eqb}
+use lib.ListN.{length, take, drop, getD, length-append, length-drop}
+use lib.Seq.{take-take, take-suc, drop-drop, getD-drop, drop-append-seam, take-append-seam}
+use borrow.Author.Tests.{eq-eqb, ne-eqb}
+use Rattle.queue.specs.Codec as codec
+use Rattle.queue.specs.Codec.{cases, be-length, optC, pairC, vecC}
+use Rattle.queue.specs.Frames.{recC, idC, placeC}
+use Rattle.queue.specs.Ids.{part}
+use Rattle.queue.specs.View.{view}
+use Rattle.queue.specs.Reads.{Reads, whole, listAt}
+use Rattle.queue.specs.ReadLaws.{beAt, false-true}
+use Rattle.queue.specs.Forms.{formC, afterIn}
+use Rattle.queue.specs.Facts.{factsOf, placeHeight, SeenAs}
+use Rattle.queue.specs.Plain.{place-plain}
+use Rattle.queue.specs.Sounds.{fields-of}
+use Rattle.queue.specs.Touching.{entryIn, appliedIn, EntryAs, SeenOf, SeenHere, ConfirmedIs, ownIds, judgeF, asTouched, TouchIs, changes?}
+use Rattle.queue.specs.paper.Records.{Bytes, Id, Rec, queued, conflicted}
+use Rattle.queue.specs.paper.Lists.{isSome, any?, all?, find, map, concat}
+use Rattle.queue.specs.paper.Ids.{cmpL, same?}
+use Rattle.queue.specs.paper.Sound.{pending?, mined?, among?, inputs, outputs}
+use Rattle.queue.specs.paper.Area.{beVal, placeBytes}
+use Rattle.queue.specs.paper.Changing.{Applied, confirmed?, confirm, judge, judged, queuedOutputs, touchFound}
+use Rattle.queue.specs.paper.Calls.{pieces, appliedOf}
+use Rattle.queue.specs.declared.frame.Seen.{Seen}
+use Rattle.queue.specs.declared.frame.Facts.{Facts}
+use Rattle.queue.specs.declared.reading.Found.{Found}
+use Rattle.queue.specs.declared.touch.Verdict.{Verdict}
+use Rattle.queue.proofs.Turns.{Scan, start, here, on, stop, end, SeenIn, ReadsRec, seen, see}
+use Rattle.queue.proofs.ByteLaws.{between}
+
+-- ---- numbers and parts of an applied entry
+val-snoc : (l : Bytes) (b : ℕ) → beVal (l ++ (b ∷ [])) ≡ beVal l * 256 + b
+unfolding beVal
+val-snoc [] b = omega arith
+val-snoc (c ∷ l) b =
+    let e = val-snoc l b in
+    let n : length (l ++ (b ∷ [])) ≡ suc (length l) = length-append l (b ∷ []) ∙ omega arith in
+    let p : c * 256 ^ suc (length l) ≡ c * 256 ^ length l * 256 = ap (λ (k : ℕ). c * k) (pow-succ' 256 (length l) ∙ mul-comm 256 (256 ^ length l)) ∙ sym (mul-assoc c (256 ^ length l) 256) in
+    ap (λ (k : ℕ). c * 256 ^ k + beVal (l ++ (b ∷ []))) n ∙ omega arith
+
+pub be-val : (n : ℕ) (s : Bytes) (at : ℕ) → at + n ≤ length s → beAt n s at ≡ beVal (take n (drop at s))
+unfolding beAt beVal
+be-val zero s at h = refl
+be-val (suc n) s at h =
+    let i = be-val n s at (omega arith) in
+    let t = take-suc (drop at s) n 0 (omega (arith, length-drop at s)) in
+    sym (ap beVal t ∙ val-snoc (take n (drop at s)) (getD (drop at s) n 0) ∙ ap (λ (k : ℕ). beVal (take n (drop at s)) * 256 + k) (getD-drop at s n 0) ∙ ap (λ (k : ℕ). k * 256 + getD s (at + n) 0) (sym i))
+
+pub drop-take : (a n : ℕ) (l : Bytes) → drop a (take (a + n) l) ≡ take n (drop a l)
+drop-take zero n l = ap (λ (k : ℕ). take k l) (zero-add n)
+drop-take (suc a) n [] = ap (λ (k : ℕ). drop {A = ℕ} (suc a) (take k [])) (suc-add a n) ∙ go n
+  where
+    go : (n : ℕ) → _≡_ {A = Bytes} [] (take n [])
+    go zero = refl
+    go (suc n) = refl
+drop-take (suc a) n (x ∷ l) = ap (λ (k : ℕ). drop (suc a) (take k (x ∷ l))) (suc-add a n) ∙ drop-take a n l
+
+module _ (t : Bytes) (p : ℕ) where
+  entry-id : entryIn t p .id ≡ part 32 (view false t 0) p
+  unfolding part view
+  entry-id = take-take 32 68 (drop p t) (omega arith)
+
+  pub entry-height : p + 68 ≤ length t → entryIn t p .height ≡ beAt 4 (view false t 0) (p + 32)
+  unfolding view
+  entry-height h =
+      ap (λ (l : Bytes). beVal (take 4 l)) (drop-take 32 36 (drop p t)) ∙ ap beVal (take-take 4 36 (drop 32 (drop p t)) (omega arith)) ∙ ap (λ (l : Bytes). beVal (take 4 l)) (drop-drop 32 p t)
+      ∙ sym (be-val 4 t (p + 32) (omega arith))
+
+  entry-block : entryIn t p .block ≡ part 32 (view false t 0) (p + 36)
+  unfolding part view
+  entry-block = drop-take 36 32 (drop p t) ∙ ap (take 32) (drop-drop 36 p t)
+
+-- ---- the entry of an id
+pub record Looking (t : Bytes) (k : ℕ) (id : Id) (i left : ℕ) : Type 0 where
+  pub within : i + left * 68 ≡ length t
+  pub same : find (λ a. same? id (a .id)) (appliedIn (drop i t) left) ≡ find (λ a. same? id (a .id)) (appliedIn t k)
+
+pub look-start : (t : Bytes) (k : ℕ) (id : Id) → length t ≡ k * 68 → Looking t k id 0 k
+look-start t k id e = record { within = omega arith; same = refl }
+
+module _ {t : Bytes} {k : ℕ} {id : Id} {i left : ℕ} (x : Looking t k id i left) (h : 0 < left) {y : Id} (e : y ≡ part 32 (view false t 0) i) where
+  cut : appliedIn (drop i t) left ≡ entryIn t i ∷ appliedIn (drop (i + 68) t) (left - 1)
+  cut = let n : left ≡ suc (left - 1) = omega arith in ap (appliedIn (drop i t)) n ∙ ap (λ (l : Bytes). entryIn t i ∷ appliedIn l (left - 1)) (drop-drop 68 i t)
+
+  entry-same : same? id (entryIn t i .id) ≡ eqb (cmpL id y) 1
+  entry-same = ap (λ v. eqb (cmpL id v) 1) (entry-id t i ∙ sym e)
+
+  pub look-go : (cmpL id y ≡ 1 → ⊥) → Looking t k id (i + 68) (left - 1)
+  look-go n = record { within = omega (arith, x .within); same = sym (ap (find (λ a. same? id (a .id))) cut ∙ rw (entry-same ∙ ne-eqb (cmpL id y) 1 n)) ∙ x .same }
+
+  pub look-stop : cmpL id y ≡ 1 → EntryAs t k id (record { found = true; at = i })
+  look-stop n = record { good = λ _. (omega (arith, x .within), sym (x .same) ∙ ap (find (λ a. same? id (a .id))) cut ∙ rw (entry-same ∙ eq-eqb (cmpL id y) 1 n)); bad = λ f. false-true (sym f) }
+
+pub look-end : {t : Bytes} {k : ℕ} {id : Id} {i left : ℕ} → Looking t k id i left → left ≡ 0 → EntryAs t k id (record { found = false; at = 0 })
+look-end {t} {k} {id} {i} {left} x e = record { good = λ f. false-true f; bad = λ _. sym (x .same) ∙ ap (λ (n : ℕ). find (λ a. same? id (a .id)) (appliedIn (drop i t) n)) e }
+
+-- ---- is it confirmed there already
+module _ (s : Bytes) (base : ℕ) (x : Seen) (t : Bytes) (p : ℕ) where
+  state-of : (r : Rec) → SeenOf s base x r → x .facts .state ≡ r .state
+  unfolding factsOf
+  state-of r w = ap (λ v. v .state) (w .0 .facts)
+
+  placed-of : (r : Rec) → SeenOf s base x r → isSome (r .place) ≡ x .facts .placed
+  unfolding factsOf
+  placed-of r w = sym (ap (λ v. v .placed) (w .0 .facts))
+
+  height-of : (r : Rec) → SeenOf s base x r → placeHeight (r .place) ≡ x .facts .mined .0
+  unfolding factsOf
+  height-of r w = sym (ap (λ v. v .mined .0) (w .0 .facts))
+
+  pub unmined : (x .facts .state ≡ 2 → ⊥) → ConfirmedIs s base x t p false
+  unmined n r w = rw (ne-eqb (r .state) 2 (λ e. n (state-of r w ∙ e)))
+
+  pub unplaced : x .facts .state ≡ 2 → x .facts .placed ≡ false → ConfirmedIs s base x t p false
+  unplaced e n r w = rw (eq-eqb (r .state) 2 (sym (state-of r w) ∙ e)) (go (r .place) (placed-of r w ∙ n))
+    where
+      go : (o : Option (ℕ × Id)) → isSome o ≡ false → false ≡ confirmed? (entryIn t p) o
+      go none e = refl
+      go (some y) e = false-true (sym e)
+
+  place-some : (r : Rec) (h : ℕ) (b : Id) → SeenOf s base x r → r .place ≡ some (h, b) → length b ≡ 32 → (part 32 (view false s base) (x .after + 5) ≡ b) × (x .after + 37 ≤ length (view false s base))
+  unfolding part placeBytes
+  place-some r h b w e l =
+      let v = view false s base in
+      let d : drop (x .after) v ≡ (1 ∷ (codec.be 4 h ++ b)) ++ drop (x .mark) v = w .0 .place ∙ ap (λ (y : Bytes). y ++ drop (x .mark) v) (place-plain (r .place) ∙ ap placeBytes e) in
+      let n = between v (1 ∷ (codec.be 4 h ++ b)) (x .after) (x .mark) d (w .0 .upPlace) (omega (arith, w .0 .upBody, w .0 .end)) .1 in
+      let k : length (codec.be 4 h ++ b) ≡ 36 = length-append (codec.be 4 h) b ∙ omega (arith, be-length 4 h) in
+      let f : drop (x .after + 5) v ≡ b ++ drop (x .mark) v = sym (drop-drop 5 (x .after) v) ∙ ap (drop 5) (d ∙ ap (λ (y : Bytes). 1 ∷ y) (append-assoc (codec.be 4 h) b (drop (x .mark) v))) ∙ behind (codec.be 4 h) (b ++ drop (x .mark) v) (be-length 4 h) in
+      (ap (take 32) f ∙ front b (drop (x .mark) v) l, omega (arith, w .0 .upBody, w .0 .end))
+    where
+      behind : (a c : Bytes) → length a ≡ 4 → drop 5 (1 ∷ (a ++ c)) ≡ c
+      behind a c e = ap (λ (k : ℕ). drop k (a ++ c)) (sym e) ∙ drop-append-seam a c
+
+      front : (a c : Bytes) → length a ≡ 32 → take 32 (a ++ c) ≡ a
+      front a c e = ap (λ (k : ℕ). take k (a ++ c)) (sym e) ∙ take-append-seam a c
+
+  some-place : (r : Rec) → recC .ok r → isSome (r .place) ≡ true → (h : ℕ) × (b : Id) × (r .place ≡ some (h, b)) × (length b ≡ 32)
+  unfolding placeC optC pairC idC vecC
+  some-place r o e = go (r .place) refl e (fields-of r o .place)
+    where
+      go : (y : Option (ℕ × Id)) → r .place ≡ y → isSome y ≡ true → placeC .ok y → (h : ℕ) × (b : Id) × (r .place ≡ some (h, b)) × (length b ≡ 32)
+      go none f e k = false-true e
+      go (some z) f e k = (z .0, z .1, f, k .1 .1)
+
+  pub place-room : SeenHere s base x → x .facts .placed ≡ true → x .after + 37 ≤ length (view false s base)
+  place-room w n = let q = some-place (w .0) (w .1 .1) (placed-of (w .0) (w .1) ∙ n) in place-some (w .0) (q .0) (q .1) (w .1) (q .2) (q .3) .1
+
+  pub placed-is : {n : ℕ} {a b : Id} {u : Bool} → x .facts .state ≡ 2 → x .facts .placed ≡ true → p + 68 ≤ length t → n ≡ beAt 4 (view false t 0) (p + 32) → a ≡ part 32 (view false s base) (x .after + 5) → b ≡ part 32 (view false t 0) (p + 36)
+      → u ≡ (eqb (x .facts .mined .0) n && eqb (cmpL a b) 1) → ConfirmedIs s base x t p u
+  placed-is {n} {a} {b} {u} e m h i j k f r w =
+      let q = some-place r (w .1) (placed-of r w ∙ m) in
+      let z = place-some r (q .0) (q .1) w (q .2) (q .3) .0 in
+      let g : q .0 ≡ x .facts .mined .0 = sym (ap placeHeight (q .2)) ∙ height-of r w in
+      let y : u ≡ confirmed? (entryIn t p) (some (q .0, q .1)) = f ∙ two (two′ (sym g) (i ∙ sym (entry-height t p h))) (two″ (j ∙ z) (k ∙ sym (entry-block t p))) in
+      y ∙ ap (confirmed? (entryIn t p)) (sym (q .2)) ∙ ap (λ (v : Bool). v && confirmed? (entryIn t p) (r .place)) (sym (eq-eqb (r .state) 2 (sym (state-of r w) ∙ e)))
+    where
+      two : {a a′ b b′ : Bool} → a ≡ a′ → b ≡ b′ → (a && b) ≡ (a′ && b′)
+      two e f = cc
+
+      two′ : {a a′ b b′ : ℕ} → a ≡ a′ → b ≡ b′ → eqb a b ≡ eqb a′ b′
+      two′ e f = cc
+
+      two″ : {a a′ b b′ : Id} → a ≡ a′ → b ≡ b′ → eqb (cmpL a b) 1 ≡ eqb (cmpL a′ b′) 1
+      two″ e f = cc
+
+-- ---- own ids
+among-append : (i : Id) (a b : List Id) → among? i (a ++ b) ≡ (among? i a || among? i b)
+among-append i [] b = refl
+among-append i (x ∷ a) b = let e = among-append i a b in cases (same? i x) (λ t. rw t) (λ t. rw t e)
+
+unfoldable pub outF : Id → Unit {0} → List Rec → Bool
+outF i u l = among? i (queuedOutputs l)
+
+out-turn : (i : Id) (r : Rec) (l : List Rec) → outF i tt (r ∷ l) ≡ ((eqb (r .state) 0 && among? i (outputs (r .body))) || outF i tt l)
+unfolding outF
+out-turn i r l = among-append i (cond (eqb (r .state) 0) (outputs (r .body)) []) (queuedOutputs l) ∙ cases (eqb (r .state) 0) (λ t. rw t) (λ t. rw t)
+
+module _ (z : Id) {s : Bytes} {n at i left : ℕ} (x : Scan (formC false recC) (outF z) s n at tt i left tt) (h : 0 < left) {m : ℕ} {ok b : Bool} {y : Seen} (r : ReadsRec false s i ok m y) (e : b ≡ (eqb (y .facts .state) 0 && among? z (listAt idC (y .facts .outs) (view false s i) (y .outs)))) where
+  hit-is : (eqb (seen false x h r .item .state) 0 && among? z (outputs (seen false x h r .item .body))) ≡ b
+  unfolding factsOf
+  hit-is = let w = seen false x h r .is .0 in sym (e ∙ two (ap (λ v. eqb (v .state) 0) (w .facts)) (ap (among? z) (w .outsList)))
+    where
+      two : {a a′ b b′ : Bool} → a ≡ a′ → b ≡ b′ → (a && b) ≡ (a′ && b′)
+      two e f = cc
+
+  pub out-go : {j : ℕ} → j ≡ afterIn false s i m → b ≡ false → Scan (formC false recC) (outF z) s n at tt j (left - 1) tt
+  out-go g f = rw g (on x tt h (seen false x h r) (out-turn z (seen false x h r .item) (listAt (formC false recC) (left - 1) s (afterIn false s i m)) ∙ rw (hit-is ∙ f)))
+
+  pub out-stop : b ≡ true → true ≡ among? z (queuedOutputs (listAt (formC false recC) n s at))
+  unfolding outF
+  out-stop f = stop x (seen false x h r) (out-turn z (seen false x h r .item) (listAt (formC false recC) (left - 1) s (afterIn false s i m)) ∙ rw (hit-is ∙ f))
+
+pub out-end : (z : Id) {s : Bytes} {n at i left : ℕ} → Scan (formC false recC) (outF z) s n at tt i left tt → left ≡ 0 → false ≡ among? z (queuedOutputs (listAt (formC false recC) n s at))
+unfolding outF
+out-end z x e = end x e
+
+pub own-yes : (i : Id) (ids : List Id) (l : List Rec) {b : Bool} → b ≡ among? i ids → b ≡ true → true ≡ among? i (ownIds ids l)
+unfolding ownIds
+own-yes i ids l e f = sym (among-append i ids (queuedOutputs l) ∙ rw (sym e ∙ f))
+
+pub own-no : (i : Id) (ids : List Id) (l : List Rec) {b c : Bool} → b ≡ among? i ids → b ≡ false → c ≡ among? i (queuedOutputs l) → c ≡ among? i (ownIds ids l)
+unfolding ownIds
+own-no i ids l e f g = g ∙ sym (among-append i ids (queuedOutputs l) ∙ rw (sym e ∙ f))
+
+-- ---- all inputs
+unfoldable pub fineF : List Id → Unit {0} → List Id → Bool
+fineF own u l = all? (λ i. among? i own) l
+
+module _ (own : List Id) {v : Bytes} {n at i left : ℕ} (x : Scan idC (fineF own) v n at tt i left tt) where
+  pub fine-go : {next : ℕ} {ok b : Bool} {y : Id} → 0 < left → Reads idC v i ok next (λ w. w ≡ y) → b ≡ among? y own → b ≡ true → Scan idC (fineF own) v n at tt next (left - 1) tt
+  unfolding fineF
+  fine-go h r e f = let t = here x h r in on x tt h t (rw (t .is, ← e, f))
+
+  pub fine-stop : {next : ℕ} {ok b : Bool} {y : Id} → 0 < left → Reads idC v i ok next (λ w. w ≡ y) → b ≡ among? y own → b ≡ false → false ≡ all? (λ i. among? i own) (listAt idC n v at)
+  unfolding fineF
+  fine-stop h r e f = let t = here x h r in stop x t (rw (t .is, ← e, f))
+
+  pub fine-end : left ≡ 0 → true ≡ all? (λ i. among? i own) (listAt idC n v at)
+  unfolding fineF
+  fine-end e = end x e
+
+-- ---- the verdict
+judge-is : (t : Bytes) (fine : Bool) (r : Rec) → judge fine r ≡ asTouched t (record { what = judgeF fine (factsOf r); at = 0 }) r
+unfolding judgeF asTouched factsOf
+judge-is t true r = cases (eqb (r .state) 0 && eqb (r .reason) 0) (λ h. rw h) (λ h. rw h)
+judge-is t false r = cases (eqb (r .state) 3 && eqb (r .reason) 5) (λ h. rw h) (λ h. rw h)
+
+module _ {fine b : Bool} (f : Facts) where
+  pub judge-0 : fine ≡ true → b ≡ (eqb (f .state) 0 && eqb (f .reason) 0) → b ≡ true → 0 ≡ judgeF fine f
+  unfolding judgeF
+  judge-0 t e h = rw (t, sym e ∙ h)
+
+  pub judge-2 : fine ≡ true → b ≡ (eqb (f .state) 0 && eqb (f .reason) 0) → b ≡ false → 2 ≡ judgeF fine f
+  unfolding judgeF
+  judge-2 t e h = rw (t, sym e ∙ h)
+
+  pub judge-0′ : fine ≡ false → b ≡ (eqb (f .state) 3 && eqb (f .reason) 5) → b ≡ true → 0 ≡ judgeF fine f
+  unfolding judgeF
+  judge-0′ t e h = rw (t, sym e ∙ h)
+
+  pub judge-3 : fine ≡ false → b ≡ (eqb (f .state) 3 && eqb (f .reason) 5) → b ≡ false → 3 ≡ judgeF fine f
+  unfolding judgeF
+  judge-3 t e h = rw (t, sym e ∙ h)
+
+judge-not : (fine : Bool) (f : Facts) → judgeF fine f ≡ 1 → ⊥
+unfolding judgeF
+judge-not true f e = cases (eqb (f .state) 0 && eqb (f .reason) 0) (λ h. let z : _≡_ {A = ℕ} 0 1 = rw h at e in omega arith) (λ h. let z : _≡_ {A = ℕ} 2 1 = rw h at e in omega arith)
+judge-not false f e = cases (eqb (f .state) 3 && eqb (f .reason) 5) (λ h. let z : _≡_ {A = ℕ} 0 1 = rw h at e in omega arith) (λ h. let z : _≡_ {A = ℕ} 3 1 = rw h at e in omega arith)
+
+module _ (s : Bytes) (at n base : ℕ) (x : Seen) (t : Bytes) (k : ℕ) (caught : Bool) (ids : List Id) {f : Found} (e : EntryAs t k (x .id) f) where
+  abbrev own : List Id
+  own = ownIds ids (listAt (formC false recC) n s at)
+
+  by-id : (r : Rec) → SeenOf s base x r → find (λ a. same? (r .id) (a .id)) (appliedIn t k) ≡ find (λ a. same? (x .id) (a .id)) (appliedIn t k)
+  by-id r w = ap (λ i. find (λ a. same? i (a .id)) (appliedIn t k)) (sym (w .0 .id))
+
+  module _ (g : f .found ≡ true) {b : Bool} (c : ConfirmedIs s base x t (f .at) b) where
+    found-is : (r : Rec) → SeenOf s base x r → touchFound caught own r (find (λ a. same? (r .id) (a .id)) (appliedIn t k)) ≡ cond b none (some (confirm (entryIn t (f .at)) r))
+    found-is r w = ap (touchFound caught own r) (by-id r w ∙ e .good g .1) ∙ ap (λ v. cond v none (some (confirm (entryIn t (f .at)) r))) (sym (c r w))
+
+    pub verdict-same : b ≡ true → TouchIs s at n base x t k caught ids (record { what = 0; at = 0 })
+    unfolding asTouched
+    verdict-same y = record { is = λ r w. found-is r w ∙ rw y; within = λ z. absurd (let u : ⊥ = omega arith in u) }
+
+    pub verdict-confirm : b ≡ false → TouchIs s at n base x t k caught ids (record { what = 1; at = f .at })
+    unfolding asTouched
+    verdict-confirm y = record { is = λ r w. found-is r w ∙ rw y; within = λ z. e .good g .0 }
+
+  module _ (g : f .found ≡ false) {u : Bool} (c : u ≡ (caught && pending? (x .facts .state))) where
+    missing-is : (r : Rec) → SeenOf s base x r → touchFound caught own r (find (λ a. same? (r .id) (a .id)) (appliedIn t k)) ≡ cond u (judge (all? (λ i. among? i own) (inputs (r .body))) r) none
+    unfolding factsOf
+    missing-is r w =
+        ap (touchFound caught own r) (by-id r w ∙ e .bad g)
+        ∙ ap (λ v. cond v (judge (all? (λ i. among? i own) (inputs (r .body))) r) none) (sym (c ∙ ap (λ v. caught && pending? (v .state)) (w .0 .facts)))
+
+    pub verdict-none : u ≡ false → TouchIs s at n base x t k caught ids (record { what = 0; at = 0 })
+    unfolding asTouched
+    verdict-none y = record { is = λ r w. missing-is r w ∙ rw y; within = λ z. absurd (let v : ⊥ = omega arith in v) }
+
+    pub verdict-judge : {a : Bool} {j : ℕ} → u ≡ true → a ≡ all? (λ i. among? i (ownIds ids (listAt (formC false recC) n s at))) (listAt idC (x .facts .ins) (view false s base) (x .at)) → j ≡ judgeF a (x .facts) → TouchIs s at n base x t k caught ids (record { what = j; at = 0 })
+    verdict-judge {a} {j} y h i = record {
+      is = λ r w.
+          let z : all? (λ i. among? i own) (inputs (r .body)) ≡ a = sym (h ∙ ap (all? (λ i. among? i own)) (w .0 .insList)) in
+          missing-is r w ∙ rw y (ap (λ v. judge v r) z ∙ judge-is t a r ∙ ap (λ v. asTouched t (record { what = v; at = 0 }) r) (ap (judgeF a) (sym (w .0 .facts)) ∙ sym i));
+      within = λ z. absurd (judge-not a (x .facts) (sym i ∙ z));
+    }
+
+-- ---- does any change
+unfoldable pub changeF : Bool → List Id → List Applied → Unit {0} → List Rec → Bool
+changeF caught own es u l = any? (changes? caught own es) l
+
+changed : (t : Bytes) (v : Verdict) (r : Rec) → (v .what ≡ 0 → ⊥) → isSome (asTouched t v r) ≡ true
+unfolding asTouched
+changed t v r n = rw (ne-eqb (v .what) 0 n) (cases (eqb (v .what) 1) (λ e. rw e) (λ e. rw e (cases (eqb (v .what) 2) (λ f. rw f) (λ f. rw f))))
+
+unchanged : (t : Bytes) (v : Verdict) (r : Rec) → v .what ≡ 0 → isSome (asTouched t v r) ≡ false
+unfolding asTouched
+unchanged t v r e = rw (eq-eqb (v .what) 0 e)
+
+module _ {s : Bytes} {at n : ℕ} (t : Bytes) (k : ℕ) (caught : Bool) (ids : List Id) {i left : ℕ} (x : Scan (formC false recC) (changeF caught (ownIds ids (listAt (formC false recC) n s at)) (appliedIn t k)) s n at tt i left tt) where
+  module _ (h : 0 < left) {m : ℕ} {ok : Bool} {y : Seen} (r : ReadsRec false s i ok m y) where
+    pub change-seen : SeenOf s i y (seen false x h r .item)
+    change-seen = let u = seen false x h r in (u .is .0, u .is .1 .fine)
+
+    module _ {v : Verdict} (w : TouchIs s at n i y t k caught ids v) where
+      pub change-go : {j : ℕ} → j ≡ afterIn false s i m → v .what ≡ 0 → Scan (formC false recC) (changeF caught (ownIds ids (listAt (formC false recC) n s at)) (appliedIn t k)) s n at tt j (left - 1) tt
+      unfolding changeF
+      change-go g e = let u = seen false x h r in rw g (on x tt h u (rw (ap isSome (w .is (u .item) change-seen) ∙ unchanged t v (u .item) e)))
+
+      pub change-stop : (v .what ≡ 0 → ⊥) → true ≡ any? (changes? caught (ownIds ids (listAt (formC false recC) n s at)) (appliedIn t k)) (listAt (formC false recC) n s at)
+      unfolding changeF
+      change-stop e = let u = seen false x h r in stop x u (rw (ap isSome (w .is (u .item) change-seen) ∙ changed t v (u .item) e))
+
+  pub change-end : left ≡ 0 → false ≡ any? (changes? caught (ownIds ids (listAt (formC false recC) n s at)) (appliedIn t k)) (listAt (formC false recC) n s at)
+  unfolding changeF
+  change-end e = end x e

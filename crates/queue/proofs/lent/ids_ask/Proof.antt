@@ -1,0 +1,24 @@
+use Rattle.queue.proofs.ReopenLaws.{lent-in}
+use Rattle.queue.proofs.LentLaws.{ids-no, ids-rise}
+use borrow.Author.Needs.{needs}
+use Rattle.queue.proofs.lent.ids_ask.Statement.{statement}
+use Rattle.queue.proofs.lent.ids_ask.Tie as tie
+use Rattle.queue.proofs.lent.ids_ask.Reads as reads
+use Rattle.queue.proofs.lent.ids_ask.Lts as lts
+use Rattle.queue.proofs.reopen.rise.Reads as rise-reads
+use Rattle.queue.proofs.view.size.Reads as size-reads
+
+size-requires : tie.Need-size-requires
+size-requires c κs = search needs
+
+returns : tie.Need-returns
+returns c = ids-no (c .before .before .before .args .ids .now) (c .before .size .ensures .0) (c .if1 .taken)
+
+rise-requires : tie.Need-rise-requires
+rise-requires c κs = lent-in (c .before .before .before .args .ids .now) (c .before .size .ensures .0) (c .before .size .ensures .2) (c .if1 .left)
+
+returns-2 : tie.Need-returns-2
+returns-2 c = ids-rise (c .before .before .before .before .args .ids .now) (c .before .before .size .ensures .0) (c .before .before .size .ensures .2) (c .before .if1 .left) (c .rise .ensures)
+
+pub ids-ask-spec : {M : Type 1} → statement M
+ids-ask-spec = tie.close (tie.spec size-requires returns rise-requires returns-2)

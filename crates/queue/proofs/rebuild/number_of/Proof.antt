@@ -1,0 +1,25 @@
+use mathlib.Core.Path.{_≡_, refl, sym, ap, _∙_}
+use native.Mathlib.Omega.{arith}
+use mathlib.Core.Bool.{Bool, true, false, cond, _&&_, _||_}
+use Prim.Native.Nat.{ℕ, _≤_, _+_, _-_, _*_, _/_, _<_}
+use lib.Dec.{leb, ltb, eqb}
+use lib.ListN.{length, take, drop, getD}
+use borrow.Author.Tests.{not-true, not-false, eq-eqb, ne-eqb}
+use Rattle.queue.proofs.RebuildLaws.{number-0, number-1}
+use borrow.Author.Needs.{needs}
+use Rattle.queue.proofs.rebuild.number_of.Statement.{statement}
+use Rattle.queue.proofs.rebuild.number_of.Tie as tie
+use Rattle.queue.proofs.rebuild.number_of.Reads as reads
+use Rattle.queue.proofs.rebuild.number_of.Lts as lts
+
+add-result : tie.Need-add-result
+add-result c = search needs
+
+returns : tie.Need-returns
+returns c = number-0 (c .before .args .counter .0) (c .before .args .r) (c .if1 .taken)
+
+returns-2 : tie.Need-returns-2
+returns-2 c = number-1 (c .before .before .args .counter .0) (c .before .before .args .r) (c .before .if1 .left)
+
+pub number-of-spec : {M : Type 1} → statement M
+number-of-spec = tie.close (tie.spec add-result returns returns-2)

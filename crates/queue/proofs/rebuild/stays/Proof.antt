@@ -1,0 +1,26 @@
+use mathlib.Core.Path.{_≡_, refl, sym, ap, _∙_}
+use native.Mathlib.Omega.{arith}
+use mathlib.Core.Bool.{Bool, true, false, cond, _&&_, _||_}
+use Prim.Native.Nat.{ℕ, _≤_, _+_, _-_, _*_, _/_, _<_}
+use lib.Dec.{leb, ltb, eqb}
+use lib.ListN.{length, take, drop, getD}
+use borrow.Author.Tests.{not-true, not-false, eq-eqb, ne-eqb}
+use Rattle.queue.proofs.RebuildLaws.{stay-out, stay-in}
+use borrow.Author.Needs.{needs}
+use Rattle.queue.proofs.rebuild.stays.Statement.{statement}
+use Rattle.queue.proofs.rebuild.stays.Tie as tie
+use Rattle.queue.proofs.rebuild.stays.Reads as reads
+use Rattle.queue.proofs.rebuild.stays.Lts as lts
+use Rattle.queue.proofs.logic.either.Reads as either-reads
+
+returns : tie.Need-returns
+returns c = stay-out (c .before .before .args .n) (c .before .before .args .floor .0) (c .before .before .args .f) (c .before .if1 .taken)
+
+either-requires : tie.Need-either-requires
+either-requires c κs = search needs
+
+returns-2 : tie.Need-returns-2
+returns-2 c = stay-in (c .before .before .before .before .before .args .n) (c .before .before .before .before .before .args .floor .0) (c .before .before .before .before .before .args .f) (c .before .before .before .before .if1 .left) (c .either .ensures)
+
+pub stays-spec : {M : Type 1} → statement M
+stays-spec = tie.close (tie.spec returns either-requires returns-2)

@@ -1,0 +1,28 @@
+use mathlib.Core.Path.{_≡_, refl, sym, ap, _∙_}
+use native.Mathlib.Omega.{arith}
+use native.Mathlib.Nat.{mod-lt}
+use mathlib.Core.Bool.{Bool, true, false, cond, _&&_, _||_}
+use Prim.Native.Nat.{ℕ, _≤_, _+_, _-_, _*_, _/_, _<_}
+use lib.Dec.{leb, ltb, eqb}
+use lib.ListN.{length, take, drop}
+use borrow.Author.Tests.{not-true, not-false, eq-eqb, ne-eqb}
+use Rattle.queue.proofs.PutLaws.{kept}
+use Rattle.queue.proofs.ReconcileLaws.{floor-none, floor-some, floor-asks}
+use borrow.Author.Needs.{needs}
+use Rattle.queue.proofs.reconcile.floor_for.Statement.{statement}
+use Rattle.queue.proofs.reconcile.floor_for.Tie as tie
+use Rattle.queue.proofs.reconcile.floor_for.Reads as reads
+use Rattle.queue.proofs.reconcile.floor_for.Lts as lts
+use Rattle.queue.proofs.finish.floor.Reads as floor-reads
+
+returns : tie.Need-returns
+returns c = floor-none (c .before .before .args .s .now) (c .before .before .args .a) (c .before .before .args .g) (c .if1 .taken)
+
+floor-requires : tie.Need-floor-requires
+floor-requires c κs = floor-asks (c .before .before .before .before .before .pre .0) (c .before .before .before .before .before .args .g) (c .before .before .before .before .before .pre .1) (c .before .before .before .before .before .pre .2)
+
+returns-2 : tie.Need-returns-2
+returns-2 c = floor-some (c .before .before .before .before .before .before .args .s .now) (c .before .before .before .before .before .before .args .a) (c .before .before .before .before .before .before .args .g) (c .before .before .before .before .if1 .left) (c .floor .ensures)
+
+pub floor-for-spec : {M : Type 1} → statement M
+floor-for-spec = tie.close (tie.spec returns floor-requires returns-2)

@@ -1,0 +1,27 @@
+use mathlib.Core.Path.{_≡_, refl, sym, ap, _∙_}
+use native.Mathlib.Omega.{arith}
+use native.Mathlib.Nat.{mod-lt}
+use mathlib.Core.Bool.{Bool, true, false, cond, _&&_, _||_}
+use Prim.Native.Nat.{ℕ, _≤_, _+_, _-_, _*_, _/_, _<_}
+use lib.Dec.{leb, ltb, eqb}
+use lib.ListN.{length, take, drop}
+use borrow.Author.Tests.{not-true, not-false, eq-eqb, ne-eqb}
+use Rattle.queue.proofs.PutLaws.{kept}
+use Rattle.queue.proofs.ReconcileLaws.{far-low, far-top}
+use borrow.Author.Needs.{needs}
+use Rattle.queue.proofs.reconcile.is_far.Statement.{statement}
+use Rattle.queue.proofs.reconcile.is_far.Tie as tie
+use Rattle.queue.proofs.reconcile.is_far.Reads as reads
+use Rattle.queue.proofs.reconcile.is_far.Lts as lts
+
+add-n : tie.Need-add-n
+add-n c = search needs
+
+returns : tie.Need-returns
+returns c = far-low (c .before .before .before .args .persisted .0) (c .before .before .before .args .height .0) (c .before .if1 .taken) refl
+
+returns-2 : tie.Need-returns-2
+returns-2 c = far-top (c .before .before .before .args .persisted .0) (c .before .before .before .args .height .0) (omega arith) refl
+
+pub is-far-spec : {M : Type 1} → statement M
+is-far-spec = tie.close (tie.spec add-n returns returns-2)

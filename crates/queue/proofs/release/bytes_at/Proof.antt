@@ -1,0 +1,23 @@
+use mathlib.Core.Path.{_≡_, refl, sym, ap, _∙_}
+use native.Mathlib.Omega.{arith}
+use mathlib.Core.Bool.{Bool, true, false, _&&_, _||_}
+use Prim.Native.Nat.{ℕ, _≤_, _+_, _-_, _*_, _/_, _<_}
+use lib.Dec.{leb, ltb, eqb}
+use lib.ListN.{length, take, drop, getD}
+use borrow.Author.Tests.{not-true, not-false, eq-eqb, ne-eqb}
+use Rattle.queue.proofs.ReleaseLaws.{bytes-is}
+use borrow.Author.Needs.{needs}
+use Rattle.queue.proofs.release.bytes_at.Statement.{statement}
+use Rattle.queue.proofs.release.bytes_at.Tie as tie
+use Rattle.queue.proofs.release.bytes_at.Reads as reads
+use Rattle.queue.proofs.release.bytes_at.Lts as lts
+use Rattle.queue.proofs.frame.rec_at.Reads as rec-at-reads
+
+rec-at-requires : tie.Need-rec-at-requires
+rec-at-requires c κs = search needs
+
+returns : tie.Need-returns
+returns c = bytes-is (c .before .before .before .args .s .now) (c .before .before .before .args .p) (c .before .before .before .pre) (c .before .rec-at .ensures)
+
+pub bytes-at-spec : {M : Type 1} → statement M
+bytes-at-spec = tie.close (tie.spec rec-at-requires returns)

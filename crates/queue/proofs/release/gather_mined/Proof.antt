@@ -1,0 +1,91 @@
+use mathlib.Core.Path.{_≡_, refl, sym, ap, _∙_}
+use native.Mathlib.Omega.{arith}
+use mathlib.Core.Bool.{Bool, true, false, _&&_, _||_}
+use Prim.Native.Nat.{ℕ, _≤_, _+_, _-_, _*_, _/_, _<_}
+use lib.Dec.{leb, ltb, eqb}
+use lib.ListN.{length, take, drop, getD}
+use borrow.Author.Tests.{not-true, not-false, eq-eqb, ne-eqb}
+use Rattle.queue.specs.Reopens.{idsAt}
+use Rattle.queue.proofs.SelectLaws.{even-self, even-to, added-to}
+use Rattle.queue.proofs.Turns.{seen}
+use Rattle.queue.proofs.ReleaseLaws.{Mining, mine-start, mine-seen, mine-room, mine-go, mine-end}
+use borrow.Author.Needs.{needs}
+use Rattle.queue.proofs.release.gather_mined.Statement.{statement}
+use Rattle.queue.proofs.release.gather_mined.Tie as tie
+use Rattle.queue.proofs.release.gather_mined.Reads as reads
+use Rattle.queue.proofs.release.gather_mined.Lts as lts
+use Rattle.queue.proofs.forms.after_in.Reads as after-in-reads
+use Rattle.queue.proofs.frame.rec_at.Reads as rec-at-reads
+use Rattle.queue.proofs.release.height_after.Reads as height-after-reads
+use Rattle.queue.proofs.release.mined_after.Reads as mined-after-reads
+use Rattle.queue.proofs.select.add_row.Reads as add-row-reads
+use Rattle.queue.proofs.touch.touched.Reads as touched-reads
+
+abbrev Inv-loop : tie.InvT-loop
+Inv-loop s at n t k caught ids m ranks₀ times₀ places₀ i₀ left₀ c₀ ranks times places i left c = Mining s at n t k caught (idsAt ids m) (length ranks₀) i left c ranks times places
+
+abbrev μ-loop : tie.MeasureT-loop
+μ-loop s at n t k caught ids m ranks₀ times₀ places₀ i₀ left₀ c₀ ranks times places i left c = left
+
+loop-holds : tie.Need-loop-holds Inv-loop μ-loop
+loop-holds c = mine-start _ _ _ _ _ _ _ (c .before .before .before .before .before .before .pre .0) (c .before .before .before .before .before .before .pre .1) (c .before .before .before .before .before .before .pre .4) (c .before .before .before .before .before .before .pre .5)
+
+rec-at-requires : tie.Need-rec-at-requires Inv-loop μ-loop
+rec-at-requires c κs = search needs
+
+touched-requires : tie.Need-touched-requires Inv-loop μ-loop
+touched-requires c κs = (c .before .before .before .before .before .before .before .before .before .before .pre .0, c .before .before .before .before .before .before .before .before .before .before .pre .1, (_, mine-seen (c .before .before .before .loop .inv) (c .before .before .loop-test .taken) (c .before .rec-at .ensures)), c .before .before .before .before .before .before .before .before .before .before .pre .2, c .before .before .before .before .before .before .before .before .before .before .pre .3)
+
+mined-after-requires : tie.Need-mined-after-requires Inv-loop μ-loop
+mined-after-requires c κs = search needs
+
+height-after-requires : tie.Need-height-after-requires Inv-loop μ-loop
+height-after-requires c κs = c .before .touched .ensures .within
+
+add-row-requires : tie.Need-add-row-requires Inv-loop μ-loop
+add-row-requires c κs = (even-self (c .before .before .before .before .before .before .before .before .before .loop .inv .even), λ e. omega (arith, mine-room (c .before .before .before .before .before .before .before .before .before .loop .inv) (c .before .before .before .before .before .before .before .before .loop-test .taken) (c .before .before .before .before .before .before .before .rec-at .ensures) (c .before .before .before .before .before .touched .ensures) (c .before .before .before .before .mined-after .ensures) e, c .before .before .before .before .before .before .before .before .before .loop .inv .few, c .before .before .before .before .before .before .before .before .before .loop .inv .even .ranks))
+
+after-in-requires : tie.Need-after-in-requires Inv-loop μ-loop
+after-in-requires c κs = seen false (c .before .before .before .before .before .before .before .before .before .before .before .before .before .before .before .before .loop .inv .scan) (c .before .before .before .before .before .before .before .before .before .before .before .before .before .before .before .loop-test .taken) (c .before .before .before .before .before .before .before .before .before .before .before .before .before .before .rec-at .ensures) .is .1 .within
+
+sub-left : tie.Need-sub-left Inv-loop μ-loop
+sub-left c = search needs
+
+loop-less : tie.Need-loop-less Inv-loop μ-loop
+loop-less c = search needs
+
+loop-again : tie.Need-loop-again Inv-loop μ-loop
+loop-again c = mine-go (c .before .before .before .before .before .before .before .before .before .before .before .before .before .before .before .before .before .loop .inv) (c .before .before .before .before .before .before .before .before .before .before .before .before .before .before .before .before .loop-test .taken) (c .before .before .before .before .before .before .before .before .before .before .before .before .before .before .before .rec-at .ensures) (c .before .before .before .before .before .before .before .before .before .before .before .before .before .touched .ensures) (c .before .before .before .before .before .before .before .before .before .before .before .before .mined-after .ensures) (c .before .before .before .before .before .before .before .before .before .before .before .height-after .ensures) (added-to (c .before .before .before .before .before .before .before .before .before .before .before .before .before .before .before .before .before .loop .inv .even) (c .before .before .before .before .before .before .before .add-row .ensures)) (c .after-in .ensures)
+
+same-length : tie.Need-same-length Inv-loop μ-loop
+same-length c = search needs
+
+same-length-2 : tie.Need-same-length-2 Inv-loop μ-loop
+same-length-2 c = search needs
+
+same-length-3 : tie.Need-same-length-3 Inv-loop μ-loop
+same-length-3 c = search needs
+
+returns : tie.Need-returns Inv-loop μ-loop
+returns c = mine-end (c .before .loop .inv) (omega arith)
+
+pub gather-mined-spec : {M : Type 1} → statement M
+gather-mined-spec =
+    tie.close
+    (tie.spec
+    Inv-loop
+    μ-loop
+    loop-holds
+    rec-at-requires
+    touched-requires
+    mined-after-requires
+    height-after-requires
+    add-row-requires
+    after-in-requires
+    sub-left
+    loop-less
+    loop-again
+    same-length
+    same-length-2
+    same-length-3
+    returns)

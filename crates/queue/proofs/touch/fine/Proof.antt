@@ -1,0 +1,66 @@
+use mathlib.Core.Path.{_≡_, refl, sym, ap, _∙_}
+use native.Mathlib.Omega.{arith}
+use mathlib.Core.Bool.{Bool, true, false, _&&_, _||_}
+use Prim.Native.Nat.{ℕ, _≤_, _+_, _-_, _*_, _/_, _<_}
+use lib.Dec.{eqb}
+use borrow.Author.Tests.{not-true, not-false, eq-eqb, ne-eqb}
+use Rattle.queue.specs.Frames.{recC, idC}
+use Rattle.queue.specs.Forms.{formC}
+use Rattle.queue.specs.Reads.{listAt}
+use Rattle.queue.specs.View.{view}
+use Rattle.queue.specs.Reopens.{idsAt}
+use Rattle.queue.specs.Touching.{ownIds}
+use Rattle.queue.proofs.Turns.{Scan, start}
+use Rattle.queue.proofs.TouchLaws.{fineF, fine-go, fine-stop, fine-end}
+use borrow.Author.Needs.{needs}
+use Rattle.queue.proofs.touch.fine.Statement.{statement}
+use Rattle.queue.proofs.touch.fine.Tie as tie
+use Rattle.queue.proofs.touch.fine.Reads as reads
+use Rattle.queue.proofs.touch.fine.Lts as lts
+use Rattle.queue.proofs.frame.id_read.Reads as id-read-reads
+use Rattle.queue.proofs.touch.owned.Reads as owned-reads
+
+abbrev Inv-loop : tie.InvT-loop
+Inv-loop s at n base ids m i₀ left₀ i left = Scan idC (fineF (ownIds (idsAt ids m) (listAt (formC false recC) n s at))) (view false s base) left₀ i₀ tt i left tt
+
+abbrev μ-loop : tie.MeasureT-loop
+μ-loop s at n base ids m i₀ left₀ i left = left
+
+loop-holds : tie.Need-loop-holds Inv-loop μ-loop
+loop-holds c = start idC _ _ _ _ _ (c .before .before .before .pre .3) (c .before .before .before .pre .4)
+
+id-read-requires : tie.Need-id-read-requires Inv-loop μ-loop
+id-read-requires c κs = search needs
+
+owned-requires : tie.Need-owned-requires Inv-loop μ-loop
+owned-requires c κs = (c .before .before .before .before .before .before .before .pre .0, c .before .before .before .before .before .before .before .pre .1, c .before .before .before .before .before .before .before .pre .2)
+
+returns : tie.Need-returns Inv-loop μ-loop
+returns c = fine-stop _ (c .before .before .before .before .before .loop .inv) (c .before .before .before .before .loop-test .taken) (c .before .before .before .id-read .ensures) (c .before .owned .ensures) (not-true _ (c .if1 .taken))
+
+sub-left : tie.Need-sub-left Inv-loop μ-loop
+sub-left c = search needs
+
+loop-less : tie.Need-loop-less Inv-loop μ-loop
+loop-less c = search needs
+
+loop-again : tie.Need-loop-again Inv-loop μ-loop
+loop-again c = fine-go _ (c .before .before .before .before .before .loop .inv) (c .before .before .before .before .loop-test .taken) (c .before .before .before .id-read .ensures) (c .before .owned .ensures) (not-false _ (c .if1 .left))
+
+returns-2 : tie.Need-returns-2 Inv-loop μ-loop
+returns-2 c = fine-end _ (c .before .loop .inv) (omega arith)
+
+pub fine-spec : {M : Type 1} → statement M
+fine-spec =
+    tie.close
+    (tie.spec
+    Inv-loop
+    μ-loop
+    loop-holds
+    id-read-requires
+    owned-requires
+    returns
+    sub-left
+    loop-less
+    loop-again
+    returns-2)

@@ -1,0 +1,28 @@
+use mathlib.Core.Path.{_≡_, refl, sym, ap, _∙_}
+use native.Mathlib.Omega.{arith}
+use mathlib.Core.Bool.{Bool, true, false, _&&_, _||_}
+use Prim.Native.Nat.{ℕ, _≤_, _+_, _-_, _*_, _/_, _<_}
+use lib.Dec.{eqb}
+use borrow.Author.Tests.{not-true, not-false, eq-eqb, ne-eqb}
+use Rattle.queue.specs.Frames.{idC}
+use Rattle.queue.specs.Reads.{listAt}
+use Rattle.queue.specs.View.{view}
+use Rattle.queue.specs.paper.Sound.{among?}
+use borrow.Author.Needs.{needs}
+use Rattle.queue.proofs.touch.in_outputs.Statement.{statement}
+use Rattle.queue.proofs.touch.in_outputs.Tie as tie
+use Rattle.queue.proofs.touch.in_outputs.Reads as reads
+use Rattle.queue.proofs.touch.in_outputs.Lts as lts
+use Rattle.queue.proofs.scan.has_id.Reads as has-id-reads
+
+returns : tie.Need-returns
+returns c = sym (ap (λ (b : Bool). b && among? (c .before .before .before .before .args .id) (listAt idC (c .before .before .before .before .args .x .facts .outs) (view false (c .before .before .before .before .args .s .now) (c .before .before .before .before .args .base)) (c .before .before .before .before .args .x .outs))) (ne-eqb (c .before .before .before .before .args .x .facts .state) 0 (c .if1 .taken)))
+
+has-id-requires : tie.Need-has-id-requires
+has-id-requires c κs = (c .before .before .before .before .pre .0, c .before .before .before .before .pre .1)
+
+returns-2 : tie.Need-returns-2
+returns-2 c = c .has-id .ensures ∙ sym (ap (λ (b : Bool). b && among? (c .before .before .before .before .before .args .id) (listAt idC (c .before .before .before .before .before .args .x .facts .outs) (view false (c .before .before .before .before .before .args .s .now) (c .before .before .before .before .before .args .base)) (c .before .before .before .before .before .args .x .outs))) (eq-eqb (c .before .before .before .before .before .args .x .facts .state) 0 (c .before .if1 .left)))
+
+pub in-outputs-spec : {M : Type 1} → statement M
+in-outputs-spec = tie.close (tie.spec returns has-id-requires returns-2)

@@ -1,0 +1,35 @@
+use mathlib.Core.Path.{_≡_, refl, sym, ap, _∙_}
+use native.Mathlib.Omega.{arith}
+use mathlib.Core.Bool.{Bool, true, false, _&&_, _||_}
+use Prim.Native.Nat.{ℕ, _≤_, _+_, _-_, _*_, _/_, _<_}
+use lib.Dec.{eqb}
+use borrow.Author.Tests.{not-true, not-false, eq-eqb, ne-eqb}
+use Rattle.queue.proofs.TouchLaws.{judge-0, judge-2, judge-0′, judge-3}
+use borrow.Author.Needs.{needs}
+use Rattle.queue.proofs.touch.judge.Statement.{statement}
+use Rattle.queue.proofs.touch.judge.Tie as tie
+use Rattle.queue.proofs.touch.judge.Reads as reads
+use Rattle.queue.proofs.touch.judge.Lts as lts
+use Rattle.queue.proofs.logic.both.Reads as both-reads
+
+both-requires : tie.Need-both-requires
+both-requires c κs = search needs
+
+returns : tie.Need-returns
+returns c = judge-0 (c .before .before .before .before .before .args .f) (c .before .before .before .before .if1 .taken) (c .before .both .ensures) (c .if2 .taken)
+
+returns-2 : tie.Need-returns-2
+returns-2 c = judge-2 (c .before .before .before .before .before .args .f) (c .before .before .before .before .if1 .taken) (c .before .both .ensures) (c .if2 .left)
+
+both-requires-2 : tie.Need-both-requires-2
+both-requires-2 c κs = search needs
+
+returns-3 : tie.Need-returns-3
+returns-3 c = judge-0′ (c .before .before .before .before .before .args .f) (c .before .before .before .before .if1 .left) (c .before .both2 .ensures) (c .if3 .taken)
+
+returns-4 : tie.Need-returns-4
+returns-4 c = judge-3 (c .before .before .before .before .before .args .f) (c .before .before .before .before .if1 .left) (c .before .both2 .ensures) (c .if3 .left)
+
+pub judge-spec : {M : Type 1} → statement M
+judge-spec =
+    tie.close (tie.spec both-requires returns returns-2 both-requires-2 returns-3 returns-4)

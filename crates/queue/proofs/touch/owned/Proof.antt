@@ -1,0 +1,29 @@
+use mathlib.Core.Path.{_≡_, refl, sym, ap, _∙_}
+use native.Mathlib.Omega.{arith}
+use mathlib.Core.Bool.{Bool, true, false, _&&_, _||_}
+use Prim.Native.Nat.{ℕ, _≤_, _+_, _-_, _*_, _/_, _<_}
+use lib.Dec.{eqb}
+use borrow.Author.Tests.{not-true, not-false, eq-eqb, ne-eqb}
+use Rattle.queue.proofs.TouchLaws.{own-yes, own-no}
+use borrow.Author.Needs.{needs}
+use Rattle.queue.proofs.touch.owned.Statement.{statement}
+use Rattle.queue.proofs.touch.owned.Tie as tie
+use Rattle.queue.proofs.touch.owned.Reads as reads
+use Rattle.queue.proofs.touch.owned.Lts as lts
+use Rattle.queue.proofs.reopen.find_id.Reads as find-id-reads
+use Rattle.queue.proofs.touch.is_output.Reads as is-output-reads
+
+find-id-requires : tie.Need-find-id-requires
+find-id-requires c κs = c .before .before .pre .2
+
+returns : tie.Need-returns
+returns c = own-yes (c .before .before .before .before .args .id) _ _ (c .before .find-id .ensures) (c .if1 .taken)
+
+is-output-requires : tie.Need-is-output-requires
+is-output-requires c κs = (c .before .before .before .before .pre .0, c .before .before .before .before .pre .1)
+
+returns-2 : tie.Need-returns-2
+returns-2 c = own-no (c .before .before .before .before .before .args .id) _ _ (c .before .before .find-id .ensures) (c .before .if1 .left) (c .is-output .ensures)
+
+pub owned-spec : {M : Type 1} → statement M
+owned-spec = tie.close (tie.spec find-id-requires returns is-output-requires returns-2)

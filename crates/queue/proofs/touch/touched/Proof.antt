@@ -1,0 +1,64 @@
+use mathlib.Core.Path.{_≡_, refl, sym, ap, _∙_}
+use native.Mathlib.Omega.{arith}
+use mathlib.Core.Bool.{Bool, true, false, _&&_, _||_}
+use Prim.Native.Nat.{ℕ, _≤_, _+_, _-_, _*_, _/_, _<_}
+use lib.Dec.{eqb}
+use borrow.Author.Tests.{not-true, not-false, eq-eqb, ne-eqb}
+use Rattle.queue.specs.Reopens.{idsAt}
+use Rattle.queue.proofs.TouchLaws.{verdict-same, verdict-confirm, verdict-none, verdict-judge}
+use borrow.Author.Needs.{needs}
+use Rattle.queue.proofs.touch.touched.Statement.{statement}
+use Rattle.queue.proofs.touch.touched.Tie as tie
+use Rattle.queue.proofs.touch.touched.Reads as reads
+use Rattle.queue.proofs.touch.touched.Lts as lts
+use Rattle.queue.proofs.logic.both.Reads as both-reads
+use Rattle.queue.proofs.rules.pending.Reads as pending-reads
+use Rattle.queue.proofs.touch.confirmed.Reads as confirmed-reads
+use Rattle.queue.proofs.touch.find_entry.Reads as find-entry-reads
+use Rattle.queue.proofs.touch.fine.Reads as fine-reads
+use Rattle.queue.proofs.touch.judge.Reads as judge-reads
+
+find-entry-requires : tie.Need-find-entry-requires
+find-entry-requires c κs = c .before .before .before .before .before .pre .3
+
+confirmed-requires : tie.Need-confirmed-requires
+confirmed-requires c κs = (c .before .before .before .before .before .before .before .pre .2, c .before .find-entry .ensures .good (c .if1 .taken) .0)
+
+returns : tie.Need-returns
+returns c = verdict-same (c .before .before .before .before .before .before .before .before .before .args .s .now) (c .before .before .before .before .before .before .before .before .before .args .at) (c .before .before .before .before .before .before .before .before .before .args .n) (c .before .before .before .before .before .before .before .before .before .args .base) (c .before .before .before .before .before .before .before .before .before .args .x) (c .before .before .before .before .before .before .before .before .before .args .t .now) (c .before .before .before .before .before .before .before .before .before .args .k) (c .before .before .before .before .before .before .before .before .before .args .caught) (idsAt (c .before .before .before .before .before .before .before .before .before .args .ids .now) (c .before .before .before .before .before .before .before .before .before .args .m)) (c .before .before .before .find-entry .ensures) (c .before .before .if1 .taken) (c .before .confirmed .ensures) (c .if2 .taken)
+
+returns-2 : tie.Need-returns-2
+returns-2 c = verdict-confirm (c .before .before .before .before .before .before .before .before .before .args .s .now) (c .before .before .before .before .before .before .before .before .before .args .at) (c .before .before .before .before .before .before .before .before .before .args .n) (c .before .before .before .before .before .before .before .before .before .args .base) (c .before .before .before .before .before .before .before .before .before .args .x) (c .before .before .before .before .before .before .before .before .before .args .t .now) (c .before .before .before .before .before .before .before .before .before .args .k) (c .before .before .before .before .before .before .before .before .before .args .caught) (idsAt (c .before .before .before .before .before .before .before .before .before .args .ids .now) (c .before .before .before .before .before .before .before .before .before .args .m)) (c .before .before .before .find-entry .ensures) (c .before .before .if1 .taken) (c .before .confirmed .ensures) (c .if2 .left)
+
+pending-requires : tie.Need-pending-requires
+pending-requires c κs = search needs
+
+both-requires : tie.Need-both-requires
+both-requires c κs = search needs
+
+returns-3 : tie.Need-returns-3
+returns-3 c = verdict-none (c .before .before .before .before .before .before .before .before .before .before .args .s .now) (c .before .before .before .before .before .before .before .before .before .before .args .at) (c .before .before .before .before .before .before .before .before .before .before .args .n) (c .before .before .before .before .before .before .before .before .before .before .args .base) (c .before .before .before .before .before .before .before .before .before .before .args .x) (c .before .before .before .before .before .before .before .before .before .before .args .t .now) (c .before .before .before .before .before .before .before .before .before .before .args .k) (c .before .before .before .before .before .before .before .before .before .before .args .caught) (idsAt (c .before .before .before .before .before .before .before .before .before .before .args .ids .now) (c .before .before .before .before .before .before .before .before .before .before .args .m)) (c .before .before .before .before .find-entry .ensures) (c .before .before .before .if1 .left) (c .before .both .ensures ∙ ap (λ v. c .before .before .before .before .before .before .before .before .before .before .args .caught && v) (c .before .before .pending .ensures)) (not-true _ (c .if3 .taken))
+
+fine-requires : tie.Need-fine-requires
+fine-requires c κs = (c .before .before .before .before .before .before .before .before .before .before .pre .0, c .before .before .before .before .before .before .before .before .before .before .pre .1, c .before .before .before .before .before .before .before .before .before .before .pre .4, c .before .before .before .before .before .before .before .before .before .before .pre .2 .1 .0 .insIn, c .before .before .before .before .before .before .before .before .before .before .pre .2 .1 .0 .insAll)
+
+judge-requires : tie.Need-judge-requires
+judge-requires c κs = search needs
+
+returns-4 : tie.Need-returns-4
+returns-4 c = verdict-judge (c .before .before .before .before .before .before .before .before .before .before .before .before .args .s .now) (c .before .before .before .before .before .before .before .before .before .before .before .before .args .at) (c .before .before .before .before .before .before .before .before .before .before .before .before .args .n) (c .before .before .before .before .before .before .before .before .before .before .before .before .args .base) (c .before .before .before .before .before .before .before .before .before .before .before .before .args .x) (c .before .before .before .before .before .before .before .before .before .before .before .before .args .t .now) (c .before .before .before .before .before .before .before .before .before .before .before .before .args .k) (c .before .before .before .before .before .before .before .before .before .before .before .before .args .caught) (idsAt (c .before .before .before .before .before .before .before .before .before .before .before .before .args .ids .now) (c .before .before .before .before .before .before .before .before .before .before .before .before .args .m)) (c .before .before .before .before .before .before .find-entry .ensures) (c .before .before .before .before .before .if1 .left) (c .before .before .before .both .ensures ∙ ap (λ v. c .before .before .before .before .before .before .before .before .before .before .before .before .args .caught && v) (c .before .before .before .before .pending .ensures)) (not-false _ (c .before .before .if3 .left)) (c .before .fine .ensures) (c .judge .ensures)
+
+pub touched-spec : {M : Type 1} → statement M
+touched-spec =
+    tie.close
+    (tie.spec
+    find-entry-requires
+    confirmed-requires
+    returns
+    returns-2
+    pending-requires
+    both-requires
+    returns-3
+    fine-requires
+    judge-requires
+    returns-4)

@@ -1,0 +1,101 @@
+-- Reconciliation as the code goes, and what its parts ask and say.
+use mathlib.Core.Path.{_≡_}
+use mathlib.Core.Bool.{Bool, true, false, cond, _||_}
+use mathlib.Core.Option.{Option, none, some}
+use mathlib.Core.List.{List, [], _∷_, _++_}
+use Prim.Native.Nat.{ℕ, _+_, _*_, _≤_, _<_, min}
+use lib.Dec.{ltb, leb}
+use lib.ListN.{length}
+use mathlib.Core.Logic.{_⊎_}
+use Rattle.queue.specs.Frames.{recC}
+use Rattle.queue.specs.Reads.{listAt}
+use Rattle.queue.specs.Forms.{formC}
+use Rattle.queue.specs.Rules.{sum}
+use Rattle.queue.specs.Finishing.{above}
+use Rattle.queue.specs.Codec.{All}
+use Rattle.queue.specs.Splice.{be}
+use Rattle.queue.specs.Areas.{readArea}
+use Rattle.queue.specs.Opens.{AreaAs}
+use Rattle.queue.specs.Reopens.{IdsRise, idsAt}
+use Rattle.queue.specs.Arguments.{Small}
+use Rattle.queue.specs.Reconciles.{Reconcilable}
+use Rattle.queue.specs.SelectAs.{idAt}
+use Rattle.queue.specs.Touching.{appliedIn}
+use Rattle.queue.specs.paper.Records.{Bytes, Id, Rec, Queue}
+use Rattle.queue.specs.paper.Lists.{isSome, one, any?, map, concat}
+use Rattle.queue.specs.paper.Area.{areaBytes, over}
+use Rattle.queue.specs.paper.Changing.{Reconciling, queuedOutputs, touch, orElse, released, releaseOne, trimmed, committed, moved, someReleased?, topHeight, reconcile}
+use Rattle.queue.specs.paper.Calls.{Outcome, told, releasedBytes}
+use Rattle.queue.specs.declared.area.Area.{Area}
+use Rattle.queue.specs.declared.Kind.{Kind}
+use Rattle.queue.specs.declared.Kind.the-variants.{Memory, Cursor}
+use Rattle.queue.specs.declared.Answer.{Answer}
+use Rattle.queue.specs.declared.Answer.the-variants.{Done}
+use Rattle.queue.specs.declared.rules.Query.the-variants.{Tombstones}
+
+-- what is lent: k applied entries in t, m available ids in ids
+abbrev pub asked : ℕ → Id → Bytes → ℕ → Bool → Bytes → ℕ → ℕ → Reconciling
+asked height tip t k caught ids m window = record { height = height; tip = tip; applied = appliedIn t k; caughtUp = caught; available = idsAt ids m; window = window }
+
+pub record LentTo (height : ℕ) (tip : Id) (t : Bytes) (k : ℕ) (caught : Bool) (ids : Bytes) (m window : ℕ) : Type 0 where
+  pub ok : Reconcilable (asked height tip t k caught ids m window)
+  pub entries : length t ≡ k * 68
+  pub rise : IdsRise ids m
+  pub small : Small t
+  pub long : length tip ≡ 32
+
+-- the records after the verdicts, the ids released, and whether a verdict changed one
+abbrev pub ownOf : Reconciling → Queue → List Id
+ownOf c q = c .available ++ queuedOutputs (q .recs)
+
+unfoldable pub touchedL : Reconciling → Queue → List Rec
+touchedL c q = map (λ r. orElse r (touch c (ownOf c q) r)) (q .recs)
+
+unfoldable pub goneIds : Reconciling → Queue → List Id
+goneIds c q = released c (q .limits) (touchedL c q)
+
+unfoldable pub anyTouched : Reconciling → Queue → Bool
+anyTouched c q = any? (λ r. isSome (touch c (ownOf c q) r)) (q .recs)
+
+-- the queue of a whole write
+unfoldable pub wholeQ : Reconciling → Queue → Queue
+wholeQ c q =
+    committed (c .height) (some (c .tip)) (q .counter + length (goneIds c q)) (trimmed (q .limits .T) (goneIds c q) (map (releaseOne (q .counter) (goneIds c q)) (touchedL c q))) q
+
+-- the places of the released, in the order of the walk
+pub record GoneAre (s : Bytes) (c : Reconciling) (gone : List ℕ) : Type 0 where
+  pub are : (q : Queue) → readArea s ≡ some q → map (idAt s) gone ≡ goneIds c q
+  pub placed : All (λ p. p + 33 ≤ length s) gone
+  pub few : length gone ≤ 2048
+
+-- did a record change, or is one released?
+abbrev pub ChangedIs : Bytes → Reconciling → Bool → Type 0
+ChangedIs s c b = (q : Queue) → readArea s ≡ some q → b ≡ (anyTouched c q || someReleased? (goneIds c q))
+
+-- what a reconciliation that changes nothing leaves: kind 3 or 1, and the cursor
+abbrev pub cursorKind : ℕ → ℕ → Kind
+cursorKind persisted height = cond (leb (min (persisted + 32) topHeight) height) Cursor Memory
+
+abbrev pub cursorTo : ℕ → Id → Queue → Queue
+cursorTo height tip q = moved (cond (leb (min (q .persisted + 32) topHeight) height) height (q .persisted)) height (some tip) q
+
+abbrev pub CursorTold : Bytes → ℕ → Id → Answer → Bytes → Bytes → Type 0
+CursorTold s height tip r d d′ = (q : Queue) → readArea s ≡ some q → (r ≡ Done (cursorKind (q .persisted) height)) × (d′ ≡ over (areaBytes (cursorTo height tip q)) d)
+
+abbrev pub WholeTo : Bytes → Reconciling → Bytes → Bytes → Type 0
+WholeTo s c d d′ = (q : Queue) → readArea s ≡ some q → d′ ≡ over (areaBytes (wholeQ c q)) d
+
+-- the floor's contract, where any is released
+abbrev pub FloorFor : Bytes → Area → ℕ → ℕ → Type 0
+FloorFor s a g f =
+    (g ≡ 0 → f ≡ 0)
+    × ((g ≡ 0 → ⊥) → ((sum Tombstones (listAt (formC false recC) (a .open .head .count) s (a .open .start)) + g ≤ a .open .head .t) × (f ≡ 0))
+    ⊎ ((x : ℕ) → ltb (above (a .open .head .counter .0) g (listAt (formC false recC) (a .open .head .count) s (a .open .start)) x) (a .open .head .t) ≡ leb f x))
+
+-- the answer's bytes, where ids are those of the places gone
+unfoldable pub goneBytes : Bytes → Bool → List ℕ → Bytes
+goneBytes s changed gone = (one changed ∷ be 4 (length gone)) ++ concat (map (idAt s) gone)
+
+-- what the rest of a reconciliation gives back
+abbrev pub ReconcileTold : Bytes → Reconciling → Outcome → Bytes → Bytes → Type 0
+ReconcileTold s c o next out = (q : Queue) → readArea s ≡ some q → o ≡ told releasedBytes next out (reconcile c q)

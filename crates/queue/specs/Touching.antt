@@ -1,0 +1,66 @@
+-- What a reconciliation makes of one record, as the code goes.
+use mathlib.Core.Path.{_≡_}
+use mathlib.Core.Bool.{Bool, true, false, cond, _&&_}
+use mathlib.Core.Option.{Option, none, some}
+use mathlib.Core.List.{List, [], _∷_, _++_}
+use Prim.Native.Nat.{ℕ, _+_, _≤_}
+use lib.Dec.{eqb}
+use lib.ListN.{length, take, drop}
+use Rattle.queue.specs.Frames.{recC}
+use Rattle.queue.specs.View.{view}
+use Rattle.queue.specs.Reads.{listAt}
+use Rattle.queue.specs.Forms.{formC}
+use Rattle.queue.specs.Facts.{SeenAs}
+use Rattle.queue.specs.paper.Records.{Bytes, Id, Rec, queued, conflicted}
+use Rattle.queue.specs.paper.Lists.{isSome, find, map}
+use Rattle.queue.specs.paper.Ids.{same?}
+use Rattle.queue.specs.paper.Sound.{mined?}
+use Rattle.queue.specs.paper.Changing.{Applied, confirmed?, confirm, judged, queuedOutputs, touchFound}
+use Rattle.queue.specs.paper.Calls.{pieces, appliedOf}
+use Rattle.queue.specs.declared.frame.Seen.{Seen}
+use Rattle.queue.specs.declared.frame.Facts.{Facts}
+use Rattle.queue.specs.declared.reading.Found.{Found}
+use Rattle.queue.specs.declared.touch.Verdict.{Verdict}
+
+-- the applied entry at p, and k of them from the start
+abbrev pub entryIn : Bytes → ℕ → Applied
+entryIn t p = appliedOf (take 68 (drop p t))
+
+abbrev pub appliedIn : Bytes → ℕ → List Applied
+appliedIn t k = map appliedOf (pieces 68 k t)
+
+pub record EntryAs (t : Bytes) (k : ℕ) (id : Id) (f : Found) : Type 0 where
+  pub good : f .found ≡ true → (f .at + 68 ≤ length t) × (find (λ a. same? id (a .id)) (appliedIn t k) ≡ some (entryIn t (f .at)))
+  pub bad : f .found ≡ false → find (λ a. same? id (a .id)) (appliedIn t k) ≡ none
+
+-- x was read at base, and says of r
+abbrev pub SeenOf : Bytes → ℕ → Seen → Rec → Type 0
+SeenOf s base x r = SeenAs (view false s base) x r × recC .ok r
+
+abbrev pub SeenHere : Bytes → ℕ → Seen → Type 0
+SeenHere s base x = (r : Rec) × SeenOf s base x r
+
+abbrev pub ConfirmedIs : Bytes → ℕ → Seen → Bytes → ℕ → Bool → Type 0
+ConfirmedIs s base x t p b = (r : Rec) → SeenOf s base x r → b ≡ (mined? r && confirmed? (entryIn t p) (r .place))
+
+-- the available ids and the outputs of Queued records
+unfoldable pub ownIds : List Id → List Rec → List Id
+ownIds ids l = ids ++ queuedOutputs l
+
+unfoldable pub judgeF : Bool → Facts → ℕ
+judgeF fine f = cond fine (cond (eqb (f .state) 0 && eqb (f .reason) 0) 0 2) (cond (eqb (f .state) 3 && eqb (f .reason) 5) 0 3)
+
+-- what a verdict makes of a record
+unfoldable pub asTouched : Bytes → Verdict → Rec → Option Rec
+asTouched t v r =
+    cond (eqb (v .what) 0) none
+    (cond (eqb (v .what) 1) (some (confirm (entryIn t (v .at)) r))
+    (cond (eqb (v .what) 2) (some (judged queued 0 r)) (some (judged conflicted 5 r))))
+
+pub record TouchIs (s : Bytes) (at n base : ℕ) (x : Seen) (t : Bytes) (k : ℕ) (caught : Bool) (ids : List Id) (v : Verdict) : Type 0 where
+  pub is : (r : Rec) → SeenOf s base x r → touchFound caught (ownIds ids (listAt (formC false recC) n s at)) r (find (λ a. same? (r .id) (a .id)) (appliedIn t k)) ≡ asTouched t v r
+  pub within : v .what ≡ 1 → v .at + 68 ≤ length t
+
+-- does a reconciliation change a record, given the own ids and the applied entries?
+abbrev pub changes? : Bool → List Id → List Applied → Rec → Bool
+changes? caught own es r = isSome (touchFound caught own r (find (λ a. same? (r .id) (a .id)) es))

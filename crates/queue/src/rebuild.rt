@@ -1,0 +1,233 @@
+// The records after a reconciliation, written to another area.
+use super::finish::Done;
+use super::frame::Facts;
+use super::frame::Finish;
+use super::frame::Seen;
+use super::frame::rec_at;
+use super::logic::both;
+use super::logic::either;
+use super::logic::one_if;
+use super::put::copy_part;
+use super::put::put_be;
+use super::put::put_u8;
+use super::reopen::put_lead;
+use super::touch::Verdict;
+use super::touch::touched;
+use super::view::cmp_id;
+use super::view::id_at;
+ghost use mathlib.Core.Path.{_≡_};
+ghost use mathlib.Core.Bool.{true, false};
+ghost use Prim.Native.Nat.{_+_, _*_, _≤_, _<_};
+ghost use lib.ListN.{length, take};
+ghost use Rattle.queue.specs.Codec.{All, encs};
+ghost use Rattle.queue.specs.Arguments.{Small};
+ghost use Rattle.queue.specs.Splice.{Put};
+ghost use Rattle.queue.specs.Frames.{recC};
+ghost use Rattle.queue.specs.Reads.{whole};
+ghost use Rattle.queue.specs.Forms.{formC};
+ghost use Rattle.queue.specs.Reopens.{IdsRise, idsAt, PartsIn};
+ghost use Rattle.queue.specs.SelectAs.{idAt};
+ghost use Rattle.queue.specs.Rebuilding.{stateN, reasonN, markN, placeN, placeLen, tailN, tailLen, nextBytes, nextLen, stayF, stepN, numberN, keptL};
+ghost use Rattle.queue.specs.paper.Lists.{map};
+ghost use Rattle.queue.specs.paper.Changing.{placeIn};
+
+// The place of an id among the ids of the records at these places, from 1 on; 0 where it is none of them.
+fn rank_in(s: &[u8], gone: &[usize], id: [u8; 32]) -> u64
+    requires { ⌜ All (λ p. p + 33 ≤ length (now s)) (now gone) × (length (now gone) ≤ 2048) ⌝ }
+    ensures { λ r. ⌜ (r ≡ placeIn id (map (idAt (now (s .entry))) (now (gone .entry)))) × (r ≤ length (now (gone .entry))) ⌝ }
+{
+    let mut j: usize = 0;
+    while j < gone.len() {
+        let p = gone[j];
+        let y = id_at(s, false, 0, p + 1);
+        if cmp_id(id, y) == 1 {
+            return (j as u64) + 1;
+        }
+        j += 1;
+    }
+    0
+}
+
+// State, reason and mark after a verdict; n is the finish number of one that is released, else 0.
+fn state_next(what: u64, n: u64, f: Facts) -> u64
+    requires { ⌜ f .state < 256 ⌝ }
+    ensures { λ r. ⌜ (r ≡ stateN what n f) × (r < 256) ⌝ }
+{
+    if n != 0 {
+        return 2;
+    }
+    if what == 0 {
+        return f.state;
+    }
+    if what == 1 {
+        return 2;
+    }
+    if what == 2 { 0 } else { 3 }
+}
+
+fn reason_next(what: u64, n: u64, f: Facts) -> u64
+    requires { ⌜ f .reason < 256 ⌝ }
+    ensures { λ r. ⌜ (r ≡ reasonN what n f) × (r < 256) ⌝ }
+{
+    if n != 0 {
+        return 0;
+    }
+    if what == 0 {
+        return f.reason;
+    }
+    if what == 1 {
+        return 0;
+    }
+    if what == 2 { 0 } else { 5 }
+}
+
+fn mark_next(what: u64, f: Facts) -> u64
+    requires { ⌜ (f .state < 256) × (f .mark < 256) ⌝ }
+    ensures { λ r. ⌜ (r ≡ markN what f) × (r < 256) ⌝ }
+{
+    if both(what == 1, either(f.state == 4, f.state == 5)) {
+        return f.state;
+    }
+    f.mark
+}
+
+// The place: the applied entry's, or the record's own.
+fn put_place(
+    src: &[u8],
+    base: usize,
+    x: Seen,
+    t: &[u8],
+    v: Verdict,
+    dst: &mut [u8],
+    at: usize,
+) -> usize
+    requires { ⌜ PartsIn (now src) base x × (v .what ≡ 1 → v .at + 68 ≤ length (now t)) × (at + placeLen x v ≤ length (now dst)) ⌝ }
+    ensures { λ r. ⌜ Put (now (dst .entry)) at (placeN (now (src .entry)) base x (now (t .entry)) v) (placeLen x v) r (now (dst .exit)) ⌝ }
+{
+    if v.what == 1 {
+        let a = put_u8(dst, at, 1);
+        return copy_part(t, v.at + 32, 36, dst, a);
+    }
+    let p = x.after;
+    copy_part(src, base + p, x.mark - p, dst, at)
+}
+
+// Finish number and body: the record's own, or those of one that is released.
+fn put_tail(src: &[u8], base: usize, x: Seen, n: u64, dst: &mut [u8], at: usize) -> usize
+    requires { ⌜ PartsIn (now src) base x × (at + tailLen x n ≤ length (now dst)) ⌝ }
+    ensures { λ r. ⌜ Put (now (dst .entry)) at (tailN (now (src .entry)) base x n) (tailLen x n) r (now (dst .exit)) ⌝ }
+{
+    if n != 0 {
+        let a = put_be(dst, at, 8, n);
+        return put_u8(dst, a, 0);
+    }
+    let m = x.mark + 1;
+    copy_part(src, base + m, x.size - m, dst, at)
+}
+
+// The record read at base, after its verdict.
+fn put_next(
+    src: &[u8],
+    base: usize,
+    x: Seen,
+    t: &[u8],
+    v: Verdict,
+    n: u64,
+    dst: &mut [u8],
+    at: usize,
+) -> usize
+    requires { ⌜ PartsIn (now src) base x × (v .what ≡ 1 → v .at + 68 ≤ length (now t)) × ((x .facts .state < 256) × (x .facts .reason < 256) × (x .facts .mark < 256)) × (at + nextLen x v n ≤ length (now dst)) ⌝ }
+    ensures { λ r. ⌜ Put (now (dst .entry)) at (nextBytes (now (src .entry)) base x (now (t .entry)) v n) (nextLen x v n) r (now (dst .exit)) ⌝ }
+{
+    let f = x.facts;
+    let id = x.id;
+    let p = x.after;
+    let a = put_lead(
+        id,
+        state_next(v.what, n, f),
+        reason_next(v.what, n, f),
+        dst,
+        at,
+    );
+    let b = copy_part(src, base + 35, p - 35, dst, a);
+    let c = put_place(src, base, x, t, v, dst, b);
+    let d = put_be(dst, c, 1, mark_next(v.what, f));
+    put_tail(src, base, x, n, dst, d)
+}
+
+// Does a record stay? n is its finish number if it is released, else 0.
+fn stays(n: u64, floor: Finish, f: Facts) -> bool
+    ensures { λ r. ⌜ r ≡ stayF n (floor .0) f ⌝ }
+{
+    if n != 0 {
+        return floor.0 <= n;
+    }
+    let m = f.finish;
+    either(f.holder, floor.0 <= m.0)
+}
+
+fn put_step(
+    src: &[u8],
+    base: usize,
+    x: Seen,
+    t: &[u8],
+    v: Verdict,
+    n: u64,
+    stay: bool,
+    dst: &mut [u8],
+    at: usize,
+) -> usize
+    requires { ⌜ PartsIn (now src) base x × (v .what ≡ 1 → v .at + 68 ≤ length (now t)) × ((x .facts .state < 256) × (x .facts .reason < 256) × (x .facts .mark < 256)) × (at + length (stepN (now src) base x (now t) v n stay) ≤ length (now dst)) ⌝ }
+    ensures { λ r. ⌜ Put (now (dst .entry)) at (stepN (now (src .entry)) base x (now (t .entry)) v n stay) (length (stepN (now (src .entry)) base x (now (t .entry)) v n stay)) r (now (dst .exit)) ⌝ }
+{
+    if stay {
+        return put_next(src, base, x, t, v, n, dst, at);
+    }
+    at
+}
+
+// The finish number of a record that is released at rank r; 0 for one that is not.
+fn number_of(counter: Finish, r: u64) -> u64
+    requires { ⌜ counter .0 + r < 18446744073709551616 ⌝ }
+    ensures { λ n. ⌜ n ≡ numberN (counter .0) r ⌝ }
+{
+    if r == 0 { 0 } else { counter.0 + r }
+}
+
+// n records from `at` of src, after their verdicts, those at the places gone released and those below the floor left out.
+pub fn put_all(
+    src: &[u8],
+    at: usize,
+    n: u64,
+    t: &[u8],
+    k: u64,
+    caught: bool,
+    ids: &[u8],
+    m: u64,
+    gone: &[usize],
+    counter: Finish,
+    floor: Finish,
+    dst: &mut [u8],
+    to: usize,
+) -> Done
+    requires { ⌜ (at ≤ length (now src)) × (whole (formC false recC) n (now src) at ≡ true) × ((length (now t) ≡ k * 68) × IdsRise (now ids) m × Small (now t)) × (All (λ p. p + 33 ≤ length (now src)) (now gone) × (length (now gone) ≤ 2048)) × (counter .0 + length (now gone) < 18446744073709551616) × (n < 4294967296) × (to + length (encs recC (keptL (now src) at n (now t) k caught (idsAt (now ids) m) (now gone) (counter .0) (floor .0))) ≤ length (now dst)) ⌝ }
+    ensures { λ r. ⌜ Put (now (dst .entry)) to (encs recC (keptL (now (src .entry)) at n (now (t .entry)) k caught (idsAt (now (ids .entry)) m) (now (gone .entry)) (counter .0) (floor .0))) (length (encs recC (keptL (now (src .entry)) at n (now (t .entry)) k caught (idsAt (now (ids .entry)) m) (now (gone .entry)) (counter .0) (floor .0)))) (r .at) (now (dst .exit)) × (r .kept ≡ length (keptL (now (src .entry)) at n (now (t .entry)) k caught (idsAt (now (ids .entry)) m) (now (gone .entry)) (counter .0) (floor .0))) ⌝ }
+{
+    let mut i = at;
+    let mut left = n;
+    let mut o = to;
+    let mut kept: u64 = 0;
+    while 0 < left {
+        let x = rec_at(src, false, i);
+        let f = x.facts;
+        let id = x.id;
+        let v = touched(src, at, n, i, x, t, k, caught, ids, m);
+        let number = number_of(counter, rank_in(src, gone, id));
+        let stay = stays(number, floor, f);
+        o = put_step(src, i, x, t, v, number, stay, dst, o);
+        kept = kept + one_if(stay);
+        i = i + x.size;
+        left = left - 1;
+    }
+    Done { at: o, kept: kept }
+}

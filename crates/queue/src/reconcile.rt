@@ -1,0 +1,369 @@
+// Reconciliation: confirmations, verdicts on pending records, releases. Everything that can refuse is decided before a byte is written.
+use super::Answer;
+use super::Kind;
+use super::area::Area;
+use super::area::area_at;
+use super::finish::floor;
+use super::frame::Finish;
+use super::frame::Height;
+use super::head::Marks;
+use super::head::put_front;
+use super::head::tip_len;
+use super::lent::reconcile_asks;
+use super::logic::either;
+use super::put::fill_zero;
+use super::put::put_be;
+use super::put::put_u8;
+use super::rebuild::put_all;
+use super::release::gather_mined;
+use super::release::release;
+use super::select::order;
+use super::select::put_ids;
+use super::touch::any_touched;
+use super::view::id_at;
+use super::write::put_moved;
+ghost use mathlib.Core.Path.{_≡_};
+ghost use mathlib.Core.Bool.{true, false};
+ghost use mathlib.Core.List.{[], _∷_};
+ghost use Prim.Native.Nat.{_+_, _*_, _≤_, _<_, min};
+ghost use lib.Dec.{leb};
+ghost use lib.ListN.{length, take};
+ghost use Rattle.queue.specs.Codec.{All};
+ghost use Rattle.queue.specs.Frames.{idC};
+ghost use Rattle.queue.specs.Splice.{Put};
+ghost use Rattle.queue.specs.Opens.{limits};
+ghost use Rattle.queue.specs.SelectAs.{rows, Even, ahead?};
+ghost use Rattle.queue.specs.Releasing.{StandsAt, walkR};
+ghost use Rattle.queue.specs.CallsAs.{AreaIn};
+ghost use Rattle.queue.specs.Reconciling.{asked, LentTo, GoneAre, ChangedIs, WholeTo, goneBytes, FloorFor, CursorTold, ReconcileTold};
+ghost use Rattle.queue.specs.paper.Lists.{one, sort};
+ghost use Rattle.queue.specs.paper.Changing.{topHeight};
+ghost use Rattle.queue.specs.paper.Calls.{outcome, reconcileArgs, reconcileOf};
+
+// The rows in order, and the places of those released to the front of gone; returns how many.
+fn release_rows(
+    s: &[u8],
+    ranks: &mut [u64],
+    times: &mut [u64],
+    places: &mut [usize],
+    height: Height,
+    window: u64,
+    p: u64,
+    b: u64,
+    gone: &mut [usize],
+) -> usize
+    requires { ⌜ Even (length (now ranks)) (now ranks) (now times) (now places) × (length (now ranks) ≤ 2048) × (length (now gone) ≡ 2048) × All (StandsAt (now s)) (rows (now ranks) (now times) (now places)) ⌝ }
+    ensures { λ r. ⌜ (r ≤ length (now (ranks .entry))) × (take r (now (gone .exit)) ≡ walkR (limits p b 0 0) (height .0) window (now (s .entry)) 0 0 (sort ahead? (rows (now (ranks .entry)) (now (times .entry)) (now (places .entry))))) × (length (now (gone .exit)) ≡ length (now (gone .entry))) ⌝ }
+{
+    order(ranks, times, places);
+    release(s, ranks, places, height, window, p, b, gone)
+}
+
+// The places of the released: the Mined holders after their verdicts in a table, in order, and walked.
+fn release_all(
+    s: &[u8],
+    a: Area,
+    height: Height,
+    tip: [u8; 32],
+    t: &[u8],
+    k: u64,
+    caught: bool,
+    ids: &[u8],
+    m: u64,
+    window: u64,
+    ranks: &mut [u64],
+    times: &mut [u64],
+    places: &mut [usize],
+    gone: &mut [usize],
+) -> usize
+    requires { ⌜ AreaIn (now s) a × LentTo (height .0) tip (now t) k caught (now ids) m window × Even 2048 (now ranks) (now times) (now places) × (length (now gone) ≡ 2048) ⌝ }
+    ensures { λ r. ⌜ (r ≤ 2048) × GoneAre (now (s .entry)) (asked (height .0) tip (now (t .entry)) k caught (now (ids .entry)) m window) (take r (now (gone .exit))) × (length (now (gone .exit)) ≡ 2048) ⌝ }
+{
+    let o = a.open;
+    let h = o.head;
+    let c = gather_mined(
+        s,
+        o.start,
+        h.count,
+        t,
+        k,
+        caught,
+        ids,
+        m,
+        ranks,
+        times,
+        places,
+    );
+    release_rows(
+        s,
+        &mut ranks[..c],
+        &mut times[..c],
+        &mut places[..c],
+        height,
+        window,
+        h.p,
+        h.b,
+        gone,
+    )
+}
+
+// The lowest finish number that stays once g records are released; 0 where none is.
+fn floor_for(s: &[u8], a: Area, g: u64) -> u64
+    requires { ⌜ AreaIn (now s) a × (g ≤ a .open .head .count) × (a .open .head .counter .0 + g < 18446744073709551616) ⌝ }
+    ensures { λ r. ⌜ FloorFor (now (s .entry)) a g r ⌝ }
+{
+    if g == 0 {
+        return 0;
+    }
+    let o = a.open;
+    let h = o.head;
+    let n = h.counter;
+    floor(s, o.start, h.count, n.0, g, h.t)
+}
+
+// The queue of src after its reconciliation, with the records at the places gone released.
+fn put_whole(
+    src: &[u8],
+    a: Area,
+    height: Height,
+    tip: [u8; 32],
+    t: &[u8],
+    k: u64,
+    caught: bool,
+    ids: &[u8],
+    m: u64,
+    window: u64,
+    gone: &[usize],
+    dst: &mut [u8],
+)
+    requires { ⌜ AreaIn (now src) a × LentTo (height .0) tip (now t) k caught (now ids) m window × GoneAre (now src) (asked (height .0) tip (now t) k caught (now ids) m window) (now gone) × (a .open .head .counter .0 + length (now gone) < 18446744073709551616) × ChangedIs (now src) (asked (height .0) tip (now t) k caught (now ids) m window) true × (a .need ≤ length (now dst)) ⌝ }
+    ensures { λ _. ⌜ WholeTo (now (src .entry)) (asked (height .0) tip (now (t .entry)) k caught (now (ids .entry)) m window) (now (dst .entry)) (now (dst .exit)) ⌝ }
+{
+    let o = a.open;
+    let h = o.head;
+    let n = h.counter;
+    let g = gone.len() as u64;
+    let to = 45 + tip_len(true);
+    let f = floor_for(src, a, g);
+    let w = put_all(
+        src,
+        o.start,
+        h.count,
+        t,
+        k,
+        caught,
+        ids,
+        m,
+        gone,
+        n,
+        Finish(f),
+        dst,
+        to,
+    );
+    let marks = Marks {
+        persisted: height,
+        revision: std::num::wrapping_add_u64(h.revision, 1),
+        cursor: height,
+        tip: true,
+        counter: Finish(n.0 + g),
+        count: w.kept,
+    };
+    put_front(h.p, h.b, h.t, h.k, marks, tip, dst);
+    fill_zero(dst, w.at, a.need);
+}
+
+// The answer: whether anything changed, and the ids of the released.
+fn put_gone(s: &[u8], changed: bool, gone: &[usize], dst: &mut [u8]) -> usize
+    requires { ⌜ All (λ p. p + 33 ≤ length (now s)) (now gone) × (length (now gone) ≤ 2048) × (5 + 32 * length (now gone) ≤ length (now dst)) ⌝ }
+    ensures { λ r. ⌜ Put (now (dst .entry)) 0 (goneBytes (now (s .entry)) changed (now (gone .entry))) (5 + 32 * length (now (gone .entry))) r (now (dst .exit)) ⌝ }
+{
+    let a = put_flag(dst, 0, changed);
+    let b = put_be(dst, a, 4, gone.len() as u64);
+    put_ids(s, gone, dst, b)
+}
+
+fn put_flag(dst: &mut [u8], at: usize, b: bool) -> usize
+    requires { ⌜ at + 1 ≤ length (now dst) ⌝ }
+    ensures { λ r. ⌜ Put (now (dst .entry)) at (one b ∷ []) 1 r (now (dst .exit)) ⌝ }
+{
+    if b {
+        return put_u8(dst, at, 1);
+    }
+    put_u8(dst, at, 0)
+}
+
+// Is the height at least 32 above the persisted one? The sum stops at the top of 32 bits.
+fn is_far(persisted: Height, height: Height) -> bool
+    requires { ⌜ persisted .0 < 4294967296 ⌝ }
+    ensures { λ r. ⌜ r ≡ leb (min (persisted .0 + 32) topHeight) (height .0) ⌝ }
+{
+    let n = persisted.0 + 32;
+    if n <= 4294967295 {
+        return n <= height.0;
+    }
+    4294967295 <= height.0
+}
+
+// No record changed and none is released: the cursor moves.
+fn put_cursor(cur: &[u8], next: &mut [u8], a: Area, height: Height, tip: [u8; 32]) -> Answer
+    requires { ⌜ AreaIn (now cur) a × (height .0 < 4294967296) × idC .ok tip × (a .need ≤ length (now next)) ⌝ }
+    ensures { λ r. ⌜ CursorTold (now (cur .entry)) (height .0) tip r (now (next .entry)) (now (next .exit)) ⌝ }
+{
+    let p = a.persisted;
+    if is_far(p, height) {
+        put_moved(cur, a, height, height, true, tip, next);
+        return Answer::Done(Kind::Cursor);
+    }
+    put_moved(cur, a, p, height, true, tip, next);
+    Answer::Done(Kind::Memory)
+}
+
+// With the released known. Refusals 15 and 4.
+fn reconcile_gone(
+    cur: &[u8],
+    next: &mut [u8],
+    a: Area,
+    height: Height,
+    tip: [u8; 32],
+    t: &[u8],
+    k: u64,
+    caught: bool,
+    ids: &[u8],
+    m: u64,
+    window: u64,
+    gone: &[usize],
+    out: &mut [u8],
+) -> Answer
+    requires { ⌜ AreaIn (now cur) a × LentTo (height .0) tip (now t) k caught (now ids) m window × GoneAre (now cur) (asked (height .0) tip (now t) k caught (now ids) m window) (now gone) × (a .need ≤ length (now next)) ⌝ }
+    ensures { λ r. ⌜ ReconcileTold (now (cur .entry)) (asked (height .0) tip (now (t .entry)) k caught (now (ids .entry)) m window) (outcome r (now (next .exit)) (now (out .exit))) (now (next .entry)) (now (out .entry)) ⌝ }
+{
+    let o = a.open;
+    let h = o.head;
+    let c = h.counter;
+    let g = gone.len();
+    if 18446744073709551615 - c.0 < g as u64 {
+        return Answer::Refused(15);
+    }
+    if out.len() < 5 + 32 * g {
+        return Answer::Refused(4);
+    }
+    let touched = any_touched(cur, o.start, h.count, t, k, caught, ids, m);
+    let changed = either(touched, 0 < g);
+    put_gone(cur, changed, gone, out);
+    if changed {
+        put_whole(
+            cur,
+            a,
+            height,
+            tip,
+            t,
+            k,
+            caught,
+            ids,
+            m,
+            window,
+            gone,
+            next,
+        );
+        return Answer::Done(Kind::Whole);
+    }
+    put_cursor(cur, next, a, height, tip)
+}
+
+// With what is lent known to fit.
+fn reconcile_lent(
+    cur: &[u8],
+    next: &mut [u8],
+    a: Area,
+    height: Height,
+    tip: [u8; 32],
+    t: &[u8],
+    k: u64,
+    caught: bool,
+    ids: &[u8],
+    m: u64,
+    window: u64,
+    out: &mut [u8],
+) -> Answer
+    requires { ⌜ AreaIn (now cur) a × LentTo (height .0) tip (now t) k caught (now ids) m window × (a .need ≤ length (now next)) ⌝ }
+    ensures { λ r. ⌜ ReconcileTold (now (cur .entry)) (asked (height .0) tip (now (t .entry)) k caught (now (ids .entry)) m window) (outcome r (now (next .exit)) (now (out .exit))) (now (next .entry)) (now (out .entry)) ⌝ }
+{
+    let mut ranks = [0u64; 2048];
+    let mut times = [0u64; 2048];
+    let mut places = [0usize; 2048];
+    let mut gone = [0usize; 2048];
+    let g = release_all(
+        cur,
+        a,
+        height,
+        tip,
+        t,
+        k,
+        caught,
+        ids,
+        m,
+        window,
+        &mut ranks,
+        &mut times,
+        &mut places,
+        &mut gone,
+    );
+    reconcile_gone(
+        cur,
+        next,
+        a,
+        height,
+        tip,
+        t,
+        k,
+        caught,
+        ids,
+        m,
+        window,
+        &gone[..g],
+        out,
+    )
+}
+
+// Reconciliation. Refusals 3, 2, 5, 15, 4.
+pub fn reconcile(
+    cur: &[u8],
+    next: &mut [u8],
+    height: u32,
+    tip: &[u8],
+    applied: &[u8],
+    flag: u8,
+    ids: &[u8],
+    window: u32,
+    out: &mut [u8],
+) -> Answer
+    ensures { λ r. ⌜ outcome r (now (next .exit)) (now (out .exit)) ≡ reconcileOf (now (cur .entry)) (now (next .entry)) (now (out .entry)) (reconcileArgs height (now (tip .entry)) (now (applied .entry)) flag (now (ids .entry)) window) ⌝ }
+{
+    let a = area_at(cur);
+    if !a.ok {
+        return Answer::Refused(3);
+    }
+    if next.len() < a.need {
+        return Answer::Refused(2);
+    }
+    if !reconcile_asks(tip, flag as u64, applied, ids) {
+        return Answer::Refused(5);
+    }
+    let i = id_at(tip, false, 0, 0);
+    let k = (applied.len() / 68) as u64;
+    let m = (ids.len() / 32) as u64;
+    reconcile_lent(
+        cur,
+        next,
+        a,
+        Height(height as u64),
+        i,
+        applied,
+        k,
+        flag == 1,
+        ids,
+        m,
+        window as u64,
+        out,
+    )
+}

@@ -1,0 +1,140 @@
+// Which Mined holders a reconciliation releases, and in which order.
+use super::forms::after_in;
+use super::frame::Facts;
+use super::frame::Height;
+use super::frame::rec_at;
+use super::logic::both;
+use super::logic::either;
+use super::select::add_row;
+use super::touch::Verdict;
+use super::touch::touched;
+use super::view::be;
+ghost use mathlib.Core.Path.{_≡_};
+ghost use mathlib.Core.Bool.{true, false, _||_};
+ghost use Prim.Native.Nat.{_+_, _-_, _*_, _≤_, _<_};
+ghost use lib.Dec.{ltb, leb};
+ghost use lib.ListN.{length, take};
+ghost use Rattle.queue.specs.Codec.{All};
+ghost use Rattle.queue.specs.Frames.{recC};
+ghost use Rattle.queue.specs.Reads.{whole};
+ghost use Rattle.queue.specs.Forms.{formC};
+ghost use Rattle.queue.specs.Opens.{limits};
+ghost use Rattle.queue.specs.Reopens.{IdsRise, idsAt};
+ghost use Rattle.queue.specs.SelectAs.{Even};
+ghost use Rattle.queue.specs.Releasing.{minedF, heightF, minedOf, MinedGathered, Stands, bytesAt, PlaceAdded, walkC};
+
+// Is a record a Mined holder after the verdict on it?
+fn mined_after(what: u64, f: Facts) -> bool
+    ensures { λ r. ⌜ r ≡ minedF what f ⌝ }
+{
+    both(either(what == 1, both(what == 0, f.state == 2)), f.holder)
+}
+
+// The height that it is Mined at then.
+fn height_after(t: &[u8], v: Verdict, f: Facts) -> u64
+    requires { ⌜ (v .what ≡ 1 → v .at + 68 ≤ length (now t)) ⌝ }
+    ensures { λ r. ⌜ r ≡ heightF (now (t .entry)) v f ⌝ }
+{
+    if v.what == 1 {
+        return be(t, false, 0, v.at + 32, 4);
+    }
+    let h = f.mined;
+    h.0
+}
+
+// A row for each Mined holder: height, how many records were left, place.
+pub fn gather_mined(
+    s: &[u8],
+    at: usize,
+    n: u64,
+    t: &[u8],
+    k: u64,
+    caught: bool,
+    ids: &[u8],
+    m: u64,
+    ranks: &mut [u64],
+    times: &mut [u64],
+    places: &mut [usize],
+) -> usize
+    requires { ⌜ (at ≤ length (now s)) × (whole (formC false recC) n (now s) at ≡ true) × (length (now t) ≡ k * 68) × IdsRise (now ids) m × Even (length (now ranks)) (now ranks) (now times) (now places) × (length (minedOf (now s) at n (now t) k caught (idsAt (now ids) m)) ≤ length (now ranks)) ⌝ }
+    ensures { λ r. ⌜ MinedGathered (now (s .entry)) n (minedOf (now (s .entry)) at n (now (t .entry)) k caught (idsAt (now (ids .entry)) m)) (length (now (ranks .entry))) r (now (ranks .exit)) (now (times .exit)) (now (places .exit)) ⌝ }
+{
+    let mut i = at;
+    let mut left = n;
+    let mut c: usize = 0;
+    while 0 < left {
+        let x = rec_at(s, false, i);
+        let f = x.facts;
+        let v = touched(s, at, n, i, x, t, k, caught, ids, m);
+        let sel = mined_after(v.what, f);
+        let h = height_after(t, v, f);
+        c = add_row(ranks, times, places, c, sel, h, left, i);
+        i = after_in(s, false, i, x.size);
+        left = left - 1;
+    }
+    c
+}
+
+// The byte count of the record at p.
+fn bytes_at(s: &[u8], p: usize) -> u64
+    requires { ⌜ Stands (now s) p ⌝ }
+    ensures { λ r. ⌜ (r ≡ bytesAt (now (s .entry)) p) × (r < 4294967296) ⌝ }
+{
+    let x = rec_at(s, false, p);
+    let f = x.facts;
+    f.bytes
+}
+
+fn minus(a: u64, b: u64) -> u64
+    ensures { λ r. ⌜ r ≡ a - b ⌝ }
+{
+    if b <= a { a - b } else { 0 }
+}
+
+// Is one released that is Mined at level, after seen others, with so many bytes up to it?
+fn is_out(height: Height, window: u64, p: u64, b: u64, level: u64, seen: u64, bytes: u64) -> bool
+    ensures { λ r. ⌜ r ≡ (leb window (height .0 - level) || (leb p seen || ltb b bytes)) ⌝ }
+{
+    let d = minus(height.0, level);
+    either(window <= d, either(p <= seen, b < bytes))
+}
+
+// A place at g, if it is to be; returns how many there are then.
+fn add_place(gone: &mut [usize], g: usize, out: bool, q: usize) -> usize
+    requires { ⌜ g < length (now gone) ⌝ }
+    ensures { λ r. ⌜ PlaceAdded out g q (now (gone .entry)) r (now (gone .exit)) ⌝ }
+{
+    if out {
+        gone[g] = q;
+        return g + 1;
+    }
+    g
+}
+
+// The places of the released, in the order of the walk, to the front of gone; returns how many.
+pub fn release(
+    s: &[u8],
+    ranks: &[u64],
+    places: &[usize],
+    height: Height,
+    window: u64,
+    p: u64,
+    b: u64,
+    gone: &mut [usize],
+) -> usize
+    requires { ⌜ (length (now ranks) ≡ length (now places)) × (length (now places) ≤ length (now gone)) × (length (now places) ≤ 2048) × All (Stands (now s)) (now places) ⌝ }
+    ensures { λ r. ⌜ (r ≤ length (now (places .entry))) × (take r (now (gone .exit)) ≡ walkC (limits p b 0 0) (height .0) window (now (s .entry)) 0 0 (now (ranks .entry)) (now (places .entry))) × (length (now (gone .exit)) ≡ length (now (gone .entry))) ⌝ }
+{
+    let mut j: usize = 0;
+    let mut g: usize = 0;
+    let mut sum: u64 = 0;
+    while j < places.len() {
+        let q = places[j];
+        let h = ranks[j];
+        sum = sum + bytes_at(s, q);
+        let out = is_out(height, window, p, b, h, j as u64, sum);
+        g = add_place(gone, g, out, q);
+        j += 1;
+    }
+    g
+}

@@ -1,0 +1,213 @@
+// What a reconciliation makes of one record, before anything is released.
+use super::forms::after_in;
+use super::frame::Facts;
+use super::frame::Seen;
+use super::frame::id_read;
+use super::frame::rec_at;
+use super::logic::both;
+use super::reading::Found;
+use super::reopen;
+use super::rules::pending;
+use super::scan::has_id;
+use super::view::be;
+use super::view::cmp_id;
+use super::view::id_at;
+ghost use mathlib.Core.Path.{_≡_};
+ghost use mathlib.Core.Bool.{true, false, _&&_};
+ghost use Prim.Native.Nat.{_+_, _*_, _≤_};
+ghost use lib.Dec.{eqb};
+ghost use lib.ListN.{length};
+ghost use Rattle.queue.specs.Frames.{recC, idC};
+ghost use Rattle.queue.specs.Reads.{whole, listAt};
+ghost use Rattle.queue.specs.Forms.{formC};
+ghost use Rattle.queue.specs.View.{view};
+ghost use Rattle.queue.specs.Reopens.{IdsRise, idsAt};
+ghost use Rattle.queue.specs.Touching.{appliedIn, EntryAs, SeenHere, ConfirmedIs, ownIds, judgeF, TouchIs, changes?};
+ghost use Rattle.queue.specs.paper.Lists.{any?, all?};
+ghost use Rattle.queue.specs.paper.Sound.{among?};
+ghost use Rattle.queue.specs.paper.Changing.{queuedOutputs};
+
+// The applied entry of an id, of k entries.
+fn find_entry(t: &[u8], k: u64, id: [u8; 32]) -> Found
+    requires { ⌜ length (now t) ≡ k * 68 ⌝ }
+    ensures { λ r. ⌜ EntryAs (now (t .entry)) k id r ⌝ }
+{
+    let mut i: usize = 0;
+    let mut left = k;
+    while 0 < left {
+        let y = id_at(t, false, 0, i);
+        if cmp_id(id, y) == 1 {
+            return Found { found: true, at: i };
+        }
+        i = i + 68;
+        left = left - 1;
+    }
+    Found {
+        found: false,
+        at: 0,
+    }
+}
+
+// Is the record read at base Mined in the block of the applied entry at p, at its height?
+fn confirmed(s: &[u8], base: usize, x: Seen, t: &[u8], p: usize) -> bool
+    requires { ⌜ SeenHere (now s) base x × (p + 68 ≤ length (now t)) ⌝ }
+    ensures { λ r. ⌜ ConfirmedIs (now (s .entry)) base x (now (t .entry)) p r ⌝ }
+{
+    let f = x.facts;
+    if f.state != 2 {
+        return false;
+    }
+    if !f.placed {
+        return false;
+    }
+    let h = f.mined;
+    let n = be(t, false, 0, p + 32, 4);
+    let a = id_at(s, false, base, x.after + 5);
+    let b = id_at(t, false, 0, p + 36);
+    both(h.0 == n, cmp_id(a, b) == 1)
+}
+
+// Is the id an output of a Queued record, of the n records at `at`?
+fn is_output(s: &[u8], at: usize, n: u64, id: [u8; 32]) -> bool
+    requires { ⌜ (at ≤ length (now s)) × (whole (formC false recC) n (now s) at ≡ true) ⌝ }
+    ensures { λ r. ⌜ r ≡ among? id (queuedOutputs (listAt (formC false recC) n (now (s .entry)) at)) ⌝ }
+{
+    let mut i = at;
+    let mut left = n;
+    while 0 < left {
+        let x = rec_at(s, false, i);
+        if in_outputs(s, i, x, id) {
+            return true;
+        }
+        i = after_in(s, false, i, x.size);
+        left = left - 1;
+    }
+    false
+}
+
+// Is the id an output of the record read at base, and that record Queued?
+fn in_outputs(s: &[u8], base: usize, x: Seen, id: [u8; 32]) -> bool
+    requires { ⌜ (x .outs ≤ length (view false (now s) base)) × (whole idC (x .facts .outs) (view false (now s) base) (x .outs) ≡ true) ⌝ }
+    ensures { λ r. ⌜ r ≡ (eqb (x .facts .state) 0 && among? id (listAt idC (x .facts .outs) (view false (now (s .entry)) base) (x .outs))) ⌝ }
+{
+    let f = x.facts;
+    if f.state != 0 {
+        return false;
+    }
+    has_id(s, false, base, x.outs, f.outs, id)
+}
+
+// Is the id available, or an output of a Queued record?
+fn owned(s: &[u8], at: usize, n: u64, ids: &[u8], m: u64, id: [u8; 32]) -> bool
+    requires { ⌜ (at ≤ length (now s)) × (whole (formC false recC) n (now s) at ≡ true) × IdsRise (now ids) m ⌝ }
+    ensures { λ r. ⌜ r ≡ among? id (ownIds (idsAt (now (ids .entry)) m) (listAt (formC false recC) n (now (s .entry)) at)) ⌝ }
+{
+    if reopen::find_id(ids, m, id) {
+        return true;
+    }
+    is_output(s, at, n, id)
+}
+
+// Are all inputs of the record read at base owned?
+fn fine(s: &[u8], at: usize, n: u64, base: usize, x: Seen, ids: &[u8], m: u64) -> bool
+    requires { ⌜ (at ≤ length (now s)) × (whole (formC false recC) n (now s) at ≡ true) × IdsRise (now ids) m × (x .at ≤ length (view false (now s) base)) × (whole idC (x .facts .ins) (view false (now s) base) (x .at) ≡ true) ⌝ }
+    ensures { λ r. ⌜ r ≡ all? (λ i. among? i (ownIds (idsAt (now (ids .entry)) m) (listAt (formC false recC) n (now (s .entry)) at))) (listAt idC (x .facts .ins) (view false (now (s .entry)) base) (x .at)) ⌝ }
+{
+    let f = x.facts;
+    let mut i = x.at;
+    let mut left = f.ins;
+    while 0 < left {
+        let y = id_read(s, false, base, i);
+        let id = y.id;
+        if !owned(s, at, n, ids, m, id) {
+            return false;
+        }
+        i = y.next;
+        left = left - 1;
+    }
+    true
+}
+
+// What becomes of a record: 0 it stays, 1 it is confirmed by the applied entry at `at`, 2 Queued, 3 Conflicted.
+pub struct Verdict {
+    pub what: u64,
+    pub at: usize,
+}
+
+fn judge(fine: bool, f: Facts) -> u64
+    ensures { λ r. ⌜ r ≡ judgeF fine f ⌝ }
+{
+    if fine {
+        if both(f.state == 0, f.reason == 0) {
+            return 0;
+        }
+        return 2;
+    }
+    if both(f.state == 3, f.reason == 5) {
+        return 0;
+    }
+    3
+}
+
+// The verdict on the record read at base, of the n records at `at`; t has k applied entries, ids m available ids.
+pub fn touched(
+    s: &[u8],
+    at: usize,
+    n: u64,
+    base: usize,
+    x: Seen,
+    t: &[u8],
+    k: u64,
+    caught: bool,
+    ids: &[u8],
+    m: u64,
+) -> Verdict
+    requires { ⌜ (at ≤ length (now s)) × (whole (formC false recC) n (now s) at ≡ true) × SeenHere (now s) base x × (length (now t) ≡ k * 68) × IdsRise (now ids) m ⌝ }
+    ensures { λ r. ⌜ TouchIs (now (s .entry)) at n base x (now (t .entry)) k caught (idsAt (now (ids .entry)) m) r ⌝ }
+{
+    let id = x.id;
+    let f = x.facts;
+    let e = find_entry(t, k, id);
+    if e.found {
+        if confirmed(s, base, x, t, e.at) {
+            return Verdict { what: 0, at: 0 };
+        }
+        return Verdict { what: 1, at: e.at };
+    }
+    if !both(caught, pending(f.state)) {
+        return Verdict { what: 0, at: 0 };
+    }
+    let a = fine(s, at, n, base, x, ids, m);
+    Verdict {
+        what: judge(a, f),
+        at: 0,
+    }
+}
+
+// Does one of the n records at `at` change?
+pub fn any_touched(
+    s: &[u8],
+    at: usize,
+    n: u64,
+    t: &[u8],
+    k: u64,
+    caught: bool,
+    ids: &[u8],
+    m: u64,
+) -> bool
+    requires { ⌜ (at ≤ length (now s)) × (whole (formC false recC) n (now s) at ≡ true) × (length (now t) ≡ k * 68) × IdsRise (now ids) m ⌝ }
+    ensures { λ r. ⌜ r ≡ any? (changes? caught (ownIds (idsAt (now (ids .entry)) m) (listAt (formC false recC) n (now (s .entry)) at)) (appliedIn (now (t .entry)) k)) (listAt (formC false recC) n (now (s .entry)) at) ⌝ }
+{
+    let mut i = at;
+    let mut left = n;
+    while 0 < left {
+        let x = rec_at(s, false, i);
+        let v = touched(s, at, n, i, x, t, k, caught, ids, m);
+        if v.what != 0 {
+            return true;
+        }
+        i = after_in(s, false, i, x.size);
+        left = left - 1;
+    }
+    false
+}
