@@ -5,7 +5,7 @@ use std::{env, fs};
 
 /// The calls of docs/CALLS.md that libpokerbox.a does not export yet. Take a name off when its
 /// export has arrived; the rest of the crate follows by `cfg(exported = "name")`.
-const NOT_EXPORTED_YET: &[&str] = &["reconcile"];
+const NOT_EXPORTED_YET: &[&str] = &[];
 
 /// The calls of docs/CALLS.md.
 const CALLS: &[&str] = &[

@@ -22,6 +22,7 @@ use queue::reading::observation_cursor;
 use queue::reading::observed_height;
 use queue::reading::revision;
 use queue::reading::signed_place;
+use queue::reconcile::reconcile;
 use queue::reopen::reopen;
 use queue::reserved::guard_snapshot;
 use queue::reserved::reservation_snapshot;
@@ -31,7 +32,7 @@ ghost use mathlib.Core.Path.{_≡_};
 ghost use mathlib.Core.List.{[]};
 ghost use Prim.Native.Nat.{_≤_};
 ghost use Rattle.queue.specs.Opens.{limits};
-ghost use Rattle.queue.specs.paper.Calls.{number, kindNumber, freshOf, soundOf, admitArgs, admitOf, cancelOf, expireOf, reopenOf, setCursorOf, settleOf, entryOf, selectionAtOf, recordIdsOf, guardedIdsOf, reservedInputsOf, reservationSnapshotOf, guardSnapshotOf, listOf, confirmationsOf, dueOf, observationCursorOf, revisionOf, observedHeightOf, isEmptyOf, deadlineDueOf};
+ghost use Rattle.queue.specs.paper.Calls.{number, kindNumber, freshOf, soundOf, admitArgs, admitOf, cancelOf, expireOf, reconcileArgs, reconcileOf, reopenOf, setCursorOf, settleOf, entryOf, selectionAtOf, recordIdsOf, guardedIdsOf, reservedInputsOf, reservationSnapshotOf, guardSnapshotOf, listOf, confirmationsOf, dueOf, observationCursorOf, revisionOf, observedHeightOf, isEmptyOf, deadlineDueOf};
 ghost use Rattle.image.specs.paper.Image.{imageOf, openOf};
 ghost use Rattle.pokerbox.specs.paper.Exports.{given, ofOutcome, ofWritten, ofImaged, ofNumbered, Placed};
 
@@ -152,6 +153,34 @@ pub extern "C" fn pokerbox_expire(
     ensures { λ r. ⌜ given r (now (next .exit)) (now (out .exit)) ≡ ofOutcome (expireOf (now (cur .entry)) (now (next .entry)) (now (out .entry)) time height) ⌝ }
 {
     number(expire(cur, next, time, height, out))
+}
+
+// Reconciliation: whether anything changed and the ids released in out. 3, 2, 5, 15, 4.
+#[no_mangle]
+pub extern "C" fn pokerbox_reconcile(
+    cur: &[u8],
+    next: &mut [u8],
+    height: u32,
+    tip: &[u8],
+    applied: &[u8],
+    caughtup: u8,
+    available: &[u8],
+    window: u32,
+    out: &mut [u8],
+) -> u64
+    ensures { λ r. ⌜ given r (now (next .exit)) (now (out .exit)) ≡ ofOutcome (reconcileOf (now (cur .entry)) (now (next .entry)) (now (out .entry)) (reconcileArgs height (now (tip .entry)) (now (applied .entry)) caughtup (now (available .entry)) window)) ⌝ }
+{
+    number(reconcile(
+        cur,
+        next,
+        height,
+        tip,
+        applied,
+        caughtup,
+        available,
+        window,
+        out,
+    ))
 }
 
 // Reopening. 3, 2, 5.

@@ -70,6 +70,15 @@ uint64_t pokerbox_cancel(const uint8_t *cur, size_t cur_len, uint8_t *next, size
 uint64_t pokerbox_expire(const uint8_t *cur, size_t cur_len, uint8_t *next, size_t next_len,
                          uint64_t now, uint32_t height, uint8_t *out, size_t out_len);
 
+/* Reconciles with the chain at `height`. `applied` has entries of id 32, height 4 and block id 32,
+ * strictly rising by id; `available` has ids, strictly rising. `out` gets a flag, whether anything
+ * changed, a count of 4 bytes, and the ids released in the order in which they were finished. */
+uint64_t pokerbox_reconcile(const uint8_t *cur, size_t cur_len, uint8_t *next, size_t next_len,
+                            uint32_t height, const uint8_t *tip, size_t tip_len,
+                            const uint8_t *applied, size_t applied_len, uint8_t caught_up,
+                            const uint8_t *available, size_t available_len, uint32_t window,
+                            uint8_t *out, size_t out_len);
+
 /* Reopens the Mined records of `ids`, 32 bytes each, strictly rising. */
 uint64_t pokerbox_reopen(const uint8_t *cur, size_t cur_len, uint8_t *next, size_t next_len,
                          const uint8_t *ids, size_t ids_len);
@@ -153,16 +162,6 @@ uint64_t pokerbox_due(const uint8_t *area, size_t area_len, uint64_t now, uint32
 /* A count of 4 bytes, then id, mined height of 4 bytes and block id of each Mined record, by id. */
 uint64_t pokerbox_confirmations(const uint8_t *area, size_t area_len, uint8_t *out,
                                 size_t out_len);
-
-/* NOT EXPORTED YET: linking one of these fails.
-
-uint64_t pokerbox_reconcile(const uint8_t *cur, size_t cur_len, uint8_t *next, size_t next_len,
-                            uint32_t height, const uint8_t *tip, size_t tip_len,
-                            const uint8_t *applied, size_t applied_len, uint8_t caught_up,
-                            const uint8_t *available, size_t available_len, uint32_t window,
-                            uint8_t *out, size_t out_len);
-
-*/
 
 #ifdef __cplusplus
 }
