@@ -34,8 +34,9 @@ use Rattle.queue.specs.declared.frame.Seen.{Seen}
 use Rattle.queue.specs.declared.frame.Facts.{Facts}
 use Rattle.queue.specs.declared.touch.Verdict.{Verdict}
 use Rattle.queue.proofs.Turns.{Scan, start, on, SeenIn, ReadsRec, seen}
+use Rattle.queue.proofs.ScanLaws.{nothingF}
 use Rattle.queue.proofs.ReadingLaws.{id-here, one-here}
-use Rattle.queue.proofs.SelectLaws.{nothingF, rows-length, sort-all}
+use Rattle.queue.proofs.SelectLaws.{rows-length, sort-all}
 use Rattle.queue.proofs.TouchLaws.{entry-height}
 
 -- ---- one record after its verdict
