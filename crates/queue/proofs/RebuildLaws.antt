@@ -47,6 +47,7 @@ use Rattle.queue.proofs.FinishLaws.{encs-append, raw-after, raw-within}
 use Rattle.queue.proofs.SelectLaws.{map-length}
 use Rattle.queue.proofs.ReopenLaws.{parts-in, terms-part, tail-part}
 use Rattle.queue.proofs.TouchLaws.{be-val, drop-take}
+use Rattle.queue.proofs.ReleaseLaws.{all-at}
 
 -- ---- the rank of an id
 unfoldable pub shift : ℕ → ℕ → ℕ
@@ -69,11 +70,6 @@ pub record Ranking (s : Bytes) (gone : List ℕ) (id : Id) (j : ℕ) : Type 0 wh
 
 pub rank-start : (s : Bytes) (gone : List ℕ) (id : Id) → Ranking s gone id 0
 rank-start s gone id = record { within = omega arith; same = shift-zero (placeIn id (map (idAt s) gone)) }
-
-all-at : (P : ℕ → Type 0) (l : List ℕ) (j : ℕ) → All P l → j < length l → P (getD l j 0)
-all-at P [] j h k = absurd (let y : ⊥ = omega arith in y)
-all-at P (a ∷ l) zero h k = h .0
-all-at P (a ∷ l) (suc j) h k = all-at P l j (h .1) (le-of-suc-le-suc k)
 
 pub rank-room : (s : Bytes) (gone : List ℕ) (j : ℕ) → All (λ p. p + 33 ≤ length s) gone → j < length gone → getD gone j 0 + 33 ≤ length s
 rank-room s gone j h k = all-at (λ p. p + 33 ≤ length s) gone j h k

@@ -123,6 +123,10 @@ module _ {s : Bytes} {a : Area} (w : AreaIn s a) where
       let st = w .read .store in let t = st .head .T in
       (area-asks .0, area-asks .1, st .head .countSmall, h, k, omega (arith, fit (w .read) .sound .range .T-low), st .head .tSmall, stamps)
 
+some-is : (x : List Id) {n : ℕ} → n ≡ length x → someReleased? x ≡ ltb 0 n
+some-is [] {n} e = sym (le-ltb 0 n (omega arith))
+some-is (i ∷ x) {n} e = sym (lt-ltb 0 n (omega arith))
+
 -- ---- what is lent, and the area
 module _ {s : Bytes} {a : Area} (w : AreaIn s a) {height : ℕ} {tip : Id} {t : Bytes} {k : ℕ} {caught : Bool} {ids : Bytes} {m window : ℕ} (L : LentTo height tip t k caught ids m window) where
   abbrev C : Reconciling
@@ -305,13 +309,6 @@ module _ {s : Bytes} {a : Area} (w : AreaIn s a) {height : ℕ} {tip : Id} {t : 
           whole-few = let z = fit (w .read) .sound .range in let y = whole-count in omega (arith, n, ap length (kept-is F), z .P-high, z .T-high)
 
       -- ---- the answer
-      pub some-gone : someReleased? (goneIds C (w .q)) ≡ ltb 0 (length gone)
-      some-gone = go (goneIds C (w .q)) many-gone
-        where
-          go : (x : List Id) → length gone ≡ length x → someReleased? x ≡ ltb 0 (length gone)
-          go [] e = sym (le-ltb 0 (length gone) (omega arith))
-          go (i ∷ x) e = sym (lt-ltb 0 (length gone) (omega arith))
-
       still-done : (anyTouched C (w .q) || someReleased? (goneIds C (w .q))) ≡ false → reconcile C (w .q) ≡ done (cursorKind (w .q .persisted) height) (cursorTo height tip (w .q)) (false, [])
       unfolding reconcile goneIds touchedL anyTouched
       still-done ch = rw (fits-top, ch) (cases (leb (min (w .q .persisted + 32) topHeight) height) (λ b. rw b) (λ b. rw b))
@@ -339,7 +336,7 @@ module _ {s : Bytes} {a : Area} (w : AreaIn s a) {height : ℕ} {tip : Id} {t : 
           two e f = cc
 
       no-ids : (anyTouched C (w .q) || someReleased? (goneIds C (w .q))) ≡ false → length gone ≡ 0
-      no-ids ch = let z = or-false (anyTouched C (w .q)) (someReleased? (goneIds C (w .q))) ch .1 in let y = ltb-false 0 (length gone) (sym some-gone ∙ z) in omega arith
+      no-ids ch = let z = or-false (anyTouched C (w .q)) (someReleased? (goneIds C (w .q))) ch .1 in let y = ltb-false 0 (length gone) (sym (some-is (goneIds C (w .q)) many-gone) ∙ z) in omega arith
 
       pub gone-4 : (next out : Bytes) → length out < 5 + 32 * length gone → ReconcileTold s C (outcome (Refused 4) next out) next out
       gone-4 next out h q e = cases (anyTouched C (w .q) || someReleased? (goneIds C (w .q)))
@@ -371,15 +368,8 @@ module _ {s : Bytes} {a : Area} (w : AreaIn s a) {height : ℕ} {tip : Id} {t : 
 
     pub changed-is : {b c : Bool} → c ≡ any? (changes? caught (ownIds (idsAt ids m) (listAt (formC false recC) (a .open .head .count) s (a .open .start))) (appliedIn t k)) (listAt (formC false recC) (a .open .head .count) s (a .open .start)) → b ≡ (c || ltb 0 (length gone)) → ChangedIs s C b
     unfolding anyTouched touch ownIds
-    changed-is e f q x = f ∙ two (e ∙ ap (λ l. any? (changes? caught (ownIds (idsAt ids m) l) (appliedIn t k)) l) (w .read .store .list)) (sym some) ∙ ap (λ v. anyTouched C v || someReleased? (goneIds C v)) (one-queue s (w .is) x)
+    changed-is e f q x = f ∙ two (e ∙ ap (λ l. any? (changes? caught (ownIds (idsAt ids m) l) (appliedIn t k)) l) (w .read .store .list)) (sym (some-is (goneIds C (w .q)) many-gone)) ∙ ap (λ v. anyTouched C v || someReleased? (goneIds C v)) (one-queue s (w .is) x)
       where
-        some : someReleased? (goneIds C (w .q)) ≡ ltb 0 (length gone)
-        some = go (goneIds C (w .q)) many-gone
-          where
-            go : (x : List Id) → length gone ≡ length x → someReleased? x ≡ ltb 0 (length gone)
-            go [] e = sym (le-ltb 0 (length gone) (omega arith))
-            go (i ∷ x) e = sym (lt-ltb 0 (length gone) (omega arith))
-
         two : {a a′ b b′ : Bool} → a ≡ a′ → b ≡ b′ → (a || b) ≡ (a′ || b′)
         two e f = cc
 

@@ -312,7 +312,7 @@ place-yes t = record { yes = λ _. (refl, refl); no = λ f. false-true (sym f �
 pub place-no : {out : Bool} {g q : ℕ} {d : List ℕ} → out ≡ false → PlaceAdded out g q d g d
 place-no f = record { yes = λ t. false-true (sym f ∙ t); no = λ _. (refl, refl) }
 
-all-at : (P : ℕ → Type 0) (l : List ℕ) (j : ℕ) → All P l → j < length l → P (getD l j 0)
+pub all-at : (P : ℕ → Type 0) (l : List ℕ) (j : ℕ) → All P l → j < length l → P (getD l j 0)
 all-at P [] j h k = absurd (let y : ⊥ = omega arith in y)
 all-at P (a ∷ l) zero h k = h .0
 all-at P (a ∷ l) (suc j) h k = all-at P l j (h .1) (le-of-suc-le-suc k)
