@@ -31,6 +31,7 @@ use pokerbox::pokerbox_list;
 use pokerbox::pokerbox_observation_cursor;
 use pokerbox::pokerbox_observed_height;
 use pokerbox::pokerbox_open;
+use pokerbox::pokerbox_reconcile;
 use pokerbox::pokerbox_record_ids;
 use pokerbox::pokerbox_reopen;
 use pokerbox::pokerbox_reservation_snapshot;
@@ -90,7 +91,7 @@ impl Lent {
 
 // ---- calls
 
-// What has one length stands first, then the lengths of the other six, then these.
+// What has one length stands first, then the lengths of the rest, then these.
 fn admit(a: &[u8], cur: &[u8], next: &mut [u8], out: &mut [u8]) -> u64 {
     let id = length_at(a, 48);
     let inputs = length_at(a, 50);
@@ -127,12 +128,32 @@ fn admit(a: &[u8], cur: &[u8], next: &mut [u8], out: &mut [u8]) -> u64 {
     )
 }
 
+fn reconcile(a: &[u8], cur: &[u8], next: &mut [u8], out: &mut [u8]) -> u64 {
+    let tip = length_at(a, 9);
+    let applied = length_at(a, 11);
+    let available = length_at(a, 13);
+    let b = 15 + tip;
+    let c = b + applied;
+    pokerbox_reconcile(
+        cur,
+        next,
+        number_32(a, 0),
+        part(a, 15, tip),
+        part(a, b, applied),
+        number_8(a, 4),
+        part(a, c, available),
+        number_32(a, 5),
+        out,
+    )
+}
+
 // A changing call.
 fn change(op: u8, a: &[u8], cur: &[u8], next: &mut [u8], out: &mut [u8]) -> u64 {
     match op {
         b'c' => pokerbox_cancel(cur, next, a, out),
         b'd' => admit(a, cur, next, out),
         b'e' => pokerbox_expire(cur, next, number(a, 0, 8), number_32(a, 8), out),
+        b'n' => reconcile(a, cur, next, out),
         b'r' => pokerbox_reopen(cur, next, a),
         _ => pokerbox_set_cursor(cur, next, number_32(a, 0), number_8(a, 4), rest(a, 5)),
     }
@@ -328,7 +349,7 @@ fn call(op: u8, a: &[u8], lent: Lent, cur: &mut [u8], next: &mut [u8], stored: &
         b'b' => put(a, next),
         b'k' => put(next, cur),
         b'f' | b'o' => made(op, a, lent, cur, stored),
-        b'c' | b'd' | b'e' | b'r' | b's' | b'u' => moved(op, a, lent, cur, next),
+        b'c' | b'd' | b'e' | b'n' | b'r' | b's' | b'u' => moved(op, a, lent, cur, next),
         _ => looked(op, a, lent, cur),
     }
 }

@@ -5,7 +5,7 @@ use std::collections::{BTreeMap, BTreeSet};
 use std::fmt::Write as _;
 use std::path::Path;
 
-use model::calls::AdmitArgs;
+use model::calls::{AdmitArgs, ReconcileArgs};
 use model::random::{self, Rng};
 use model::rules::{reserved_inputs, Admission, Reconciliation};
 use model::{area, calls, image, Height, Id, Limits, Queue, Record, State, TimeMs};
@@ -15,7 +15,7 @@ use crate::list::{Call, Event, Start, Write};
 use crate::oracle::{hex_bytes, Oracle};
 use crate::run::model_number;
 use crate::side::Reading;
-use crate::unit::{admit_args, applied_bytes, optional_id, UNTOUCHED};
+use crate::unit::{admit_args, applied_bytes, optional_id, reconcile_args, UNTOUCHED};
 
 /// The Rattle program's folder, from this package's.
 pub const REPLAY: &str = "../../crates/replay";
@@ -27,7 +27,7 @@ const AREA: usize = 8_192;
 const IMAGE: usize = 16_384;
 
 /// The numbers that each step has to meet.
-const TO_MEET: [(char, &[u64]); 28] = [
+const TO_MEET: [(char, &[u64]); 29] = [
     ('f', &[1, 2, 100]),
     ('o', &[2, 16, 100]),
     ('v', &[3, 100]),
@@ -37,6 +37,7 @@ const TO_MEET: [(char, &[u64]); 28] = [
     ('c', &[2, 3, 4, 5, 13, 14, 15, 100, 102]),
     ('d', &[2, 3, 4, 5, 6, 7, 8, 9, 10, 11, 12, 100, 102]),
     ('e', &[2, 3, 4, 15, 100, 102]),
+    ('n', &[2, 3, 4, 5, 15, 101, 102, 103]),
     ('r', &[2, 3, 5, 100, 102]),
     ('u', &[2, 3, 5, 101]),
     ('B', &[3, 5, 13, 100]),
@@ -64,7 +65,7 @@ pub struct Fixed {
     pub steps: String,
     pub answers: String,
     met: BTreeMap<(char, u64), u64>,
-    writes: BTreeSet<(u64, Write)>,
+    writes: BTreeSet<(char, u64, Write)>,
 }
 
 /// Makes both; the oracle has its files in `folder`.
@@ -137,10 +138,12 @@ impl Fixed {
                 }
             }
         }
-        for kind in [2, 3] {
+        // Reconciliation is the only call with both kinds.
+        for (letter, kind) in [('d', 2), ('n', 2), ('n', 3)] {
             for write in Write::ALL {
-                if !self.writes.contains(&(kind, write)) {
-                    return Err(format!("no write of kind {kind} was {}", write.name()));
+                if !self.writes.contains(&(letter, kind, write)) {
+                    let name = write.name();
+                    return Err(format!("no write of kind {kind} by {letter} was {name}"));
                 }
             }
         }
@@ -242,7 +245,7 @@ impl<'a> List<'a> {
                     self.restart();
                 }
                 // Writes fail and are cut more often than in other lists.
-                Event::Call(call, Write::Kept) if rng.once_in(3) => {
+                Event::Call(call, Write::Kept) if rng.once_in(2) => {
                     let write = rng.pick(&Write::ALL);
                     self.call(rng, &call, write)?
                 }
@@ -253,15 +256,10 @@ impl<'a> List<'a> {
         Ok(())
     }
 
-    /// Exported calls, reopened records, reserved inputs and cursor writes are met more often than in other lists.
+    /// Reopened records, reserved inputs and cursor writes are met more often than in other lists.
     fn event(&self, rng: &mut Rng) -> Event {
         let queue = self.oracle.queue();
         let mut event = generate::event(rng, &queue);
-        if let Event::Call(call, _) = &event {
-            if letter(call).is_none() && rng.once_in(2) {
-                event = generate::event(rng, &queue);
-            }
-        }
         if let Event::Call(call, _) = &mut event {
             match &mut **call {
                 Call::Reopen(ids) if rng.once_in(2) => {
@@ -313,16 +311,10 @@ impl<'a> List<'a> {
             return Ok(());
         }
         let given = self.given(call, &before)?;
-        if letter(call).is_none() && given.number <= 100 {
-            return Ok(());
-        }
         let due = matches!(given.number, 102 | 103);
         let how = if due { write.name() } else { "not due" };
         self.fixed.both(&format!("{}, write {how}", call.name()));
-        match letter(call) {
-            Some(letter) => self.answered(rng, letter, call, &given),
-            None => self.fixed.area('b', &area::encode(&given.next)),
-        }
+        self.answered(rng, call, &given);
         let done = self.oracle.call(call, write)?;
         match given.number {
             101 => {
@@ -331,6 +323,9 @@ impl<'a> List<'a> {
             }
             102 | 103 => {
                 self.same(done.wrote, true, "a write was due")?;
+                self.fixed
+                    .writes
+                    .insert((letter(call), given.number - 100, write));
                 self.write(rng, given.number - 100, write, &given.next)?;
             }
             number => {
@@ -364,7 +359,7 @@ impl<'a> List<'a> {
         })
     }
 
-    fn answered(&mut self, rng: &mut Rng, letter: char, call: &Call, given: &Given) {
+    fn answered(&mut self, rng: &mut Rng, call: &Call, given: &Given) {
         let out = longer(rng, &given.answer);
         let out = if given.number < 100 {
             vec![UNTOUCHED; 2]
@@ -372,7 +367,7 @@ impl<'a> List<'a> {
             out
         };
         self.fixed
-            .output(letter, &arguments(call), given.number, &out);
+            .output(letter(call), &arguments(call), given.number, &out);
     }
 
     /// The image of the next area, the write, settling.
@@ -383,7 +378,6 @@ impl<'a> List<'a> {
         write: Write,
         next: &Queue,
     ) -> Result<(), String> {
-        self.fixed.writes.insert((kind, write));
         self.fixed.image('w', &image::encode(next));
         if matches!(write, Write::Kept | Write::CutAfterRename) {
             self.fixed.step('t', &[]);
@@ -486,15 +480,15 @@ fn longer(rng: &mut Rng, answer: &[u8]) -> Vec<u8> {
     out
 }
 
-/// The letter of an exported changing call. Of the others the list gives the next area; their arguments are ready below.
-fn letter(call: &Call) -> Option<char> {
+/// The letter of a changing call.
+fn letter(call: &Call) -> char {
     match call {
-        Call::Admit(_) => Some('d'),
-        Call::Reconcile(_) => None,
-        Call::Cancel(_) => Some('c'),
-        Call::Expire(..) => Some('e'),
-        Call::Reopen(_) => Some('r'),
-        Call::SetCursor(..) => Some('u'),
+        Call::Admit(_) => 'd',
+        Call::Cancel(_) => 'c',
+        Call::Expire(..) => 'e',
+        Call::Reconcile(_) => 'n',
+        Call::Reopen(_) => 'r',
+        Call::SetCursor(..) => 'u',
     }
 }
 
@@ -544,11 +538,17 @@ fn admission_bytes(args: &AdmitArgs<'_>) -> Vec<u8> {
 }
 
 fn reconciliation(given: &Reconciliation) -> Vec<u8> {
+    let applied = applied_bytes(given);
     let available: Vec<u8> = given.available.iter().flatten().copied().collect();
-    let mut bytes = given.height.0.to_be_bytes().to_vec();
-    bytes.push(u8::from(given.caught_up));
-    bytes.extend(given.window.to_be_bytes());
-    put_lists(&mut bytes, &[&given.tip, &applied_bytes(given), &available]);
+    reconciliation_bytes(&reconcile_args(given, &applied, &available))
+}
+
+/// As an admission's.
+fn reconciliation_bytes(args: &ReconcileArgs<'_>) -> Vec<u8> {
+    let mut bytes = args.height.to_be_bytes().to_vec();
+    bytes.push(args.caught_up);
+    bytes.extend(args.window.to_be_bytes());
+    put_lists(&mut bytes, &[args.tip, args.applied, args.available]);
     bytes
 }
 
@@ -646,6 +646,17 @@ impl Lent<'_> {
         let mut out = vec![UNTOUCHED; length];
         let number = calls::admit(cur, next, args, &mut out);
         self.fixed.output('d', &admission_bytes(args), number, &out);
+        number
+    }
+
+    fn reconcile(&mut self, length: usize, args: &ReconcileArgs<'_>) -> u64 {
+        let [cur, next, _] = self.lengths;
+        let (cur, next) = (&self.cur[..cur], &mut self.next[..next]);
+        next.fill(UNTOUCHED);
+        let mut out = vec![UNTOUCHED; length];
+        let number = calls::reconcile(cur, next, args, &mut out);
+        self.fixed
+            .output('n', &reconciliation_bytes(args), number, &out);
         number
     }
 
@@ -751,6 +762,7 @@ impl Lent<'_> {
         self.admit(length, &known(id));
         self.change('c', length, id);
         self.change('e', length, &moment(5, 5));
+        self.reconcile(length, &settling(id));
         self.change('r', 0, id);
         self.change('u', 0, &[0, 0, 0, 7, 0]);
         for letter in READINGS {
@@ -783,6 +795,18 @@ fn known(id: &Id) -> AdmitArgs<'_> {
         tip_height: 0,
         tip_flag: 0,
         tip: &[],
+    }
+}
+
+/// A reconciliation in the block `tip` that finds no record and releases every Mined holder.
+fn settling(tip: &Id) -> ReconcileArgs<'_> {
+    ReconcileArgs {
+        height: 5,
+        tip,
+        applied: &[],
+        caught_up: 0,
+        available: &[],
+        window: 0,
     }
 }
 
@@ -881,6 +905,7 @@ fn shapes(lent: &mut Lent<'_>, bytes: &[u8], id: &Id) {
         lent.change('u', 0, &tip);
     }
     admissions(lent, id, &long);
+    reconciliations(lent, id, &long);
     lent.put('b', bytes);
     for (kind, outcome) in [(0, 0), (1, 1), (4, 0), (2, 2), (3, 2)] {
         lent.settle(kind, outcome);
@@ -939,6 +964,67 @@ fn admissions(lent: &mut Lent<'_>, id: &Id, long: &[u8]) {
     }
 }
 
+/// Each wrong by itself, 5; then lists that rise.
+fn reconciliations(lent: &mut Lent<'_>, id: &Id, long: &[u8]) {
+    let right = settling(id);
+    let (lower, higher) = ([0; 32], [0xff; 32]);
+    let found = |id: &Id| [&id[..], &[0, 0, 0, 4], &[7; 32]].concat();
+    let one = found(id);
+    for wrong in [
+        ReconcileArgs { tip: long, ..right },
+        ReconcileArgs {
+            tip: &id[..31],
+            ..right
+        },
+        ReconcileArgs { tip: &[], ..right },
+        ReconcileArgs {
+            caught_up: 2,
+            ..right
+        },
+        ReconcileArgs {
+            applied: &one[..67],
+            ..right
+        },
+        ReconcileArgs {
+            applied: &[&one[..], &[0]].concat(),
+            ..right
+        },
+        ReconcileArgs {
+            applied: &[&one[..], &one].concat(),
+            ..right
+        },
+        ReconcileArgs {
+            applied: &[found(&higher), one.clone()].concat(),
+            ..right
+        },
+        ReconcileArgs {
+            available: &id[..31],
+            ..right
+        },
+        ReconcileArgs {
+            available: long,
+            ..right
+        },
+        ReconcileArgs {
+            available: &[*id, *id].concat(),
+            ..right
+        },
+        ReconcileArgs {
+            available: &[*id, lower].concat(),
+            ..right
+        },
+    ] {
+        lent.reconcile(0, &wrong);
+    }
+    let risen = ReconcileArgs {
+        applied: &[found(&lower), one, found(&higher)].concat(),
+        caught_up: 1,
+        available: &[lower, *id, higher].concat(),
+        ..right
+    };
+    lent.reconcile(80, &risen);
+}
+
 fn short_outputs(lent: &mut Lent<'_>, bytes: &[u8], text: &[u8], id: &Id) {
     lent.fixed.both("outputs too short, 4");
     for letter in READINGS {
@@ -956,6 +1042,12 @@ fn short_outputs(lent: &mut Lent<'_>, bytes: &[u8], text: &[u8], id: &Id) {
     });
     lent.admit(length - 1, &known(id));
     lent.admit(length, &known(id));
+    let length = shortest(|length| {
+        let mut silent = Fixed::default();
+        silent_lent(&mut silent, bytes).reconcile(length, &settling(id))
+    });
+    lent.reconcile(length - 1, &settling(id));
+    lent.reconcile(length, &settling(id));
     for (letter, a) in [('c', id.to_vec()), ('e', moment(5, 5))] {
         let length = shortest(|length| {
             let mut silent = Fixed::default();
@@ -1061,4 +1153,10 @@ fn top_counter(lent: &mut Lent<'_>, mut queue: Queue, id: &Id) {
     lent.change('c', 0, id);
     lent.change('e', 0, &moment(5, 5));
     lent.change('e', 4, &moment(0, 0));
+    lent.reconcile(0, &settling(id));
+    let kept = ReconcileArgs {
+        window: u32::MAX,
+        ..settling(id)
+    };
+    lent.reconcile(5, &kept);
 }

@@ -121,14 +121,7 @@ impl<'s, S: Side> Unit<'s, S> {
             Call::Reconcile(given) => {
                 let applied = applied_bytes(given);
                 let available: Vec<u8> = given.available.iter().flatten().copied().collect();
-                let args = ReconcileArgs {
-                    height: given.height.0,
-                    tip: &given.tip,
-                    applied: &applied,
-                    caught_up: u8::from(given.caught_up),
-                    available: &available,
-                    window: given.window,
-                };
+                let args = reconcile_args(given, &applied, &available);
                 side.reconcile(cur, next, &args, out)
             }
             Call::Reopen(ids) => {
@@ -250,6 +243,21 @@ pub fn admit_args<'a>(given: &'a Admission, inputs: &'a [u8], outputs: &'a [u8])
         tip_height: given.tip_height.0,
         tip_flag: u8::from(given.tip.is_some()),
         tip: optional_id(&given.tip),
+    }
+}
+
+pub(crate) fn reconcile_args<'a>(
+    given: &'a Reconciliation,
+    applied: &'a [u8],
+    available: &'a [u8],
+) -> ReconcileArgs<'a> {
+    ReconcileArgs {
+        height: given.height.0,
+        tip: &given.tip,
+        applied,
+        caught_up: u8::from(given.caught_up),
+        available,
+        window: given.window,
     }
 }
 
