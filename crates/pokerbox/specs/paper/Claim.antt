@@ -4,6 +4,7 @@ use mathlib.Core.Bool.{Bool, true, false, cond, _&&_}
 use mathlib.Core.Option.{Option, none, some}
 use mathlib.Core.List.{List, [], _∷_, _++_}
 use Prim.Native.Nat.{ℕ, _+_, _*_, _≤_, _<_}
+use lib.Dec.{eqb}
 use lib.ListN.{length}
 use Rattle.queue.specs.declared.Kind.the-variants.{Nothing, Memory, Whole, Cursor}
 use Rattle.queue.specs.declared.Answer.{Answer}
@@ -71,13 +72,13 @@ byAnswer old new fate (Done Memory) = new
 byAnswer old new fate (Done Whole) = byWrite old new old fate
 byAnswer old new fate (Done Cursor) = byWrite old new false fate
 
--- an admission into no records moves it
+-- "by an admission given a tip into no records"
 abbrev pub noneYet? : List Rec → Bool
 noneYet? [] = true
 noneYet? (r ∷ l) = false
 
 abbrev pub mover : Call → Queue → Bool → Bool
-mover (admitting a) q old = cond (noneYet? (q .recs)) false old
+mover (admitting a) q old = cond (noneYet? (q .recs) && eqb (a .tipFlag) 1) false old
 mover (cancelling i) q old = old
 mover (expiring now height) q old = old
 mover (reconciling a) q old = true
