@@ -52,9 +52,6 @@ module _ {A : Type 0} (𝓐 : Codec A) (s : Bytes) (at next : ℕ) (a : A) (d : 
   pub read-next : next ≡ at + length (𝓐 .enc a)
   read-next = let l = ap length read-enc in omega (arith, length-append (𝓐 .enc a) (drop next s), length-drop at s, length-drop next s)
 
-  pub read-take : take (next - at) (drop at s) ≡ 𝓐 .enc a
-  read-take = let e : length (𝓐 .enc a) ≡ next - at = omega (arith, read-next) in ap (take (next - at)) read-enc ∙ take-at (𝓐 .enc a) (drop next s) (next - at) e
-
 -- with where it stands
 abbrev pub Stands : {A : Type 0} → Codec A → Bytes → ℕ → ℕ → (A → Type 0) → A → Type 0
 Stands 𝓐 s at next W a = W a × (drop at s ≡ 𝓐 .enc a ++ drop next s) × (next ≡ at + length (𝓐 .enc a)) × (next ≤ length s)

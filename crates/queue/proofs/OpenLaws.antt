@@ -184,10 +184,6 @@ module _ {s : Bytes} {x : Open} {b : Bool} {m : ℕ} (e : b ≡ soundL (limits (
   unfolding filledBy
   filled-all h k z l = record { is = z ∙ rw (← e, t, ← n, le-leb m (length s) h, le-leb (x .next) m k); next = λ _. (n, l) }
 
-view-all : (s : Bytes) → view false s 0 ≡ s
-unfolding view
-view-all s = refl
-
 four-bytes : (a : ℕ) → length (beC 4 .enc a) ≡ 4
 unfolding beC
 four-bytes a = be-length 4 a

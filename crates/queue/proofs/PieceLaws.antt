@@ -139,9 +139,6 @@ measure-end {w} {s} {n} {at} {i} {left} {c} {z} g e =
     record { count = omega arith; size = omega arith; few = omega (arith, g .few); most = omega (arith, g .most) }
 
 -- ---- the pieces
-unfoldable pub piecesF : What → Unit {0} → List Rec → Bytes
-piecesF w u l = piecesOf w l
-
 pub record Writing (w : What) (s : Bytes) (n from : ℕ) (d₀ : Bytes) (at i left : ℕ) (d : Bytes) (o : ℕ) : Type 0 where
   pub within : i ≤ length s
   pub all : whole (formC false recC) left s i ≡ true

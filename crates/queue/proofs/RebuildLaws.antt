@@ -449,9 +449,6 @@ module _ (s : Bytes) (at n : ℕ) (t : Bytes) (k : ℕ) (caught : Bool) (ids : L
   abbrev own : List Id
   own = ownIds ids (listAt (formC false recC) n s at)
 
-  abbrev ALL : List Rec
-  ALL = keptL s at n t k caught ids gone c floor
-
   abbrev restOf : ℕ → ℕ → List Rec
   restOf left i = keptOf c floor (map (idAt s) gone) (map (nextR caught own (appliedIn t k)) (listAt (formC false recC) left s i))
 

@@ -105,24 +105,6 @@ FloorOf fl c n t l = ((sum Tombstones l + n ≤ t) × (fl ≡ 0)) ⊎ ((x : ℕ)
 floors-to : (fl : ℕ) {c c′ n n′ t t′ : ℕ} {l l′ : List Rec} → c ≡ c′ → n ≡ n′ → t ≡ t′ → l ≡ l′ → FloorOf fl c n t l → FloorOf fl c′ n′ t′ l′
 floors-to fl e f g h x = rw (← e, ← f, ← g, ← h) x
 
--- ---- the floor
-module _ {s : Bytes} {a : Area} (w : AreaIn s a) where
-  pub area-asks : (a .open .start ≤ length s) × (whole (formC false recC) (a .open .head .count) s (a .open .start) ≡ true)
-  area-asks = let g = w .read .store in (omega (arith, g .up, g .ends), g .all)
-
-  stamps : All (λ r. holder? r ≡ false → r .finish ≤ a .open .head .counter .0) (listAt (formC false recC) (a .open .head .count) s (a .open .start))
-  stamps = let st = w .read .store in rw (st .list, ← (st .head .counter)) (stamps′ _ _ (w .q .recs) (fit (w .read) .sound .right))
-    where
-      stamps′ : (K c : ℕ) (l : List Rec) → All (Right K c) l → All (λ r. holder? r ≡ false → r .finish ≤ c) l
-      stamps′ K c [] h = tt
-      stamps′ K c (r ∷ l) h = (λ b. let e : finishRight? c false (r .finish) ≡ true = rw b at (h .0 .finish) in leb-true _ _ (and-true (leb 1 (r .finish)) _ e .1), stamps′ K c l (h .1))
-
-  pub floor-asks : (g : ℕ) → g ≤ a .open .head .count → a .open .head .counter .0 + g < 18446744073709551616 → (a .open .start ≤ length s) × (whole (formC false recC) (a .open .head .count) s (a .open .start) ≡ true) × (a .open .head .count < 4294967296) × (g ≤ a .open .head .count) × (a .open .head .counter .0 + g < 18446744073709551616) × (0 < a .open .head .t) × (a .open .head .t < 4294967296)
-      × All (λ r. holder? r ≡ false → r .finish ≤ a .open .head .counter .0) (listAt (formC false recC) (a .open .head .count) s (a .open .start))
-  floor-asks g h k =
-      let st = w .read .store in let t = st .head .T in
-      (area-asks .0, area-asks .1, st .head .countSmall, h, k, omega (arith, fit (w .read) .sound .range .T-low), st .head .tSmall, stamps)
-
 some-is : (x : List Id) {n : ℕ} → n ≡ length x → someReleased? x ≡ ltb 0 n
 some-is [] {n} e = sym (le-ltb 0 n (omega arith))
 some-is (i ∷ x) {n} e = sym (lt-ltb 0 n (omega arith))
@@ -134,9 +116,6 @@ module _ {s : Bytes} {a : Area} (w : AreaIn s a) {height : ℕ} {tip : Id} {t : 
 
   abbrev f : Rec → Rec
   f r = orElse r (touch C (ownOf C (w .q)) r)
-
-  pub list-asks : (a .open .start ≤ length s) × (whole (formC false recC) (a .open .head .count) s (a .open .start) ≡ true)
-  list-asks = let g = w .read .store in (omega (arith, g .up, g .ends), g .all)
 
   next-is : nextL s (a .open .start) (a .open .head .count) t k caught (idsAt ids m) ≡ touchedL C (w .q)
   unfolding nextL nextR touchedL touch ownIds
@@ -214,9 +193,6 @@ module _ {s : Bytes} {a : Area} (w : AreaIn s a) {height : ℕ} {tip : Id} {t : 
 
   -- ---- the whole area
   module _ {gone : List ℕ} (G : GoneAre s (asked height tip t k caught ids m window) gone) where
-    abbrev I : List Id
-    I = goneIds C (w .q)
-
     ids-are : map (idAt s) gone ≡ goneIds C (w .q)
     ids-are = G .are (w .q) (w .is)
 

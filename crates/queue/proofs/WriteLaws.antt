@@ -196,22 +196,28 @@ module _ {s : Bytes} {a : Area} {q : Queue} (w : AreaAs s a q) (persisted cursor
       area-done (limits (a .open .head .p) (a .open .head .b) (a .open .head .t) (a .open .head .k)) marksFor tip (q .recs) (sym (w .store .count)) fit′ n g x′ y′ z
       ∙ ap (λ v. over (areaBytes v) d) (moved-is ∙ ap (moved (persisted .0) (cursor .0) (tipOf has tip)) (one-queue s e1 e2))
 
+-- ---- what the floor asks
+all-stamps : (K c : ℕ) (l : List Rec) → All (Right K c) l → All (λ r. holder? r ≡ false → r .finish ≤ c) l
+all-stamps K c [] h = tt
+all-stamps K c (r ∷ l) h = (λ b. let e : finishRight? c false (r .finish) ≡ true = rw b at (h .0 .finish) in leb-true _ _ (and-true (leb 1 (r .finish)) _ e .1), all-stamps K c l (h .1))
+
+pub floor-needs : {s : Bytes} {a : Area} {q : Queue} → AreaAs s a q → (g : ℕ) → g ≤ a .open .head .count → a .open .head .counter .0 + g < 18446744073709551616
+    → (a .open .start ≤ length s) × (whole (formC false recC) (a .open .head .count) s (a .open .start) ≡ true) × (a .open .head .count < 4294967296) × (g ≤ a .open .head .count) × (a .open .head .counter .0 + g < 18446744073709551616) × (0 < a .open .head .t) × (a .open .head .t < 4294967296)
+    × All (λ r. holder? r ≡ false → r .finish ≤ a .open .head .counter .0) (listAt (formC false recC) (a .open .head .count) s (a .open .start))
+floor-needs {s} {a} {q} w g h k =
+    let st = w .store in
+    let f = fit w in
+    let t = st .head .T in
+    (omega (arith, st .up, st .ends), st .all, st .head .countSmall, h, k, omega (arith, f .sound .range .T-low), st .head .tSmall, rw (st .list, ← (st .head .counter)) (all-stamps _ _ (q .recs) (f .sound .right)))
+
 -- ---- finished and forgotten
 module _ {s : Bytes} {a : Area} {c : Change} {id : Id} {state reason m : ℕ} (w : EndedFrom s a c id state reason m) where
   abbrev pub list : List Rec
   list = listAt (formC false recC) (a .open .head .count) s (a .open .start)
 
-  all-stamps : (K c : ℕ) (l : List Rec) → All (Right K c) l → All (λ r. holder? r ≡ false → r .finish ≤ c) l
-  all-stamps K c [] h = tt
-  all-stamps K c (r ∷ l) h = (λ b. let e : finishRight? c false (r .finish) ≡ true = rw b at (h .0 .finish) in leb-true _ _ (and-true (leb 1 (r .finish)) _ e .1), all-stamps K c l (h .1))
-
   pub floor-asks : (a .open .start ≤ length s) × (whole (formC false recC) (a .open .head .count) s (a .open .start) ≡ true) × (a .open .head .count < 4294967296) × (m ≤ a .open .head .count) × (a .open .head .counter .0 + m < 18446744073709551616) × (0 < a .open .head .t) × (a .open .head .t < 4294967296)
       × All (λ r. holder? r ≡ false → r .finish ≤ a .open .head .counter .0) (listAt (formC false recC) (a .open .head .count) s (a .open .start))
-  floor-asks =
-      let st = w .read .store in
-      let g = fit (w .read) in
-      let t = st .head .T in
-      (omega (arith, st .up, st .ends), st .all, st .head .countSmall, w .few, w .room, omega (arith, g .sound .range .T-low), st .head .tSmall, rw (st .list, ← (st .head .counter)) (all-stamps _ _ (w .q .recs) (g .sound .right)))
+  floor-asks = floor-needs (w .read) m (w .few) (w .room)
 
   abbrev pub Limit : Limits
   Limit = limits (a .open .head .p) (a .open .head .b) (a .open .head .t) (a .open .head .k)

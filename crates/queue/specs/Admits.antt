@@ -16,7 +16,7 @@ use Rattle.queue.specs.Order.{below-trans, below-total, or-true}
 use Rattle.queue.specs.ListLaws.{and-false, all-every, filter-sub, filter-all, find-all, insert-all, insert-total, insert-apart, insert-rising}
 use Rattle.queue.specs.Sounds.{Right, Before, Distinct, distinct-sym, Apart, apart-sym, free-of, each-in, Sound, Fields, Fit}
 use Rattle.queue.specs.Forget.{core-sound}
-use Rattle.queue.specs.Keeps.{Leaves, Tells, Wholly, same-kept, committed-kept, pending-mined}
+use Rattle.queue.specs.Keeps.{Leaves, Wholly, same-kept, committed-kept, pending-mined}
 use Rattle.queue.specs.paper.Records.{Bytes, Held, Rec, Queue, queued, mined, conflicted, cancelled, expired}
 use Rattle.queue.specs.paper.Lists.{isSome, one, total, filter, find}
 use Rattle.queue.specs.paper.Ids.{below?}
@@ -178,34 +178,6 @@ admit-leaves a q f o = cases (reached? (a .due) (a .now))
     (λ y. cases (ltb 200 (labelLen (a .label)))
     (λ z. rw (x, y, z) tt)
     (λ z. rw (x, y, z) (found-leaves a q f o z (find (named? (a .id)) (q .recs))))))
-
--- the answer is the new record, or one of the queue
-pub admit-tells : (P : Rec → Type 0) (a : Admission) (q : Queue) → (labelLen (a .label) ≤ 200 → length (a .held .bytes) ≤ q .limits .B → P (newRec a)) → All P (q .recs) → Tells P (admit a q)
-unfolding admit
-admit-tells P a q k h = cases (reached? (a .due) (a .now))
-    (λ x. rw x tt)
-    (λ x. cases (reached? (a .dueHeight) (a .tipHeight))
-    (λ y. rw (x, y) tt)
-    (λ y. cases (ltb 200 (labelLen (a .label)))
-    (λ z. rw (x, y, z) tt)
-    (λ z. rw (x, y, z) (found (k (ltb-false 200 (labelLen (a .label)) z)) (find (named? (a .id)) (q .recs)) refl))))
-  where
-    free : (length (a .held .bytes) ≤ q .limits .B → P (newRec a)) → Tells P (admitNew a q)
-    free n = cases (leb (q .limits .P) (pendings (q .recs)))
-        (λ x. rw x tt)
-        (λ x. cases (ltb (q .limits .B) (pendingBytes (q .recs) + length (a .held .bytes)))
-        (λ y. rw (x, y) tt)
-        (λ y. let r11 = ltb-false (q .limits .B) (pendingBytes (q .recs) + length (a .held .bytes)) y in cases (clash? (a .held .ins) (q .recs))
-        (λ z. rw (x, y, z) tt)
-        (λ z. rw (x, y, z) (n (omega arith)))))
-
-    found : (length (a .held .bytes) ≤ q .limits .B → P (newRec a)) → (x : Option Rec) → find (named? (a .id)) (q .recs) ≡ x → Tells P (admitFound a q x)
-    found n none e = free n
-    found n (some r) e = cases (pending? (r .state) || mined? r) (λ t. rw t (find-all (named? (a .id)) P (q .recs) r e h .0)) (λ t. rw t (free n))
-
--- the new record's numbers fit
-pub new-fit : (a : Admission) (q : Queue) → Fit q → Admissible (q .limits .K) a → labelLen (a .label) ≤ 200 → length (a .held .bytes) ≤ q .limits .B → Fields (newRec a)
-new-fit a q f o l b = new-fields a q f o (le-ltb 200 (labelLen (a .label)) l) b
 
 pub admit-wholly : (a : Admission) (q : Queue) → Wholly (admit a q)
 unfolding admit

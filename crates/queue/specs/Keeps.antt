@@ -282,14 +282,6 @@ cancel-ending = record { held = refl; why = refl; unmined = refl; small = omega 
 pub expire-ending : Ending expired 2
 expire-ending = record { held = refl; why = refl; unmined = refl; small = omega arith; small-reason = omega arith }
 
--- what a call answers
-abbrev pub Tells : {A : Type 0} → (A → Type 0) → Out A → Type 0
-Tells P (refused n) = Unit {0}
-Tells P (done k q a) = P a
-
-pub tells-at : {A : Type 0} (P : A → Type 0) (o : Out A) (k : Kind) (q : Queue) (a : A) → Tells P o → o ≡ done k q a → P a
-tells-at P o k q a h e = rw e at h
-
 module _ (i : Id) (q : Queue) (f : Fit q) where
   pub cancel-leaves : Leaves q (cancel i q)
   unfolding cancel
@@ -306,24 +298,6 @@ module _ (i : Id) (q : Queue) (f : Fit q) where
           (all-map (q .recs) (λ x z n. ap (λ (y : Rec). pending? (y .state)) (z n) ∙ w) (find-only (named? i) (q .recs) (named-once i (q .recs) (f .sound .rising)) r e)) _))
           (λ u. rw (t, u) (same-kept q f)))
 
-  -- the answer is a record of the queue, or one finished
-  pub cancel-tells : (P : Rec → Type 0) → ((r : Rec) → q .counter < top → P r → P (finished cancelled 1 (q .counter + 1) r)) → All P (q .recs) → Tells P (cancel i q)
-  unfolding cancel
-  cancel-tells P k h = found (find (named? i) (q .recs)) refl
-    where
-      end : (r : Rec) → find (named? i) (q .recs) ≡ some r → P r → Tells P (finishAll (named? i) cancelled 1 (finished cancelled 1 (q .counter + 1) r) q)
-      end r e x = cases (ltb top (q .counter + count (named? i) (q .recs)))
-          (λ t. rw t tt)
-          (λ t. let n = find-count (named? i) (q .recs) r e in let z = ltb-false top (q .counter + count (named? i) (q .recs)) t in rw t (k r (omega arith) x))
-
-      found : (o : Option Rec) → find (named? i) (q .recs) ≡ o → Tells P (cancelFound i q o)
-      found none e = tt
-      found (some r) e = let x = find-all (named? i) P (q .recs) r e h in cases (mined? r)
-          (λ t. rw t tt)
-          (λ t. cases (holder? r)
-          (λ u. rw (t, u) (end r e (x .0)))
-          (λ u. rw (t, u) (x .0)))
-
 -- ---- expiry
 
 due-pending : (now height : ℕ) (r : Rec) → due? now height r ≡ true → pending? (r .state) ≡ true
@@ -336,23 +310,6 @@ module _ (now height : ℕ) (q : Queue) (f : Fit q) where
   expire-leaves = cases (any? (due? now height) (q .recs))
       (λ t. rw t (finishAll-leaves (due? now height) expired 2 expire-ending q f (all-every _ (due-pending now height) (q .recs)) _))
       (λ t. rw t (same-kept q f))
-
-  -- the ids are those of records of the queue
-  pub expire-tells : (P : Id → Type 0) → All (λ r. P (r .id)) (q .recs) → Tells (λ ids. All P ids × (length ids ≤ length (q .recs))) (expire now height q)
-  unfolding expire
-  expire-tells P h = cases (any? (due? now height) (q .recs))
-      (λ t. rw t (end (ltb top (q .counter + count (due? now height) (q .recs))) refl))
-      (λ t. rw t (tt, omega arith))
-    where
-      ids : {s l : List Rec} → Sub s l → All (λ r. P (r .id)) l → All P (map (λ r. r .id) s) × (length (map (λ (r : Rec). r .id) s) ≤ length l)
-      ids Rattle.queue.specs.Lists.done h = (tt, omega arith)
-      ids (Rattle.queue.specs.Lists.keep a u) h = let i = ids u (h .1) in ((h .0, i .0), let j = i .1 in omega arith)
-      ids (Rattle.queue.specs.Lists.skip a u) h = let i = ids u (h .1) in (i .0, let j = i .1 in omega arith)
-
-      end : (b : Bool) → ltb top (q .counter + count (due? now height) (q .recs)) ≡ b
-          → Tells (λ ids. All P ids × (length ids ≤ length (q .recs))) (finishAll (due? now height) expired 2 (map (λ r. r .id) (filter (due? now height) (q .recs))) q)
-      end true e = rw e tt
-      end false e = rw e (ids (filter-sub (due? now height) (q .recs)) h)
 
 -- ---- a change record by record that keeps ids, bodies and finish numbers
 

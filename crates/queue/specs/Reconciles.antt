@@ -16,7 +16,7 @@ use Rattle.queue.specs.Order.{same-is, same-self, same-sym, below-not-sa
 use Rattle.queue.specs.ListLaws.{one-le, all-every, all-with, pairwise-with, filter-sub, filter-total, total-eq, find-all, map-all, map-pairwise, map-total, map-total-le, sort-all, sort-total, sort-apart}
 use Rattle.queue.specs.Sounds.{InRange, Right, Before, Distinct, Apart, Sound, Fields, Fit}
 use Rattle.queue.specs.Forget.{Core, core-sound, forget-sub, forget-sound}
-use Rattle.queue.specs.Keeps.{Leaves, Tells, moved-fit, committed-kept, pending-mined, pending-held, unmined-place, unmined-mark, no-place, no-mark, in-range, right-later, finish-le, finished-fields, apart-finished, finished-apart, Alike, alike-rising, alike-distinct, alike-apart, alike-total, mined-weight}
+use Rattle.queue.specs.Keeps.{Leaves, moved-fit, committed-kept, pending-mined, pending-held, unmined-place, unmined-mark, no-place, no-mark, in-range, right-later, finish-le, finished-fields, apart-finished, finished-apart, Alike, alike-rising, alike-distinct, alike-apart, alike-total, mined-weight}
 use Rattle.queue.specs.declared.Kind.the-variants.{Nothing, Memory, Whole, Cursor}
 use Rattle.queue.specs.paper.Records.{Id, Limits, Held, Rec, Queue, queued, mined, conflicted, cancelled, expired}
 use Rattle.queue.specs.paper.Lists.{isSome, one, all?, any?, total, filter, find, sort, map}
@@ -440,33 +440,6 @@ released-all P c m l h =
     let e = length-total l in
     let j = i .1 in
     (i .0, omega arith)
-
--- the released ids are those of records of the queue
-pub reconcile-tells : (P : Id → Type 0) (c : Reconciling) (q : Queue) → All AppliedOk (c .applied) → All (λ r. P (r .id)) (q .recs)
-    → Tells (λ x. All P (x .1) × (length (x .1) ≤ length (q .recs))) (reconcile c q)
-unfolding reconcile
-reconcile-tells P c q ok h = go (any? (λ r. isSome (touch c own r)) (q .recs)) (released c (q .limits) l)
-    (let i = released-all P c (q .limits) l (map-all (λ r. P (r .id)) (λ r. P (r .id)) (touched c own ok) (λ r k. rw (touched-alike c own ok r .id) k) (q .recs) h) in
-    let a = length-total l in
-    let b = map-total (λ r. Unit {0}) (λ r. 1) (λ r. 1) (touched c own ok) (λ r _. refl) (q .recs) (all-every _ (λ r. tt) (q .recs)) in
-    let d = length-total (q .recs) in
-    let j = i .1 in
-    (i .0, omega arith))
-  where
-    own : List Id
-    own = c .available ++ queuedOutputs (q .recs)
-
-    l : List Rec
-    l = map (λ r. orElse r (touch c (c .available ++ queuedOutputs (q .recs)) r)) (q .recs)
-
-    go : (changed : Bool) (ids : List Id) → All P ids × (length ids ≤ length (q .recs)) → Tells (λ x. All P (x .1) × (length (x .1) ≤ length (q .recs))) (reconcileTo c q changed l ids)
-    go changed ids x = cases (ltb top (q .counter + length ids))
-        (λ t. rw t tt)
-        (λ t. cases (changed || someReleased? ids)
-        (λ u. rw (t, u) x)
-        (λ u. cases (leb (min (q .persisted + 32) topHeight) (c .height))
-        (λ v. rw (t, u, v) (tt, omega arith))
-        (λ v. rw (t, u, v) (tt, omega arith))))
 
 -- ---- the cursor stays near the persisted height
 

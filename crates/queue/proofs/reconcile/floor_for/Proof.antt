@@ -7,7 +7,8 @@ use lib.Dec.{leb, ltb, eqb}
 use lib.ListN.{length, take, drop}
 use borrow.Author.Tests.{not-true, not-false, eq-eqb, ne-eqb}
 use Rattle.queue.proofs.PutLaws.{kept}
-use Rattle.queue.proofs.ReconcileLaws.{floor-none, floor-some, floor-asks}
+use Rattle.queue.proofs.ReconcileLaws.{floor-none, floor-some}
+use Rattle.queue.proofs.WriteLaws.{floor-needs}
 use borrow.Author.Needs.{needs}
 use Rattle.queue.proofs.reconcile.floor_for.Statement.{statement}
 use Rattle.queue.proofs.reconcile.floor_for.Tie as tie
@@ -19,7 +20,7 @@ returns : tie.Need-returns
 returns c = floor-none (c .before .before .args .s .now) (c .before .before .args .a) (c .before .before .args .g) (c .if1 .taken)
 
 floor-requires : tie.Need-floor-requires
-floor-requires c κs = floor-asks (c .before .before .before .before .before .pre .0) (c .before .before .before .before .before .args .g) (c .before .before .before .before .before .pre .1) (c .before .before .before .before .before .pre .2)
+floor-requires c κs = floor-needs (c .before .before .before .before .before .pre .0 .read) (c .before .before .before .before .before .args .g) (c .before .before .before .before .before .pre .1) (c .before .before .before .before .before .pre .2)
 
 returns-2 : tie.Need-returns-2
 returns-2 c = floor-some (c .before .before .before .before .before .before .args .s .now) (c .before .before .before .before .before .before .args .a) (c .before .before .before .before .before .before .args .g) (c .before .before .before .before .if1 .left) (c .floor .ensures)

@@ -8,7 +8,8 @@ use lib.ListN.{length, take, drop}
 use borrow.Author.Tests.{not-true, not-false, eq-eqb, ne-eqb}
 use Rattle.queue.proofs.PutLaws.{kept}
 use Rattle.queue.proofs.WriteLaws.{long-need}
-use Rattle.queue.proofs.ReconcileLaws.{list-asks, gone-count, whole-room, whole-put, whole-few}
+use Rattle.queue.proofs.AdmitLaws.{tally-asks}
+use Rattle.queue.proofs.ReconcileLaws.{gone-count, whole-room, whole-put, whole-few}
 use borrow.Author.Needs.{needs}
 use Rattle.queue.proofs.reconcile.put_whole.Statement.{statement}
 use Rattle.queue.proofs.reconcile.put_whole.Tie as tie
@@ -31,7 +32,7 @@ floor-for-requires : tie.Need-floor-for-requires
 floor-for-requires c κs = (c .before .before .before .before .before .before .before .before .before .pre .0, gone-count (c .before .before .before .before .before .before .before .before .before .pre .0) (c .before .before .before .before .before .before .before .before .before .pre .1) (c .before .before .before .before .before .before .before .before .before .pre .2), c .before .before .before .before .before .before .before .before .before .pre .3)
 
 put-all-requires : tie.Need-put-all-requires
-put-all-requires c κs = let l = list-asks (c .before .before .before .before .before .before .before .before .before .before .before .pre .0) (c .before .before .before .before .before .before .before .before .before .before .before .pre .1) in let r = whole-room (c .before .before .before .before .before .before .before .before .before .before .before .pre .0) (c .before .before .before .before .before .before .before .before .before .before .before .pre .1) (c .before .before .before .before .before .before .before .before .before .before .before .pre .2) (c .before .before .before .before .before .before .before .before .before .before .before .pre .3) (sym (c .before .before .before .before .before .before .before .before .before .before .before .pre .4 (c .before .before .before .before .before .before .before .before .before .before .before .pre .0 .q) (c .before .before .before .before .before .before .before .before .before .before .before .pre .0 .is))) (c .before .floor-for .ensures) refl refl in (l .0, l .1, (c .before .before .before .before .before .before .before .before .before .before .before .pre .1 .entries, c .before .before .before .before .before .before .before .before .before .before .before .pre .1 .rise, c .before .before .before .before .before .before .before .before .before .before .before .pre .1 .small), (c .before .before .before .before .before .before .before .before .before .before .before .pre .2 .placed, c .before .before .before .before .before .before .before .before .before .before .before .pre .2 .few), c .before .before .before .before .before .before .before .before .before .before .before .pre .3, c .before .before .before .before .before .before .before .before .before .before .before .pre .0 .read .store .head .countSmall, omega (arith, r, c .before .before .tip-len .ensures .0, c .before .before .before .before .before .before .before .before .before .before .before .pre .5))
+put-all-requires c κs = let l = tally-asks (c .before .before .before .before .before .before .before .before .before .before .before .pre .0) in let r = whole-room (c .before .before .before .before .before .before .before .before .before .before .before .pre .0) (c .before .before .before .before .before .before .before .before .before .before .before .pre .1) (c .before .before .before .before .before .before .before .before .before .before .before .pre .2) (c .before .before .before .before .before .before .before .before .before .before .before .pre .3) (sym (c .before .before .before .before .before .before .before .before .before .before .before .pre .4 (c .before .before .before .before .before .before .before .before .before .before .before .pre .0 .q) (c .before .before .before .before .before .before .before .before .before .before .before .pre .0 .is))) (c .before .floor-for .ensures) refl refl in (l .0, l .1, (c .before .before .before .before .before .before .before .before .before .before .before .pre .1 .entries, c .before .before .before .before .before .before .before .before .before .before .before .pre .1 .rise, c .before .before .before .before .before .before .before .before .before .before .before .pre .1 .small), (c .before .before .before .before .before .before .before .before .before .before .before .pre .2 .placed, c .before .before .before .before .before .before .before .before .before .before .before .pre .2 .few), c .before .before .before .before .before .before .before .before .before .before .before .pre .3, c .before .before .before .before .before .before .before .before .before .before .before .pre .0 .read .store .head .countSmall, omega (arith, r, c .before .before .tip-len .ensures .0, c .before .before .before .before .before .before .before .before .before .before .before .pre .5))
 
 wrapping-add-u64-requires : tie.Need-wrapping-add-u64-requires
 wrapping-add-u64-requires c κs = search needs

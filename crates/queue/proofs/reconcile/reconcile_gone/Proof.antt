@@ -7,7 +7,8 @@ use lib.Dec.{leb, ltb, eqb}
 use lib.ListN.{length, take, drop}
 use borrow.Author.Tests.{not-true, not-false, eq-eqb, ne-eqb}
 use Rattle.queue.proofs.PutLaws.{kept}
-use Rattle.queue.proofs.ReconcileLaws.{list-asks, gone-15, gone-4, gone-102, gone-10x, changed-is}
+use Rattle.queue.proofs.AdmitLaws.{tally-asks}
+use Rattle.queue.proofs.ReconcileLaws.{gone-15, gone-4, gone-102, gone-10x, changed-is}
 use borrow.Author.Needs.{needs}
 use Rattle.queue.proofs.reconcile.reconcile_gone.Statement.{statement}
 use Rattle.queue.proofs.reconcile.reconcile_gone.Tie as tie
@@ -35,7 +36,7 @@ returns-2 : tie.Need-returns-2
 returns-2 c = gone-4 (c .before .before .before .before .before .before .before .before .before .before .before .before .pre .0) (c .before .before .before .before .before .before .before .before .before .before .before .before .pre .1) (c .before .before .before .before .before .before .before .before .before .before .before .before .pre .2) (omega (arith, c .before .if1 .left, c .before .before .before .before .before .before .before .before .before .before .before .before .pre .0 .read .store .head .counterSmall)) _ _ (c .if2 .taken)
 
 any-touched-requires : tie.Need-any-touched-requires
-any-touched-requires c κs = let l = list-asks (c .before .before .before .before .before .before .before .before .before .before .before .before .pre .0) (c .before .before .before .before .before .before .before .before .before .before .before .before .pre .1) in (l .0, l .1, c .before .before .before .before .before .before .before .before .before .before .before .before .pre .1 .entries, c .before .before .before .before .before .before .before .before .before .before .before .before .pre .1 .rise)
+any-touched-requires c κs = let l = tally-asks (c .before .before .before .before .before .before .before .before .before .before .before .before .pre .0) in (l .0, l .1, c .before .before .before .before .before .before .before .before .before .before .before .before .pre .1 .entries, c .before .before .before .before .before .before .before .before .before .before .before .before .pre .1 .rise)
 
 either-requires : tie.Need-either-requires
 either-requires c κs = search needs

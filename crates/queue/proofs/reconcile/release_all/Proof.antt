@@ -9,7 +9,8 @@ use borrow.Author.Tests.{not-true, not-false, eq-eqb, ne-eqb}
 use Rattle.queue.proofs.PutLaws.{kept}
 use Rattle.queue.specs.SelectAs.{Even}
 use Rattle.queue.proofs.SelectLaws.{even-self, even-to}
-use Rattle.queue.proofs.ReconcileLaws.{list-asks, few-mined, mined-even, mined-few, mined-stands, gone-are, gathered-to}
+use Rattle.queue.proofs.AdmitLaws.{tally-asks}
+use Rattle.queue.proofs.ReconcileLaws.{few-mined, mined-even, mined-few, mined-stands, gone-are, gathered-to}
 use borrow.Author.Needs.{needs}
 use Rattle.queue.proofs.reconcile.release_all.Statement.{statement}
 use Rattle.queue.proofs.reconcile.release_all.Tie as tie
@@ -19,7 +20,7 @@ use Rattle.queue.proofs.reconcile.release_rows.Reads as release-rows-re
 use Rattle.queue.proofs.release.gather_mined.Reads as gather-mined-reads
 
 gather-mined-requires : tie.Need-gather-mined-requires
-gather-mined-requires c κs = let l = list-asks (c .before .before .before .before .before .before .before .before .before .before .before .before .pre .0) (c .before .before .before .before .before .before .before .before .before .before .before .before .pre .1) in (l .0, l .1, c .before .before .before .before .before .before .before .before .before .before .before .before .pre .1 .entries, c .before .before .before .before .before .before .before .before .before .before .before .before .pre .1 .rise, even-self (c .before .before .before .before .before .before .before .before .before .before .before .before .pre .2), omega (arith, few-mined (c .before .before .before .before .before .before .before .before .before .before .before .before .pre .0) (c .before .before .before .before .before .before .before .before .before .before .before .before .pre .1), c .before .before .before .before .before .before .before .before .before .before .before .before .pre .2 .ranks))
+gather-mined-requires c κs = let l = tally-asks (c .before .before .before .before .before .before .before .before .before .before .before .before .pre .0) in (l .0, l .1, c .before .before .before .before .before .before .before .before .before .before .before .before .pre .1 .entries, c .before .before .before .before .before .before .before .before .before .before .before .before .pre .1 .rise, even-self (c .before .before .before .before .before .before .before .before .before .before .before .before .pre .2), omega (arith, few-mined (c .before .before .before .before .before .before .before .before .before .before .before .before .pre .0) (c .before .before .before .before .before .before .before .before .before .before .before .before .pre .1), c .before .before .before .before .before .before .before .before .before .before .before .before .pre .2 .ranks))
 
 slice-relend-prefix-release-rows : tie.Need-slice-relend-prefix-release-rows
 slice-relend-prefix-release-rows c = let g = (gathered-to (c .before .before .before .before .before .before .before .before .before .before .before .before .before .before .before .before .before .before .before .pre .2 .ranks) (c .before .before .before .before .before .before .gather-mined .ensures)) in omega (arith, mined-few (c .before .before .before .before .before .before .before .before .before .before .before .before .before .before .before .before .before .before .before .pre .0) (c .before .before .before .before .before .before .before .before .before .before .before .before .before .before .before .before .before .before .before .pre .1) g, g .even .ranks)
