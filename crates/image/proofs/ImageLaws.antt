@@ -29,7 +29,7 @@ use Rattle.queue.specs.Bound.{fits-need, area-size, reads-image}
 use Rattle.queue.specs.paper.Records.{Bytes, Limits, Queue}
 use Rattle.queue.specs.paper.Sound.{need, sound?}
 use Rattle.queue.specs.paper.Area.{areaBytes, over}
-use Rattle.queue.specs.paper.Calls.{written}
+use Rattle.queue.specs.Checked.{written}
 use Rattle.queue.proofs.PutLaws.{splice-is, then, kept, recast, sized, Left, begun, onward, done}
 use Rattle.queue.proofs.ByteLaws.{be-same}
 use Rattle.queue.proofs.Turns.{SeenIn, ReadsRec}

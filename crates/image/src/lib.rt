@@ -10,7 +10,7 @@ use text::Text;
 use text::text_at;
 ghost use mathlib.Core.Path.{_≡_};
 ghost use lib.ListN.{length};
-ghost use Rattle.queue.specs.paper.Calls.{written};
+ghost use Rattle.queue.specs.Checked.{written};
 ghost use Rattle.image.specs.Texts.{AreaHeld, ImageLen, AreaRoom, AreaPut};
 ghost use Rattle.image.specs.paper.Image.{imaged, imageOf, openOf};
 

@@ -23,7 +23,8 @@ use Rattle.queue.specs.paper.Lists.{isSome, any?, map}
 use Rattle.queue.specs.paper.Sound.{need}
 use Rattle.queue.specs.paper.Area.{over}
 use Rattle.queue.specs.paper.Changing.{Out, refused, done, top, topHeight, moved, Reconciling, touch, orElse, released, someReleased?, queuedOutputs, reconcileTo, reconcileOn, admit, cancel, expire, reconcile, reopen, setCursor}
-use Rattle.queue.specs.paper.Calls.{Outcome, outcome, nextArea, told, withOut, entryBytes, idsBytes, releasedBytes, nothingBytes, id?, items, given, givenId?, idList?, admission, admitShape?, overK?, reconcileShape?, admitOf, cancelOf, expireOf, reconcileOf, reopenOf, setCursorOf}
+use Rattle.queue.specs.Checked.{Outcome, outcome, told, admitShape?, reconcileShape?, admitOf, cancelOf, expireOf, reconcileOf, reopenOf, setCursorOf}
+use Rattle.queue.specs.paper.Calls.{nextArea, entryBytes, idsBytes, releasedBytes, nothingBytes, id?, items, given, givenId?, idList?, admission, overK?}
 use Rattle.queue.specs.paper.Calls as calls
 use Rattle.pokerbox.specs.paper.Machine.{Call, admitting, cancelling, expiring, reconciling, reopening, settingCursor, Worked, worked, rules, work, onBytes}
 use Rattle.pokerbox.specs.paper.Claim.{CallOk, mover}

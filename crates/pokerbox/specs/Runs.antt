@@ -23,7 +23,8 @@ use Rattle.queue.specs.paper.Records.{Bytes, Limits, Queue}
 use Rattle.queue.specs.paper.Sound.{inRange, need}
 use Rattle.queue.specs.paper.Area.{areaBytes, over}
 use Rattle.queue.specs.paper.Changing.{moved}
-use Rattle.queue.specs.paper.Calls.{Written, written, fresh, freshOf, settleOf}
+use Rattle.queue.specs.Checked.{Written, written}
+use Rattle.queue.specs.paper.Calls.{fresh, freshOf, settleOf}
 use Rattle.image.specs.paper.Image.{imageBytes, imageOf, openOf}
 use Rattle.pokerbox.specs.paper.Machine.{Call, Fate, kept, failed, cutBefore, cutAfter, Lent, Step, call, cut, Worked, work, Plain, restart, settling, silent, plainCall, plainStep, plainRun, World, imageText, starts, opened, settlingBytes, worldCall, worldStep, worldRun}
 use Rattle.pokerbox.specs.paper.Claim.{byAnswer, mover, movedBy, movedLast, imageCursor, images, TextOk, WorkOk, StepOk, StepsOk, CallOk}

@@ -32,7 +32,8 @@ ghost use mathlib.Core.Path.{_≡_};
 ghost use mathlib.Core.List.{[]};
 ghost use Prim.Native.Nat.{_≤_};
 ghost use Rattle.queue.specs.Opens.{limits};
-ghost use Rattle.queue.specs.paper.Calls.{number, kindNumber, freshOf, soundOf, admitArgs, admitOf, cancelOf, expireOf, reconcileArgs, reconcileOf, reopenOf, setCursorOf, settleOf, entryOf, selectionAtOf, recordIdsOf, guardedIdsOf, reservedInputsOf, reservationSnapshotOf, guardSnapshotOf, listOf, confirmationsOf, dueOf, observationCursorOf, revisionOf, observedHeightOf, isEmptyOf, deadlineDueOf};
+ghost use Rattle.queue.specs.Checked.{admitOf, cancelOf, expireOf, reconcileOf, reopenOf, setCursorOf};
+ghost use Rattle.queue.specs.paper.Calls.{number, kindNumber, freshOf, soundOf, admitArgs, reconcileArgs, settleOf, entryOf, selectionAtOf, readOf, numberOf};
 ghost use Rattle.image.specs.paper.Image.{imageOf, openOf};
 ghost use Rattle.pokerbox.specs.paper.Exports.{given, ofOutcome, ofWritten, ofImaged, ofNumbered, Placed};
 

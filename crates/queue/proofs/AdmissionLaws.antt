@@ -37,7 +37,8 @@ use Rattle.queue.specs.paper.Lists.{find}
 use Rattle.queue.specs.paper.Sound.{need, pending?, mined?, labelLen, clash?}
 use Rattle.queue.specs.paper.Area.{areaBytes, over}
 use Rattle.queue.specs.paper.Changing.{Out, refused, done, named?, reached?, Admission, newRec, committed, cursorAfter, tipAfter, pendings, pendingBytes, admitNew, admitFound, admit}
-use Rattle.queue.specs.paper.Calls.{Outcome, outcome, told, id?, whole?, items, flag?, given, givenId?, AdmitArgs, admission, admitShape?, overK?, entryBytes, admitOf}
+use Rattle.queue.specs.Checked.{Outcome, outcome, told, admitShape?, admitOf}
+use Rattle.queue.specs.paper.Calls.{id?, whole?, items, flag?, given, givenId?, AdmitArgs, admission, overK?, entryBytes}
 use Rattle.queue.specs.declared.Kind.the-variants.{Nothing, Whole}
 use Rattle.queue.specs.declared.Answer.the-variants.{Refused, Done}
 use Rattle.queue.specs.declared.admit.Asked.{Asked}

@@ -33,7 +33,8 @@ use Rattle.queue.specs.paper.Lists.{map, concat}
 use Rattle.queue.specs.paper.Sound.{inRange, need}
 use Rattle.queue.specs.paper.Area.{headBytes, recBytes, queueBytes, areaBytes, over}
 use Rattle.queue.specs.paper.Changing.{moved, setCursor}
-use Rattle.queue.specs.paper.Calls.{Outcome, outcome, Written, written, id?, fresh, freshOf, setCursorOf, settleShape?, settleOf}
+use Rattle.queue.specs.Checked.{Outcome, outcome, Written, written, setCursorOf}
+use Rattle.queue.specs.paper.Calls.{id?, fresh, freshOf, settleShape?, settleOf}
 use Rattle.queue.specs.declared.Kind.the-variants.{Nothing, Memory, Whole}
 use Rattle.queue.specs.declared.Answer.the-variants.{Refused, Done}
 use Rattle.queue.specs.declared.frame.Height.{Height}

@@ -36,7 +36,8 @@ use Rattle.queue.specs.paper.Lists.{isSome, find, count, concat}
 use Rattle.queue.specs.paper.Sound.{need, holder?, mined?, pending?, inputs}
 use Rattle.queue.specs.paper.Area.{termsBytes, placeBytes, areaBytes, over}
 use Rattle.queue.specs.paper.Changing.{Out, refused, done, top, named?, committed, finished, finishThose, forget, cancel, cancelFound, finishAll}
-use Rattle.queue.specs.paper.Calls.{Outcome, outcome, told, id?, entryBytes, cancelOf}
+use Rattle.queue.specs.Checked.{Outcome, outcome, told, cancelOf}
+use Rattle.queue.specs.paper.Calls.{id?, entryBytes}
 use Rattle.queue.specs.declared.Kind.the-variants.{Nothing, Whole}
 use Rattle.queue.specs.declared.Answer.the-variants.{Refused, Done}
 use Rattle.queue.specs.declared.frame.Seen.{Seen}

@@ -32,7 +32,8 @@ use Rattle.queue.specs.paper.Lists.{one, any?, filter, find, map, concat
 use Rattle.queue.specs.paper.Sound.{need, holder?, mined?, pending?, heldRight?}
 use Rattle.queue.specs.paper.Area.{areaBytes, over}
 use Rattle.queue.specs.paper.Changing.{Out, refused, done, top, committed, due?, finishAll, expire}
-use Rattle.queue.specs.paper.Calls.{Outcome, outcome, told, idsBytes, expireOf}
+use Rattle.queue.specs.Checked.{Outcome, outcome, told, expireOf}
+use Rattle.queue.specs.paper.Calls.{idsBytes}
 use Rattle.queue.specs.declared.Kind.the-variants.{Nothing, Whole}
 use Rattle.queue.specs.declared.Answer.the-variants.{Refused, Done}
 use Rattle.queue.specs.declared.frame.Seen.{Seen}

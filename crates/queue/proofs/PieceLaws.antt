@@ -29,7 +29,8 @@ use Rattle.queue.specs.paper.Area.{placeBytes, flagged}
 use Rattle.queue.specs.paper.Sound.{holder?, mined?}
 use Rattle.queue.specs.paper.Changing.{due?}
 use Rattle.queue.specs.paper.Reading as reading
-use Rattle.queue.specs.paper.Calls.{Written, written, entryBytes, idsBytes, toldOut, readQueue, recordIdsOf, guardedIdsOf, dueOf, confirmationsOf, listOf}
+use Rattle.queue.specs.Checked.{Written, written}
+use Rattle.queue.specs.paper.Calls.{counted, entryBytes, idsBytes, placedBytes, dueBytes, toldOut, readOf}
 use Rattle.queue.specs.declared.Kind.the-variants.{Nothing}
 use Rattle.queue.specs.declared.Answer.the-variants.{Refused, Done}
 use Rattle.queue.specs.declared.frame.Time.{Time}
@@ -189,12 +190,12 @@ writing-end {w} {s} {n} {from} {d₀} {at} {i} {left} {d} {o} g e =
 -- ---- the answer
 module _ (w : What) (s out : Bytes) {x : Area} (a : AreaIs s x) where
   pub told-3 : x .ok ≡ false → written (Refused 3) out ≡ toldPieces w s out
-  unfolding toldPieces
+  unfolding toldPieces readOf
   told-3 e = rw (a .bad e)
 
   module _ (t : x .ok ≡ true) {m : Sizes} (k : MeasureAs w (listAt (formC false recC) (x .open .head .count) s (x .open .start)) (x .open .head .count) m) where
     bytes-is : toldPieces w s out ≡ toldOut (answerBytes w (listAt (formC false recC) (x .open .head .count) s (x .open .start))) out
-    unfolding toldPieces
+    unfolding toldPieces readOf
     bytes-is = let u = a .good t in rw (u .1, u .2 .store .list)
 
     size-is : length (answerBytes w (listAt (formC false recC) (x .open .head .count) s (x .open .start))) ≡ 4 + m .size
@@ -216,12 +217,13 @@ module _ (w : What) (s out : Bytes) {x : Area} (a : AreaIs s x) where
         sym (bytes-is ∙ told-100 (recast (then p q) e refl refl) (omega (arith, k .size)))
 
 -- ---- each call's definition
-reads-same : (f g : Queue → Bytes) (s out : Bytes) → ((q : Queue) → f q ≡ g q) → readQueue out (λ q. toldOut (f q) out) (readArea s) ≡ readQueue out (λ q. toldOut (g q) out) (readArea s)
-reads-same f g s out h = go (readArea s)
+reads-same : (f g : Queue → Bytes) (s out : Bytes) → ((q : Queue) → f q ≡ g q) → readOf f s out ≡ readOf g s out
+unfolding readOf
+reads-same f g s out h = go (readArea s) refl
   where
-    go : (o : Option Queue) → readQueue out (λ q. toldOut (f q) out) o ≡ readQueue out (λ q. toldOut (g q) out) o
-    go none = refl
-    go (some q) = ap (λ b. toldOut b out) (h q)
+    go : (o : Option Queue) → readArea s ≡ o → readOf f s out ≡ readOf g s out
+    go none e = rw e
+    go (some q) e = rw e (ap (λ b. toldOut b out) (h q))
 
 glue : {n m : ℕ} {b c : Bytes} → n ≡ m → b ≡ c → codec.be 4 n ++ b ≡ codec.be 4 m ++ c
 glue {n} {m} {b} {c} p q = ap (λ k. codec.be 4 k ++ b) p ∙ ap (λ l. codec.be 4 m ++ l) q
@@ -231,8 +233,8 @@ unfolding passesF pieceOf piecesOf
 ids-each [] = (refl, refl)
 ids-each (r ∷ l) = let i = ids-each l in (omega (arith, i .0), ap (λ b. r .id ++ b) (i .1))
 
-pub ids-told : (s out : Bytes) → toldPieces Ids s out ≡ recordIdsOf s out
-unfolding toldPieces recordIdsOf answerBytes idsBytes
+pub ids-told : (s out : Bytes) → toldPieces Ids s out ≡ readOf (λ q. idsBytes (reading.recordIds q)) s out
+unfolding toldPieces answerBytes idsBytes
 ids-told s out = reads-same (λ q. answerBytes Ids (q .recs)) (λ q. idsBytes (reading.recordIds q)) s out (λ q. let i = ids-each (q .recs) in glue (i .0) (i .1))
 
 pub guarded-each : (l : List Rec) → (count (passes? Guarded) l ≡ length (map (λ r. r .id) (filter holder? l))) × (piecesOf Guarded l ≡ concat (map (λ r. r .id) (filter holder? l)))
@@ -242,8 +244,8 @@ guarded-each (r ∷ l) = let i = guarded-each l in cases (holder? r)
     (λ t. rw t (omega (arith, i .0), ap (λ b. r .id ++ b) (i .1)))
     (λ t. rw t (omega (arith, i .0), i .1))
 
-pub guarded-told : (s out : Bytes) → toldPieces Guarded s out ≡ guardedIdsOf s out
-unfolding toldPieces guardedIdsOf answerBytes idsBytes reading.guardedIds
+pub guarded-told : (s out : Bytes) → toldPieces Guarded s out ≡ readOf (λ q. idsBytes (reading.guardedIds q)) s out
+unfolding toldPieces answerBytes idsBytes reading.guardedIds
 guarded-told s out = reads-same (λ q. answerBytes Guarded (q .recs)) (λ q. idsBytes (reading.guardedIds q)) s out (λ q. let i = guarded-each (q .recs) in glue (i .0) (i .1))
 
 abbrev dueList : Time → Height → List Rec → List (Id × ℕ)
@@ -256,33 +258,30 @@ due-each t h (r ∷ l) = let i = due-each t h l in let e = due-facts (t .0) (h .
     (λ k. rw (e, k) (omega (arith, i .0), ap (λ b. (r .id ++ codec.be 1 (r .state)) ++ b) (i .1)))
     (λ k. rw (e, k) (omega (arith, i .0), i .1))
 
-pub due-told : (t : Time) (h : Height) (s out : Bytes) → toldPieces (DueBy t h) s out ≡ dueOf s (t .0) (h .0) out
-unfolding toldPieces dueOf answerBytes reading.due
-due-told t h s out = reads-same (λ q. answerBytes (DueBy t h) (q .recs)) (λ q. codec.be 4 (length (reading.due (t .0) (h .0) q)) ++ concat (map (λ x. x .0 ++ codec.be 1 (x .1)) (reading.due (t .0) (h .0) q))) s out
+pub due-told : (t : Time) (h : Height) (s out : Bytes) → toldPieces (DueBy t h) s out ≡ readOf (λ q. counted dueBytes (reading.dueStates (t .0) (h .0) q)) s out
+unfolding toldPieces answerBytes reading.dueStates
+due-told t h s out = reads-same (λ q. answerBytes (DueBy t h) (q .recs)) (λ q. counted dueBytes (reading.dueStates (t .0) (h .0) q)) s out
     (λ q. let i = due-each t h (q .recs) in glue (i .0) (i .1))
-
-abbrev placed : Id × (ℕ × Id) → Bytes
-placed x = x .0 ++ (codec.be 4 (x .1 .0) ++ x .1 .1)
 
 abbrev confList : List Rec → List (Id × (ℕ × Id))
 confList l = concat (map (λ r. reading.confirmationOf (r .id) (r .place)) (filter mined? l))
 
-conf-one : (i : Id) (o : Option (ℕ × Id)) (n : ℕ) (b : Bytes) (l : List (Id × (ℕ × Id))) → n ≡ length l → b ≡ concat (map placed l)
-    → (one (isSome o) + n ≡ length (reading.confirmationOf i o ++ l)) × (cond (isSome o) (i ++ drop 1 (placeBytes o)) [] ++ b ≡ concat (map placed (reading.confirmationOf i o ++ l)))
+conf-one : (i : Id) (o : Option (ℕ × Id)) (n : ℕ) (b : Bytes) (l : List (Id × (ℕ × Id))) → n ≡ length l → b ≡ concat (map placedBytes l)
+    → (one (isSome o) + n ≡ length (reading.confirmationOf i o ++ l)) × (cond (isSome o) (i ++ drop 1 (placeBytes o)) [] ++ b ≡ concat (map placedBytes (reading.confirmationOf i o ++ l)))
 unfolding placeBytes
 conf-one i none n b l e f = (omega arith, f)
 conf-one i (some p) n b l e f = (omega arith, ap (λ y. (i ++ (codec.be 4 (p .0) ++ p .1)) ++ y) f)
 
-conf-each : (l : List Rec) → (count (passes? Confirmed) l ≡ length (confList l)) × (piecesOf Confirmed l ≡ concat (map placed (confList l)))
+conf-each : (l : List Rec) → (count (passes? Confirmed) l ≡ length (confList l)) × (piecesOf Confirmed l ≡ concat (map placedBytes (confList l)))
 unfolding passesF pieceOf piecesOf factsOf
 conf-each [] = (refl, refl)
 conf-each (r ∷ l) = let i = conf-each l in cases (mined? r)
     (λ t. rw t (conf-one (r .id) (r .place) (count (passes? Confirmed) l) (piecesOf Confirmed l) (confList l) (i .0) (i .1)))
     (λ t. rw t (omega (arith, i .0), i .1))
 
-pub conf-told : (s out : Bytes) → toldPieces Confirmed s out ≡ confirmationsOf s out
-unfolding toldPieces confirmationsOf answerBytes reading.confirmations
-conf-told s out = reads-same (λ q. answerBytes Confirmed (q .recs)) (λ q. codec.be 4 (length (reading.confirmations q)) ++ concat (map placed (reading.confirmations q))) s out
+pub conf-told : (s out : Bytes) → toldPieces Confirmed s out ≡ readOf (λ q. counted placedBytes (reading.confirmations q)) s out
+unfolding toldPieces answerBytes reading.confirmations
+conf-told s out = reads-same (λ q. answerBytes Confirmed (q .recs)) (λ q. counted placedBytes (reading.confirmations q)) s out
     (λ q. let i = conf-each (q .recs) in glue (i .0) (i .1))
 
 entries-each : (l : List Rec) → (count (passes? Entries) l ≡ length l) × (piecesOf Entries l ≡ concat (map entryBytes l))
@@ -290,9 +289,9 @@ unfolding passesF pieceOf piecesOf
 entries-each [] = (refl, refl)
 entries-each (r ∷ l) = let i = entries-each l in (omega (arith, i .0), ap (λ b. entryBytes r ++ b) (i .1))
 
-pub entries-told : (s out : Bytes) → toldPieces Entries s out ≡ listOf s out
-unfolding toldPieces listOf answerBytes
-entries-told s out = reads-same (λ q. answerBytes Entries (q .recs)) (λ q. codec.be 4 (length (q .recs)) ++ concat (map entryBytes (q .recs))) s out (λ q. let i = entries-each (q .recs) in glue (i .0) (i .1))
+pub entries-told : (s out : Bytes) → toldPieces Entries s out ≡ readOf (λ q. counted entryBytes (q .recs)) s out
+unfolding toldPieces answerBytes
+entries-told s out = reads-same (λ q. answerBytes Entries (q .recs)) (λ q. counted entryBytes (q .recs)) s out (λ q. let i = entries-each (q .recs) in glue (i .0) (i .1))
 
 -- ---- a piece if its record passes
 pub add-room : (w : What) (y : Seen) {b : Bool} (at n : ℕ) → b ≡ passesF w (y .facts) → b ≡ true → at + cond (passesF w (y .facts)) (pieceLen w y) 0 ≤ n → at + pieceLen w y ≤ n

@@ -13,7 +13,7 @@ use borrow.Author.Tests.{eq-eqb, ne-eqb, lt-ltb, le-ltb}
 use Rattle.queue.specs.Codec as codec
 use Rattle.queue.specs.Codec.{All, cases, Got, fail, got, Codec, decs, encs, byteC, beC, be-length, pairC, mapC, optC, vecC, countedC, vecMost, vec-bwd}
 use Rattle.queue.specs.Splice.{Put, be}
-use Rattle.queue.specs.Plain.{opt-plain, terms-plain, place-plain, ids-plain, id-plain, rec-plain, body-plain}
+use Rattle.queue.specs.Plain.{opt-plain, terms-plain, place-plain, ids-plain, id-plain, rec-plain, body-plain, head-plain}
 use Rattle.queue.specs.Frames.{tagC, recC, idC, termsC, labelC, placeC, bodyC}
 use Rattle.queue.specs.Reads.{Reads, isGot, valOf, whole, listAt}
 use Rattle.queue.specs.ReadLaws.{Turn, turn, false-true, Spans, spans-id, spans-vec}
@@ -24,16 +24,17 @@ use Rattle.queue.specs.Facts.{factsOf, optNum, SeenAs}
 use Rattle.queue.specs.Rules.{dueF, weight, sum}
 use Rattle.queue.specs.Opens.{AreaAs, AreaIs}
 use Rattle.queue.specs.Ids.{part}
-use Rattle.queue.specs.ReadingAs.{Here, FoundAs, Look, off, hit, lookRec, lookIn, lookOf, LookAs, PlaceAs, EntryIn, entryAt, entryLen}
+use Rattle.queue.specs.ReadingAs.{Here, FoundAs, FoundEnd, Look, off, hit, lookRec, lookIn, lookOf, LookAs, PlaceAs, partIn, EntryIn, entryAt, entryLen}
 use Rattle.queue.specs.paper.Records.{Bytes, Id, Terms, Held, Rec, Queue}
-use Rattle.queue.specs.paper.Lists.{isSome, one, any?, find, concat}
+use Rattle.queue.specs.paper.Lists.{isSome, maybe, one, any?, find, concat}
 use Rattle.queue.specs.paper.Ids.{cmpL}
 use Rattle.queue.specs.paper.Sound.{inputs, content, labelLen, pending?}
-use Rattle.queue.specs.paper.Area.{over, termsBytes, placeBytes, recBytes, flagged, heldBytes}
+use Rattle.queue.specs.paper.Area.{over, termsBytes, placeBytes, headBytes, recBytes, flagged, heldBytes}
 use Rattle.queue.specs.paper.Changing.{named?, reached?, due?}
-use Rattle.queue.specs.paper.Reading as reading
-use Rattle.queue.specs.paper.Reading.{isEmpty?, signedOf, signedBytes}
-use Rattle.queue.specs.paper.Calls.{Written, written, id?, entryBytes, toldOut, toldEntry, readQueue, entryOf, toldPart, partOf, signedBytesOf, numberOf, observationCursorOf}
+use Rattle.queue.specs.paper.Reading.{isEmpty?}
+use Rattle.queue.specs.Checked.{Written, written}
+use Rattle.queue.specs.paper.Calls.{id?, entryBytes, cursorBytes, toldOut, lookUp, entryOf, endOf, signedPart, signedBytesOf, numberOf, readOf}
+use Rattle.queue.specs.declared.Kind.{Kind}
 use Rattle.queue.specs.declared.Kind.the-variants.{Nothing}
 use Rattle.queue.specs.declared.Answer.{Answer}
 use Rattle.queue.specs.declared.Answer.the-variants.{Refused, Done}
@@ -49,29 +50,63 @@ use Rattle.queue.proofs.PutLaws.{length-be, then, recast, put-over}
 use Rattle.queue.proofs.ByteLaws.{be-same, between}
 use Rattle.queue.proofs.Turns.{Scan, start, on, stop, end, SeenIn, ReadsRec, seen, see}
 
+-- ---- what values say of each other
+some-same : {A : Type 0} {a b : A} → some a ≡ some b → a ≡ b
+some-same e = cc
+
+off-same : {m n : ℕ} → off m ≡ off n → m ≡ n
+off-same e = cc
+
+hit-same : {r x : Rec} → hit r ≡ hit x → r ≡ x
+hit-same e = cc
+
+hit-off : {X : Type 0} {r : Rec} {n : ℕ} → hit r ≡ off n → X
+hit-off e = let z : _≡_ {A = ℕ} 0 1 = cc in absurd (omega arith)
+
+refused-same : {m n : ℕ} → Refused m ≡ Refused n → m ≡ n
+refused-same e = cc
+
+done-same : {j k : Kind} → Done j ≡ Done k → j ≡ k
+done-same e = cc
+
+refused-done : {X : Type 0} {n : ℕ} {k : Kind} → Refused n ≡ Done k → X
+refused-done e = let z : _≡_ {A = ℕ} 0 1 = cc in absurd (omega arith)
+
 -- ---- finding
-unfoldable pub findF : Id → Unit {0} → List Rec → Option Rec
-findF z u l = find (named? z) l
+unfoldable pub findF : Id → ℕ → List Rec → Option Rec × ℕ
+findF z at l = (find (named? z) l, at + endOf z l)
 
 pub one-here : (s : Bytes) (i next : ℕ) (r : Rec) → formC false recC .dec (drop i s) ≡ got r (drop next s) → (whole (formC false recC) 1 s i ≡ true) × (listAt (formC false recC) 1 s i ≡ r ∷ [])
 unfolding whole listAt decs
 one-here s i next r e = rw e (refl, refl)
 
-module _ (z : Id) {s : Bytes} {n at i left : ℕ} (x : Scan (formC false recC) (findF z) s n at tt i left tt) where
-  pub find-go : {m j : ℕ} {ok : Bool} {y : Seen} → 0 < left → ReadsRec false s i ok m y → j ≡ afterIn false s i m → (cmpL z (y .id) ≡ 1 → ⊥) → Scan (formC false recC) (findF z) s n at tt j (left - 1) tt
-  unfolding findF
-  find-go h r g e = let t = see false x h r g in on x tt h t (rw (← (t .is .0 .id), ne-eqb _ _ e))
+-- the bytes of the frame that was read
+rec-long : {s : Bytes} {i m : ℕ} {ok : Bool} {y : Seen} {r : Rec} → SeenIn false s i ok m y r → length (recBytes r) ≡ m
+rec-long {r = r} w = ap length (sym (rec-plain r)) ∙ w .1 .size
 
-  pub find-stop : {m : ℕ} {ok : Bool} {y : Seen} → 0 < left → ReadsRec false s i ok m y → cmpL z (y .id) ≡ 1 → FoundAs s (record { found = true; at = i }) (find (named? z) (listAt (formC false recC) n s at))
+module _ (z : Id) {s : Bytes} {n at i left : ℕ} (x : Scan (formC false recC) (findF z) s n at at i left i) where
+  pub find-go : {m j : ℕ} {ok : Bool} {y : Seen} → 0 < left → ReadsRec false s i ok m y → j ≡ afterIn false s i m → (cmpL z (y .id) ≡ 1 → ⊥) → Scan (formC false recC) (findF z) s n at at j (left - 1) j
+  unfolding findF afterIn
+  find-go {m} {j} h r g e = let t = see false x h r g in
+      let k : i + (length (recBytes (t .item)) + endOf z (listAt (formC false recC) (left - 1) s j)) ≡ j + endOf z (listAt (formC false recC) (left - 1) s j) = omega (arith, rec-long (t .is)) in
+      on x j h t (rw (← (t .is .0 .id), ne-eqb _ _ e, k))
+
+  pub find-stop : {m : ℕ} {ok : Bool} {y : Seen} → 0 < left → ReadsRec false s i ok m y → cmpL z (y .id) ≡ 1
+      → FoundAs s (record { found = true; at = i }) (find (named? z) (listAt (formC false recC) n s at)) × FoundEnd z at (listAt (formC false recC) n s at) (record { found = true; at = i })
   unfolding findF
   find-stop {m} h r e = let t = seen false x h r in
-      let f : some (t .item) ≡ find (named? z) (listAt (formC false recC) n s at) = stop x t (rw (← (t .is .0 .id), eq-eqb _ _ e)) in
+      let f : _≡_ {A = Option Rec × ℕ} (some (t .item), i + (length (recBytes (t .item)) + 0)) (find (named? z) (listAt (formC false recC) n s at), at + endOf z (listAt (formC false recC) n s at)) = stop x t (rw (← (t .is .0 .id), eq-eqb _ _ e)) in
       let o = one-here s i (afterIn false s i m) (t .item) (t .here) in
-      record { good = λ _. (t .item, sym f, (x .within, o .0, o .1)); bad = λ e. false-true (sym e) }
+      let g : some (t .item) ≡ find (named? z) (listAt (formC false recC) n s at) = ap (λ p. p .0) f in
+      (
+        record { good = λ _. (t .item, sym g, (x .within, o .0, o .1)); bad = λ e. false-true (sym e) },
+        λ u _ v. let k : t .item ≡ u = some-same (g ∙ v) in ap (λ w. i + length (recBytes w)) (sym k) ∙ omega (arith, ap (λ p. p .1) f),
+      )
 
-  pub find-end : left ≡ 0 → FoundAs s (record { found = false; at = 0 }) (find (named? z) (listAt (formC false recC) n s at))
+  pub find-end : left ≡ 0
+      → FoundAs s (record { found = false; at = 0 }) (find (named? z) (listAt (formC false recC) n s at)) × FoundEnd z at (listAt (formC false recC) n s at) (record { found = false; at = 0 })
   unfolding findF
-  find-end e = record { good = λ z. false-true z; bad = λ _. sym (end x e) }
+  find-end e = (record { good = λ z. false-true z; bad = λ _. sym (ap (λ p. p .0) (end x e)) }, λ u v w. false-true v)
 
 -- the record that stands there is what a reader finds there
 pub met : {s : Bytes} {at m : ℕ} {ok : Bool} {y : Seen} {r : Rec} → Here s at r → ReadsRec false s at ok m y → SeenIn false s at ok m y r
@@ -97,82 +132,156 @@ module _ (s id : Bytes) {x : Area} (a : AreaIs s x) (t : x .ok ≡ true) where
   unfolding lookOf
   look-5 h = let q = a .good t in bad-look s id 5 (omega arith) (rw (q .1, ne-eqb _ _ h))
 
-  module _ (h : length id ≡ 32) (k : Id) (e : k ≡ part 32 (view false id 0) 0) {y : Found} (f : FoundAs s y (find (named? k) (listAt (formC false recC) (x .open .head .count) s (x .open .start)))) where
+  module _ (h : length id ≡ 32) (k : Id) (e : k ≡ part 32 (view false id 0) 0) {y : Found} (f : FoundAs s y (find (named? k) (listAt (formC false recC) (x .open .head .count) s (x .open .start))) × FoundEnd k (x .open .start) (listAt (formC false recC) (x .open .head .count) s (x .open .start)) y) where
     look-is : lookOf s id ≡ lookRec (find (named? k) (listAt (formC false recC) (x .open .head .count) s (x .open .start)))
     unfolding lookOf
     look-is = let q = a .good t in rw (q .1, eq-eqb _ _ h, ← (key h e)) (ap (λ l. lookRec (find (named? k) l)) (sym (q .2 .store .list)))
 
     pub look-13 : y .found ≡ false → LookAs s id (record { refusal = 13; at = 0 })
-    look-13 z = bad-look s id 13 (omega arith) (look-is ∙ ap lookRec (f .bad z))
+    look-13 z = bad-look s id 13 (omega arith) (look-is ∙ ap lookRec (f .0 .bad z))
+
+    look-end : (r : Rec) → y .found ≡ true → find (named? k) (listAt (formC false recC) (x .open .head .count) s (x .open .start)) ≡ some r → (q : Queue) → readArea s ≡ some q
+        → y .at + length (recBytes r) ≡ 4 + length (headBytes q) + endOf id (q .recs)
+    unfolding afterIn
+    look-end r z g q c =
+        let u = a .good t in
+        let w = u .2 .store in
+        let d : u .0 ≡ q = some-same (sym (u .1) ∙ c) in
+        let e1 : length (headBytes (u .0)) ≡ x .open .head .size = ap length (sym (head-plain (u .0))) ∙ w .frame .size in
+        let e2 : endOf k (listAt (formC false recC) (x .open .head .count) s (x .open .start)) ≡ endOf id (u .0 .recs) = rw (w .list, key h e) in
+        let e3 : y .at + length (recBytes r) ≡ 4 + length (headBytes (u .0)) + endOf id (u .0 .recs) = omega (arith, f .1 r z g, w .start, e1, e2) in
+        rw (← d) e3
 
     pub look-0 : y .found ≡ true → LookAs s id (record { refusal = 0; at = y .at })
-    look-0 z = let u = f .good z in record { good = λ _. (u .0, look-is ∙ ap lookRec (u .1), u .2); bad = λ g. absurd (g refl) }
+    look-0 z = let u = f .0 .good z in record { good = λ _. (u .0, look-is ∙ ap lookRec (u .1), u .2, look-end (u .0) z (u .1)); bad = λ g. absurd (g refl) }
+
+-- ---- what a lookup says of the queue
+module _ {A : Type 0} (s id : Bytes) (old : A) (g : Queue → Rec → Answer × A) where
+  pub look-off : (n : ℕ) → lookOf s id ≡ off n → (Refused n, old) ≡ lookUp s id old g
+  unfolding lookOf
+  look-off n = go (readArea s) refl
+    where
+      rec : (q : Queue) (o : Option Rec) → readArea s ≡ some q → id? id ≡ true → find (named? id) (q .recs) ≡ o → lookRec o ≡ off n → (Refused n, old) ≡ lookUp s id old g
+      rec q none e t f h = let k : _≡_ {A = ℕ} 13 n = off-same h in rw (e, t, f, ← k)
+      rec q (some r) e t f h = hit-off h
+
+      go : (o : Option Queue) → readArea s ≡ o → lookIn id o ≡ off n → (Refused n, old) ≡ lookUp s id old g
+      go none e h = let k : _≡_ {A = ℕ} 3 n = off-same h in rw (e, ← k)
+      go (some q) e h = cases (id? id)
+          (λ t. rec q (find (named? id) (q .recs)) e t refl (rw t at h))
+          (λ t. let h′ : off 5 ≡ off n = rw t at h in let k : _≡_ {A = ℕ} 5 n = off-same h′ in rw (e, t, ← k))
+
+  pub look-hit : (r : Rec) → lookOf s id ≡ hit r → (q : Queue) × (readArea s ≡ some q) × (g q r ≡ lookUp s id old g)
+  unfolding lookOf
+  look-hit r = go (readArea s) refl
+    where
+      rec : (q : Queue) (o : Option Rec) → readArea s ≡ some q → id? id ≡ true → find (named? id) (q .recs) ≡ o → lookRec o ≡ hit r → g q r ≡ lookUp s id old g
+      rec q none e t f h = hit-off (sym h)
+      rec q (some x) e t f h = let k : x ≡ r = hit-same h in rw (e, t, f, k)
+
+      go : (o : Option Queue) → readArea s ≡ o → lookIn id o ≡ hit r → (q : Queue) × (readArea s ≡ some q) × (g q r ≡ lookUp s id old g)
+      go none e h = hit-off (sym h)
+      go (some q) e h = cases (id? id)
+          (λ t. (q, e, rec q (find (named? id) (q .recs)) e t refl (rw t at h)))
+          (λ t. hit-off (sym (rw t at h)))
 
 -- ---- signed bytes
-abbrev partLook : Look → Answer × Bytes
-partLook (off n) = (Refused n, [])
-partLook (hit r) = toldPart (signedOf (some r))
-
-signed-look : (s id : Bytes) → signedBytesOf s id ≡ partLook (lookOf s id)
-unfolding signedBytesOf signedBytes lookOf
-signed-look s id = go (readArea s)
-  where
-    rec : (o : Option Rec) → toldPart (signedOf o) ≡ partLook (lookRec o)
-    rec none = refl
-    rec (some r) = refl
-
-    test : (q : Queue) (b : Bool) → cond b (toldPart (signedOf (find (named? id) (q .recs)))) (Refused 5, []) ≡ partLook (cond b (lookRec (find (named? id) (q .recs))) (off 5))
-    test q true = rec (find (named? id) (q .recs))
-    test q false = refl
-
-    go : (o : Option Queue) → partOf id o ≡ partLook (lookIn id o)
-    go none = refl
-    go (some q) = test q (id? id)
-
-with-body : Rec → Option Held → Rec
-with-body r o = record { id = r .id; state = r .state; reason = r .reason; terms = r .terms; place = r .place; mark = r .mark; finish = r .finish; body = o }
-
-signed-body : (r : Rec) (o : Option Held) → (isSome o ≡ true → signedOf (some (with-body r o)) ≡ some (content o)) × (isSome o ≡ false → signedOf (some (with-body r o)) ≡ none)
-unfolding with-body
-signed-body r none = (λ e. false-true e, λ e. refl)
-signed-body r (some h) = (λ e. refl, λ e. false-true (sym e))
-
-signed-held : (r : Rec) → (isSome (r .body) ≡ true → signedOf (some r) ≡ some (content (r .body))) × (isSome (r .body) ≡ false → signedOf (some r) ≡ none)
-unfolding with-body
-signed-held r = signed-body r (r .body)
-
 holder-is : {v : Bytes} {y : Seen} {r : Rec} → SeenAs v y r → isSome (r .body) ≡ y .facts .holder
 unfolding factsOf
 holder-is x = sym (ap (λ f. f .holder) (x .facts))
 
+-- the signed bytes end a frame
+held-long : (o : Option Held) → length (content o) ≤ length (flagged heldBytes o)
+unfolding heldBytes
+held-long none = omega arith
+held-long (some h) =
+    let a = length-append (codec.be 2 (length (h .ins))) (concat (h .ins) ++ (codec.be 2 (length (h .outs)) ++ (concat (h .outs) ++ (codec.be 4 (length (h .bytes)) ++ h .bytes)))) in
+    let b = length-append (concat (h .ins)) (codec.be 2 (length (h .outs)) ++ (concat (h .outs) ++ (codec.be 4 (length (h .bytes)) ++ h .bytes))) in
+    let c = length-append (codec.be 2 (length (h .outs))) (concat (h .outs) ++ (codec.be 4 (length (h .bytes)) ++ h .bytes)) in
+    let d = length-append (concat (h .outs)) (codec.be 4 (length (h .bytes)) ++ h .bytes) in
+    let e = length-append (codec.be 4 (length (h .bytes))) (h .bytes) in
+    omega arith
+
+bytes-in : {v : Bytes} {y : Seen} {r : Rec} → SeenAs v y r → (length (content (r .body)) ≡ y .facts .bytes) × (y .facts .bytes ≤ y .size)
+unfolding factsOf
+bytes-in {v} {y} {r} x =
+    let e : length (content (r .body)) ≡ y .facts .bytes = sym (ap (λ f. f .bytes) (x .facts)) in
+    let l = ap length (x .body) ∙ length-append (bodyC .enc (r .body)) (drop (y .size) v) in
+    let b = ap length (body-plain (r .body)) in
+    (e, omega (arith, e, l, b, held-long (r .body), length-drop (y .body) v, length-drop (y .size) v, x .end))
+
+-- what is told of a record, by its body
+abbrev signedIn : Bytes → ℕ × ℕ → Queue → Option Held → Answer × (ℕ × ℕ)
+signedIn id old q o = maybe (Refused 13, old) (λ h. (Done Nothing, signedPart id q h)) o
+
+no-body : (id : Bytes) (old : ℕ × ℕ) (q : Queue) (o : Option Held) → isSome o ≡ false → (Refused 13, old) ≡ signedIn id old q o
+no-body id old q none e = refl
+no-body id old q (some h) e = false-true (sym e)
+
+some-body : (id : Bytes) (old : ℕ × ℕ) (q : Queue) (o : Option Held) → isSome o ≡ true
+    → (Done Nothing, (4 + length (headBytes q) + endOf id (q .recs) - length (content o), length (content o))) ≡ signedIn id old q o
+unfolding signedPart
+some-body id old q none e = false-true e
+some-body id old q (some h) e = refl
+
 module _ (s id : Bytes) {x : Looked} (f : LookAs s id x) where
   pub place-off : (x .refusal ≡ 0 → ⊥) → PlaceAs s id (record { answer = Refused (x .refusal); start = 0; len = 0 })
-  place-off h = record { is = sym (signed-look s id ∙ ap partLook (f .bad h)); within = omega arith }
+  unfolding signedBytesOf
+  place-off h = record {
+    refused = λ n old e. let k : x .refusal ≡ n = refused-same e in ((refl, refl), look-off s id old _ n (f .bad h ∙ ap off k));
+    done = λ k old e. refused-done e;
+    within = omega arith;
+  }
 
   module _ (z : x .refusal ≡ 0) {m : ℕ} {ok : Bool} {y : Seen} (rd : ReadsRec false s (x .at) ok m y) where
     pub place-tomb : y .facts .holder ≡ false → PlaceAs s id (record { answer = Refused 13; start = 0; len = 0 })
+    unfolding signedBytesOf
     place-tomb t =
         let u = f .good z in
         let w = met (u .2) rd .0 in
-        record { is = sym (signed-look s id ∙ ap partLook (u .1) ∙ ap toldPart (signed-held (u .0) .1 (holder-is w ∙ t))); within = omega arith }
-
-    pub place-within : (x .at ≤ length s) × (y .content + y .facts .bytes ≤ length s - x .at) × (y .facts .bytes < 4294967296)
-    unfolding view
-    place-within = let u = f .good z in let w = met (u .2) rd .0 in (u .2 .0, omega (arith, w .signedIn, length-drop (x .at) s), w .small .bytes)
-
-    pub place-held : y .facts .holder ≡ true → PlaceAs s id (record { answer = Done Nothing; start = x .at + y .content; len = y .facts .bytes })
-    unfolding view
-    place-held t =
-        let u = f .good z in
-        let w = met (u .2) rd .0 in
-        let c : take (y .facts .bytes) (drop (x .at + y .content) s) ≡ content (u .0 .body) = ap (take (y .facts .bytes)) (sym (drop-drop (y .content) (x .at) s)) ∙ w .signed in
         record {
-          is = rw c (sym (signed-look s id ∙ ap partLook (u .1) ∙ ap toldPart (signed-held (u .0) .0 (holder-is w ∙ t))));
-          within = omega (arith, place-within .0, place-within .1);
+          refused = λ n old e.
+              let c = look-hit s id old (λ q r. signedIn id old q (r .body)) (u .0) (u .1) in
+              let k : _≡_ {A = ℕ} 13 n = refused-same e in
+              ((refl, refl), rw (← k) (no-body id old (c .0) (u .0 .body) (holder-is w ∙ t) ∙ c .2));
+          done = λ k old e. refused-done e;
+          within = omega arith;
         }
 
-pub place-part : {s id : Bytes} {x : Place} → PlaceAs s id x → take (x .start + x .len - x .start) (drop (x .start) s) ≡ signedBytesOf s id .1
-place-part {s} {id} {x} p = let e : x .start + x .len - x .start ≡ x .len = omega arith in rw e (ap (λ y. y .1) (p .is))
+    pub place-within : (x .at ≤ length s) × (y .facts .bytes ≤ y .size) × (x .at + y .size ≤ length s) × (y .facts .bytes < 4294967296)
+    unfolding view
+    place-within = let u = f .good z in let w = met (u .2) rd .0 in (u .2 .0, bytes-in w .1, omega (arith, w .end, u .2 .0, length-drop (x .at) s), w .small .bytes)
+
+    pub place-held : m ≡ y .size → y .facts .holder ≡ true → PlaceAs s id (record { answer = Done Nothing; start = x .at + (y .size - y .facts .bytes); len = y .facts .bytes })
+    unfolding signedBytesOf signedPart
+    place-held i t =
+        let u = f .good z in
+        let w = met (u .2) rd in
+        let v = bytes-in (w .0) in
+        record {
+          refused = λ n old e. refused-done (sym e);
+          done = λ k old e.
+              let c = look-hit s id old (λ q r. signedIn id old q (r .body)) (u .0) (u .1) in
+              let n = u .3 (c .0) (c .1) in
+              let j : Nothing ≡ k = done-same e in
+              let b : x .at + (y .size - y .facts .bytes) ≡ 4 + length (headBytes (c .0)) + endOf id (c .0 .recs) - length (content (u .0 .body)) = omega (arith, n, v .0, v .1, i, rec-long w) in
+              rw (← j) (pairs b (sym (v .0)) ∙ some-body id old (c .0) (u .0 .body) (holder-is (w .0) ∙ t) ∙ c .2);
+          within = omega (arith, v .1, place-within .2);
+        }
+      where
+        pairs : {a b c d : ℕ} → a ≡ b → c ≡ d → _≡_ {A = Answer × (ℕ × ℕ)} (Done Nothing, (a, c)) (Done Nothing, (b, d))
+        pairs p q = rw (p, q)
+
+pub place-part : {s id : Bytes} {x : Place} → PlaceAs s id x → take (x .start + x .len - x .start) (drop (x .start) s) ≡ partIn s (signedBytesOf s id (0, 0) .1)
+place-part {s} {id} {x} p = go (x .answer) refl
+  where
+    long : x .start + x .len - x .start ≡ x .len
+    long = omega arith
+
+    go : (a : Answer) → x .answer ≡ a → take (x .start + x .len - x .start) (drop (x .start) s) ≡ partIn s (signedBytesOf s id (0, 0) .1)
+    go (Refused n) e = let r = p .refused n (0, 0) e in
+        ap (λ n. take n (drop (x .start) s)) (long ∙ r .0 .1) ∙ ap (λ n. take 0 (drop n s)) (r .0 .0) ∙ ap (λ w. partIn s (w .1)) (r .1)
+    go (Done k) e = ap (λ n. take n (drop (x .start) s)) long ∙ ap (λ w. partIn s (w .1)) (p .done k (0, 0) e)
 
 -- ---- an entry
 bytes-most : (s : Bytes) → vecMost byteC s ≡ length s
@@ -359,47 +468,32 @@ told-4 bs out h = rw (lt-ltb (length out) (length bs) h)
 pub told-100 : {bs out out′ : Bytes} {n r : ℕ} → Put out 0 bs n r out′ → n ≤ length out → toldOut bs out ≡ written (Done Nothing) out′
 told-100 {bs} {out} {out′} {n} {r} p h = rw (le-ltb (length out) (length bs) (omega (arith, p .size)), put-over p h)
 
-abbrev toldLook : Bytes → Look → Written
-toldLook out (off n) = written (Refused n) out
-toldLook out (hit r) = toldOut (entryBytes r) out
-
-entry-look : (s id out : Bytes) → entryOf s id out ≡ toldLook out (lookOf s id)
-unfolding entryOf reading.entry lookOf
-entry-look s id out = go (readArea s)
-  where
-    rec : (o : Option Rec) → toldEntry out o ≡ toldLook out (lookRec o)
-    rec none = refl
-    rec (some r) = refl
-
-    test : (q : Queue) (b : Bool) → cond b (toldEntry out (find (named? id) (q .recs))) (written (Refused 5) out) ≡ toldLook out (cond b (lookRec (find (named? id) (q .recs))) (off 5))
-    test q true = rec (find (named? id) (q .recs))
-    test q false = refl
-
-    go : (o : Option Queue) → readQueue out (λ q. cond (id? id) (toldEntry out (reading.entry id q)) (written (Refused 5) out)) o ≡ toldLook out (lookIn id o)
-    go none = refl
-    go (some q) = test q (id? id)
-
 module _ (s id out : Bytes) {x : Looked} (f : LookAs s id x) where
   pub entry-off : (x .refusal ≡ 0 → ⊥) → written (Refused (x .refusal)) out ≡ entryOf s id out
-  entry-off h = sym (entry-look s id out ∙ ap (toldLook out) (f .bad h))
+  unfolding entryOf
+  entry-off h = look-off s id out _ (x .refusal) (f .bad h)
 
   module _ (z : x .refusal ≡ 0) {m : ℕ} {ok : Bool} {y : Seen} (rd : ReadsRec false s (x .at) ok m y) where
     pub entry-fits : EntryIn s (x .at) y
     entry-fits = let u = f .good z in entry-in (u .2 .0) (met (u .2) rd)
 
     pub entry-4 : length out < entryLen y → written (Refused 4) out ≡ entryOf s id out
+    unfolding entryOf
     entry-4 h = let u = f .good z in
-        sym (entry-look s id out ∙ ap (toldLook out) (u .1) ∙ told-4 (entryBytes (u .0)) out (omega (arith, entry-size (u .2 .0) (met (u .2) rd))))
+        sym (told-4 (entryBytes (u .0)) out (omega (arith, entry-size (u .2 .0) (met (u .2) rd)))) ∙ look-hit s id out (λ q r. toldOut (entryBytes r) out) (u .0) (u .1) .2
 
     pub entry-100 : {out′ : Bytes} {r : ℕ} → Put out 0 (entryAt s (x .at) y) (entryLen y) r out′ → entryLen y ≤ length out → written (Done Nothing) out′ ≡ entryOf s id out
+    unfolding entryOf
     entry-100 p h = let u = f .good z in
-        sym (entry-look s id out ∙ ap (toldLook out) (u .1) ∙ told-100 (recast p (entry-is (u .2 .0) (met (u .2) rd)) refl refl) h)
+        sym (told-100 (recast p (entry-is (u .2 .0) (met (u .2) rd)) refl refl) h) ∙ look-hit s id out (λ q r. toldOut (entryBytes r) out) (u .0) (u .1) .2
 
 -- ---- numbers
-pub number-3 : (f : Queue → ℕ) (s : Bytes) (old : ℕ) {x : Area} → AreaIs s x → x .ok ≡ false → (Refused 3, old) ≡ numberOf f old (readArea s)
+pub number-3 : (f : Queue → ℕ) (s : Bytes) (old : ℕ) {x : Area} → AreaIs s x → x .ok ≡ false → (Refused 3, old) ≡ numberOf f s old
+unfolding numberOf
 number-3 f s old a e = rw (a .bad e)
 
-pub number-100 : (f : Queue → ℕ) (s : Bytes) (old : ℕ) {x : Area} {v : ℕ} → AreaIs s x → x .ok ≡ true → ((q : Queue) → AreaAs s x q → v ≡ f q) → (Done Nothing, v) ≡ numberOf f old (readArea s)
+pub number-100 : (f : Queue → ℕ) (s : Bytes) (old : ℕ) {x : Area} {v : ℕ} → AreaIs s x → x .ok ≡ true → ((q : Queue) → AreaAs s x q → v ≡ f q) → (Done Nothing, v) ≡ numberOf f s old
+unfolding numberOf
 number-100 f s old a e k = let u = a .good e in rw (u .1, k (u .0) (u .2))
 
 pub empty-is : (l : List Rec) {n : ℕ} → length l ≡ n → one (eqb n 0) ≡ one (isEmpty? l)
@@ -426,8 +520,8 @@ due-sum t h (r ∷ l) = let i = due-sum t h l in cases (due? (t .0) (h .0) r)
 
 -- ---- the cursor
 module _ (s out : Bytes) {x : Area} (a : AreaIs s x) where
-  pub cursor-3 : x .ok ≡ false → written (Refused 3) out ≡ observationCursorOf s out
-  unfolding observationCursorOf
+  pub cursor-3 : x .ok ≡ false → written (Refused 3) out ≡ readOf cursorBytes s out
+  unfolding readOf
   cursor-3 e = rw (a .bad e)
 
   module _ (t : x .ok ≡ true) where
@@ -446,12 +540,12 @@ module _ (s out : Bytes) {x : Area} (a : AreaIs s x) where
         let b = between (drop 4 s) (codec.be 4 (q .cursor) ++ optC idC .enc (q .tip)) (x .open .head .marks) (x .open .head .after) (h .marks) (cursor-in .0) (omega (arith, cursor-in .1, length-drop 4 s)) in
         (ap (take (x .open .head .after - x .open .head .marks)) (sym (drop-drop (x .open .head .marks) 4 s)) ∙ b .0 ∙ p, ap length (sym p) ∙ b .1)
 
-    pub cursor-4 : length out < x .open .head .after - x .open .head .marks → written (Refused 4) out ≡ observationCursorOf s out
-    unfolding observationCursorOf cursorOf
+    pub cursor-4 : length out < x .open .head .after - x .open .head .marks → written (Refused 4) out ≡ readOf cursorBytes s out
+    unfolding readOf cursorOf
     cursor-4 h = let u = a .good t in let c = cursor-is (u .0) (u .2) in sym (rw (u .1) (told-4 (cursorOf (u .0)) out (omega (arith, c .1))))
 
-    pub cursor-100 : {out′ : Bytes} {n r : ℕ} → n ≡ x .open .head .after - x .open .head .marks → n ≤ length out → Put out 0 (take n (drop (4 + x .open .head .marks) s)) n r out′ → written (Done Nothing) out′ ≡ observationCursorOf s out
-    unfolding observationCursorOf cursorOf
+    pub cursor-100 : {out′ : Bytes} {n r : ℕ} → n ≡ x .open .head .after - x .open .head .marks → n ≤ length out → Put out 0 (take n (drop (4 + x .open .head .marks) s)) n r out′ → written (Done Nothing) out′ ≡ readOf cursorBytes s out
+    unfolding readOf cursorOf
     cursor-100 {out′} {n} {r} e h p =
         let u = a .good t in
         let c = cursor-is (u .0) (u .2) in

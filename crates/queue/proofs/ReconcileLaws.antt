@@ -46,7 +46,8 @@ use Rattle.queue.specs.paper.Lists.{isSome, one, any?, count, filter, fi
 use Rattle.queue.specs.paper.Sound.{need, finishRight?, holder?, mined?, content}
 use Rattle.queue.specs.paper.Area.{areaBytes, over}
 use Rattle.queue.specs.paper.Changing.{Out, refused, done, top, topHeight, Applied, Reconciling, touch, touchFound, orElse, minedHeight, newer?, releases, released, releaseOne, trimmed, committed, moved, someReleased?, reconcile}
-use Rattle.queue.specs.paper.Calls.{Outcome, outcome, told, releasedBytes, idsBytes, ReconcileArgs, reconcileArgs, reconciling, reconcileShape?, reconcileOf}
+use Rattle.queue.specs.Checked.{Outcome, outcome, told, reconcileShape?, reconcileOf}
+use Rattle.queue.specs.paper.Calls.{releasedBytes, idsBytes, ReconcileArgs, reconcileArgs, reconciliation}
 use Rattle.queue.specs.declared.Kind.the-variants.{Memory, Whole, Cursor}
 use Rattle.queue.specs.declared.Answer.{Answer}
 use Rattle.queue.specs.declared.Answer.the-variants.{Refused, Done}
@@ -427,7 +428,7 @@ module _ (cur next out : Bytes) {a : Area} (i : AreaIs cur a) (ok : a .ok ≡ tr
       pub tip-room : length tip ≡ 32
       tip-room = A .good n .long
 
-      asked-is : asked height j t (length t / 68) (eqb flag 1) ids (length ids / 32) window ≡ reconciling Given
+      asked-is : asked height j t (length t / 68) (eqb flag 1) ids (length ids / 32) window ≡ reconciliation Given
       asked-is = three tip-key (A .good n .applied) (A .good n .available)
         where
           three : {u u′ : Id} {x x′ : List Applied} {y y′ : List Id} → u ≡ u′ → x ≡ x′ → y ≡ y′ → _≡_ {A = Reconciling} (record { height = height; tip = u; applied = x; caughtUp = eqb flag 1; available = y; window = window }) (record { height = height; tip = u′; applied = x′; caughtUp = eqb flag 1; available = y′; window = window })

@@ -37,7 +37,8 @@ use Rattle.queue.specs.paper.Ids.{cmpL}
 use Rattle.queue.specs.paper.Sound.{need, holder?, mined?, among?}
 use Rattle.queue.specs.paper.Area.{flagged, termsBytes, placeBytes, heldBytes, recBytes, areaBytes, over}
 use Rattle.queue.specs.paper.Changing.{Out, refused, done, committed, reopenedState, reopenedReason, reopened, listed?, reopen}
-use Rattle.queue.specs.paper.Calls.{Outcome, outcome, told, nothingBytes, pieces, items, rise?, whole?, reopenOf}
+use Rattle.queue.specs.Checked.{Outcome, outcome, told, reopenOf}
+use Rattle.queue.specs.paper.Calls.{nothingBytes, pieces, items, rise?, whole?}
 use Rattle.queue.specs.declared.Kind.the-variants.{Nothing, Whole}
 use Rattle.queue.specs.declared.Answer.the-variants.{Refused, Done}
 use Rattle.queue.specs.declared.frame.Seen.{Seen}

@@ -20,7 +20,8 @@ use Rattle.queue.specs.paper.Lists.{filter, find}
 use Rattle.queue.specs.paper.Sound.{need, labelLen, clash?}
 use Rattle.queue.specs.paper.Area.{flagged, areaBytes, over}
 use Rattle.queue.specs.paper.Changing.{named?, put, newRec, committed, pendings, pendingBytes, admitNew, admitFound, admit}
-use Rattle.queue.specs.paper.Calls.{items, given, AdmitArgs, admission, id?, whole?, flag?, givenId?, admitShape?, overK?, Outcome, told, entryBytes}
+use Rattle.queue.specs.Checked.{admitShape?, Outcome, told}
+use Rattle.queue.specs.paper.Calls.{items, given, AdmitArgs, admission, id?, whole?, flag?, givenId?, overK?, entryBytes}
 use Rattle.queue.specs.declared.admit.Asked.{Asked}
 use Rattle.queue.specs.declared.admit.Tip.{Tip}
 use Rattle.queue.specs.declared.frame.HeadR.{HeadR}

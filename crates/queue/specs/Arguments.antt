@@ -19,7 +19,8 @@ use Rattle.queue.specs.Reconciles.{AppliedOk, Reconcilable}
 use Rattle.queue.specs.paper.Records.{Bytes}
 use Rattle.queue.specs.paper.Lists.{map}
 use Rattle.queue.specs.paper.Area.{beVal}
-use Rattle.queue.specs.paper.Calls.{id?, whole?, pieces, items, flag?, given, givenId?, AdmitArgs, admission, admitShape?, overK?, ReconcileArgs, appliedOf, reconciling, reconcileShape?}
+use Rattle.queue.specs.Checked.{admitShape?, reconcileShape?}
+use Rattle.queue.specs.paper.Calls.{id?, whole?, pieces, items, flag?, given, givenId?, AdmitArgs, admission, overK?, ReconcileArgs, appliedOf, reconciliation}
 
 abbrev pub Small : Bytes → Type 0
 Small s = All (λ b. b < 256) s
@@ -132,7 +133,7 @@ applied-ok (s ∷ l) h =
     let b = be-lt (take 4 (drop 32 s)) (take-small 4 (drop 32 s) (drop-small 32 s (h .0 .0))) in
     ((rw t at b, (drop-small 36 s (h .0 .0), length-drop 36 s ∙ omega arith)), applied-ok l (h .1))
 
-pub reconciling-ok : (a : ReconcileArgs) → ReconcileLent a → reconcileShape? a ≡ true → Reconcilable (reconciling a)
+pub reconciling-ok : (a : ReconcileArgs) → ReconcileLent a → reconcileShape? a ≡ true → Reconcilable (reconciliation a)
 reconciling-ok a h e =
     let s = and-true _ _ e in
     let t = and-true (id? (a .tip)) _ (s .0) in

@@ -19,7 +19,8 @@ use Rattle.queue.specs.paper.Records.{Bytes, Id, Rec, Queue}
 use Rattle.queue.specs.paper.Lists.{filter, find, map}
 use Rattle.queue.specs.paper.Sound.{holder?, mined?}
 use Rattle.queue.specs.paper.Changing.{named?, cancel, expire}
-use Rattle.queue.specs.paper.Calls.{Outcome, told, entryBytes, idsBytes}
+use Rattle.queue.specs.Checked.{Outcome, told}
+use Rattle.queue.specs.paper.Calls.{entryBytes, idsBytes}
 use Rattle.queue.specs.declared.frame.Seen.{Seen}
 use Rattle.queue.specs.declared.area.Area.{Area}
 use Rattle.queue.specs.declared.finish.Change.{Change}

@@ -24,6 +24,7 @@ pub mod Keeps
 pub mod Admits
 pub mod Cards
 pub mod Reconciles
+pub mod Checked
 pub mod Arguments
 pub mod Fronts
 pub mod Finishing

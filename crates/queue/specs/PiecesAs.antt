@@ -13,7 +13,8 @@ use Rattle.queue.specs.ReadingAs.{entryAt, entryLen, EntryIn}
 use Rattle.queue.specs.paper.Records.{Bytes, Rec}
 use Rattle.queue.specs.paper.Lists.{count}
 use Rattle.queue.specs.paper.Area.{placeBytes}
-use Rattle.queue.specs.paper.Calls.{Written, entryBytes, toldOut, reads}
+use Rattle.queue.specs.Checked.{Written}
+use Rattle.queue.specs.paper.Calls.{entryBytes, readOf}
 use Rattle.queue.specs.declared.frame.Facts.{Facts}
 use Rattle.queue.specs.declared.frame.Seen.{Seen}
 use Rattle.queue.specs.declared.pieces.What.{What}
@@ -51,7 +52,7 @@ unfoldable pub answerBytes : What → List Rec → Bytes
 answerBytes w l = be 4 (count (passes? w) l) ++ piecesOf w l
 
 unfoldable pub toldPieces : What → Bytes → Bytes → Written
-toldPieces w area out = reads area out λ q. toldOut (answerBytes w (q .recs)) out
+toldPieces w area out = readOf (λ q. answerBytes w (q .recs)) area out
 
 -- the piece of a record that was read at base
 unfoldable pub pieceAt : What → Bytes → ℕ → Seen → Bytes

@@ -13,7 +13,11 @@ use Rattle.queue.specs.Areas.{readArea}
 use Rattle.queue.specs.paper.Records.{Bytes, Id, Rec, Queue}
 use Rattle.queue.specs.paper.Lists.{find}
 use Rattle.queue.specs.paper.Changing.{named?}
-use Rattle.queue.specs.paper.Calls.{id?, signedBytesOf}
+use Rattle.queue.specs.paper.Area.{headBytes, recBytes}
+use Rattle.queue.specs.paper.Calls.{id?, endOf, signedBytesOf}
+use Rattle.queue.specs.declared.Kind.{Kind}
+use Rattle.queue.specs.declared.Answer.{Answer}
+use Rattle.queue.specs.declared.Answer.the-variants.{Refused, Done}
 use Rattle.queue.specs.declared.frame.Seen.{Seen}
 use Rattle.queue.specs.declared.reading.Found.{Found}
 use Rattle.queue.specs.declared.reading.Looked.{Looked}
@@ -27,6 +31,10 @@ Here s at r = (at ≤ length s) × (whole (formC false recC) 1 s at ≡ true) ×
 pub record FoundAs (s : Bytes) (x : Found) (o : Option Rec) : Type 0 where
   pub good : x .found ≡ true → (r : Rec) × (o ≡ some r) × Here s (x .at) r
   pub bad : x .found ≡ false → o ≡ none
+
+-- where the frame found ends: the records start at `at`
+abbrev pub FoundEnd : Id → ℕ → List Rec → Found → Type 0
+FoundEnd id at l x = (r : Rec) → x .found ≡ true → find (named? id) l ≡ some r → x .at + length (recBytes r) ≡ at + endOf id l
 
 -- a record looked up by its id: a refusal, or the record
 pub data Look : Type 0 where
@@ -44,15 +52,21 @@ lookIn id (some q) = cond (id? id) (lookRec (find (named? id) (q .recs))) (off 5
 unfoldable pub lookOf : Bytes → Bytes → Look
 lookOf s id = lookIn id (readArea s)
 
--- the refusal's number; or 0, and the record stands at x .at
+-- the refusal's number; or 0, and the record stands at x .at, where it belongs
 pub record LookAs (s id : Bytes) (x : Looked) : Type 0 where
-  pub good : x .refusal ≡ 0 → (r : Rec) × (lookOf s id ≡ hit r) × Here s (x .at) r
+  pub good : x .refusal ≡ 0
+      → (r : Rec) × (lookOf s id ≡ hit r) × Here s (x .at) r × ((q : Queue) → readArea s ≡ some q → x .at + length (recBytes r) ≡ 4 + length (headBytes q) + endOf id (q .recs))
   pub bad : (x .refusal ≡ 0 → ⊥) → lookOf s id ≡ off (x .refusal)
 
 -- where a record's signed bytes stand
 pub record PlaceAs (s id : Bytes) (x : Place) : Type 0 where
-  pub is : (x .answer, take (x .len) (drop (x .start) s)) ≡ signedBytesOf s id
+  pub refused : (n : ℕ) (old : ℕ × ℕ) → x .answer ≡ Refused n → ((x .start ≡ 0) × (x .len ≡ 0)) × ((Refused n, old) ≡ signedBytesOf s id old)
+  pub done : (k : Kind) (old : ℕ × ℕ) → x .answer ≡ Done k → (Done k, (x .start, x .len)) ≡ signedBytesOf s id old
   pub within : x .start + x .len ≤ length s
+
+-- a part of s: where it starts, and how long it is
+abbrev pub partIn : Bytes → ℕ × ℕ → Bytes
+partIn s p = take (p .1) (drop (p .0) s)
 
 -- the entry of a record that was read at base
 unfoldable pub entryAt : Bytes → ℕ → Seen → Bytes

@@ -25,7 +25,8 @@ use Rattle.queue.specs.paper.Records.{Bytes, Id, Rec, Queue}
 use Rattle.queue.specs.paper.Lists.{isSome, one, any?, map, concat}
 use Rattle.queue.specs.paper.Area.{areaBytes, over}
 use Rattle.queue.specs.paper.Changing.{Reconciling, queuedOutputs, touch, orElse, released, releaseOne, trimmed, committed, moved, someReleased?, topHeight, reconcile}
-use Rattle.queue.specs.paper.Calls.{Outcome, told, releasedBytes}
+use Rattle.queue.specs.Checked.{Outcome, told}
+use Rattle.queue.specs.paper.Calls.{releasedBytes}
 use Rattle.queue.specs.declared.area.Area.{Area}
 use Rattle.queue.specs.declared.Kind.{Kind}
 use Rattle.queue.specs.declared.Kind.the-variants.{Memory, Cursor}

@@ -18,7 +18,8 @@ use Rattle.queue.specs.paper.Lists.{map}
 use Rattle.queue.specs.paper.Sound.{need, among?}
 use Rattle.queue.specs.paper.Area.{areaBytes, over}
 use Rattle.queue.specs.paper.Changing.{committed, reopened, listed?, reopen}
-use Rattle.queue.specs.paper.Calls.{Outcome, told, nothingBytes, rise?}
+use Rattle.queue.specs.Checked.{Outcome, told}
+use Rattle.queue.specs.paper.Calls.{nothingBytes, rise?}
 use Rattle.queue.specs.declared.frame.Seen.{Seen}
 use Rattle.queue.specs.declared.frame.Facts.{Facts}
 use Rattle.queue.specs.declared.area.Area.{Area}

@@ -53,7 +53,8 @@ ghost use Rattle.queue.specs.Writes.{HeadIn};
 ghost use Rattle.queue.specs.Reopens.{IdsIn, idsAt};
 ghost use Rattle.queue.specs.paper.Sound.{clash?, labelLen};
 ghost use Rattle.queue.specs.paper.Area.{flagged, termsBytes, heldBytes};
-ghost use Rattle.queue.specs.paper.Calls.{given, entryBytes, outcome, givenId?, admitArgs, admitOf};
+ghost use Rattle.queue.specs.Checked.{outcome, admitOf};
+ghost use Rattle.queue.specs.paper.Calls.{given, entryBytes, givenId?, admitArgs};
 
 // The numbers that an admission is asked with.
 pub struct Asked {

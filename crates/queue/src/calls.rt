@@ -36,7 +36,8 @@ ghost use Rattle.queue.specs.Finishing.{picked};
 ghost use Rattle.queue.specs.paper.Lists.{filter, map, concat, count};
 ghost use Rattle.queue.specs.paper.Records.{Rec};
 ghost use Rattle.queue.specs.CallsAs.{endBytes, idIf, pickedIds, FoundIn, HeldIn, AreaIn, CancelTold, ExpireTold};
-ghost use Rattle.queue.specs.paper.Calls.{outcome, written, settleShape?, setCursorOf, settleOf, cancelOf, expireOf};
+ghost use Rattle.queue.specs.Checked.{outcome, written, setCursorOf, cancelOf, expireOf};
+ghost use Rattle.queue.specs.paper.Calls.{settleShape?, settleOf};
 
 // Cursor setting. Refusals 3, 2, 5.
 pub fn set_cursor(cur: &[u8], next: &mut [u8], height: u32, flag: u8, tip: &[u8]) -> Answer

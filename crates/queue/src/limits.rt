@@ -12,7 +12,8 @@ ghost use mathlib.Core.Bool.{true};
 ghost use Prim.Native.Nat.{_≤_};
 ghost use Rattle.queue.specs.paper.Sound.{inRange, need};
 ghost use Rattle.queue.specs.Opens.{limits};
-ghost use Rattle.queue.specs.paper.Calls.{written, freshOf};
+ghost use Rattle.queue.specs.Checked.{written};
+ghost use Rattle.queue.specs.paper.Calls.{freshOf};
 
 pub struct Limits {
     pub p: u64,

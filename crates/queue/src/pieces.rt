@@ -25,7 +25,9 @@ ghost use Rattle.queue.specs.Forms.{formC};
 ghost use Rattle.queue.specs.Reads.{whole, listAt};
 ghost use Rattle.queue.specs.Splice.{Put};
 ghost use Rattle.queue.specs.PiecesAs.{passesF, pieceAt, pieceLen, PieceIn, piecesOf, toldPieces, MeasureAs};
-ghost use Rattle.queue.specs.paper.Calls.{written, recordIdsOf, guardedIdsOf, dueOf, confirmationsOf, listOf};
+ghost use Rattle.queue.specs.Checked.{written};
+ghost use Rattle.queue.specs.paper.Reading.{recordIds, guardedIds, dueStates, confirmations};
+ghost use Rattle.queue.specs.paper.Calls.{counted, entryBytes, idsBytes, placedBytes, dueBytes, readOf};
 
 // What to write of which records.
 pub enum What {
@@ -169,35 +171,35 @@ fn told(area: &[u8], w: What, out: &mut [u8]) -> Answer
 }
 
 pub fn record_ids(area: &[u8], out: &mut [u8]) -> Answer
-    ensures { λ r. ⌜ written r (now (out .exit)) ≡ recordIdsOf (now (area .entry)) (now (out .entry)) ⌝ }
+    ensures { λ r. ⌜ written r (now (out .exit)) ≡ readOf (λ q. idsBytes (recordIds q)) (now (area .entry)) (now (out .entry)) ⌝ }
 {
     told(area, What::Ids, out)
 }
 
 // The ids of the holders.
 pub fn guarded_ids(area: &[u8], out: &mut [u8]) -> Answer
-    ensures { λ r. ⌜ written r (now (out .exit)) ≡ guardedIdsOf (now (area .entry)) (now (out .entry)) ⌝ }
+    ensures { λ r. ⌜ written r (now (out .exit)) ≡ readOf (λ q. idsBytes (guardedIds q)) (now (area .entry)) (now (out .entry)) ⌝ }
 {
     told(area, What::Guarded, out)
 }
 
 // Id and state of each pending record that expiry would finish.
 pub fn due(area: &[u8], time: Time, height: Height, out: &mut [u8]) -> Answer
-    ensures { λ r. ⌜ written r (now (out .exit)) ≡ dueOf (now (area .entry)) (time .0) (height .0) (now (out .entry)) ⌝ }
+    ensures { λ r. ⌜ written r (now (out .exit)) ≡ readOf (λ q. counted dueBytes (dueStates (time .0) (height .0) q)) (now (area .entry)) (now (out .entry)) ⌝ }
 {
     told(area, What::DueBy(time, height), out)
 }
 
 // Id, mined height and block id of each Mined record.
 pub fn confirmations(area: &[u8], out: &mut [u8]) -> Answer
-    ensures { λ r. ⌜ written r (now (out .exit)) ≡ confirmationsOf (now (area .entry)) (now (out .entry)) ⌝ }
+    ensures { λ r. ⌜ written r (now (out .exit)) ≡ readOf (λ q. counted placedBytes (confirmations q)) (now (area .entry)) (now (out .entry)) ⌝ }
 {
     told(area, What::Confirmed, out)
 }
 
 // The entry of each record.
 pub fn list(area: &[u8], out: &mut [u8]) -> Answer
-    ensures { λ r. ⌜ written r (now (out .exit)) ≡ listOf (now (area .entry)) (now (out .entry)) ⌝ }
+    ensures { λ r. ⌜ written r (now (out .exit)) ≡ readOf (λ q. counted entryBytes (q .recs)) (now (area .entry)) (now (out .entry)) ⌝ }
 {
     told(area, What::Entries, out)
 }

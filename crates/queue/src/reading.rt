@@ -22,10 +22,12 @@ ghost use Rattle.queue.specs.Frames.{recC};
 ghost use Rattle.queue.specs.Forms.{formC};
 ghost use Rattle.queue.specs.Splice.{Put};
 ghost use Rattle.queue.specs.Reads.{whole, listAt};
-ghost use Rattle.queue.specs.ReadingAs.{FoundAs, LookAs, PlaceAs, EntryIn, entryAt, entryLen};
-ghost use Rattle.queue.specs.paper.Lists.{find};
+ghost use Rattle.queue.specs.ReadingAs.{FoundAs, FoundEnd, LookAs, PlaceAs, partIn, EntryIn, entryAt, entryLen};
+ghost use Rattle.queue.specs.paper.Lists.{one, find};
 ghost use Rattle.queue.specs.paper.Changing.{named?};
-ghost use Rattle.queue.specs.paper.Calls.{written, entryOf, signedBytesOf, revisionOf, observedHeightOf, isEmptyOf, deadlineDueOf, observationCursorOf};
+ghost use Rattle.queue.specs.Checked.{written};
+ghost use Rattle.queue.specs.paper.Reading.{isEmpty?, deadlineDue?};
+ghost use Rattle.queue.specs.paper.Calls.{cursorBytes, entryOf, signedBytesOf, readOf, numberOf};
 
 pub struct Found {
     pub found: bool,
@@ -35,7 +37,7 @@ pub struct Found {
 // The record with this id, of the n records at `at` of an area.
 pub fn find_id(s: &[u8], at: usize, n: u64, id: [u8; 32]) -> Found
     requires { ⌜ (at ≤ length (now s)) × (whole (formC false recC) n (now s) at ≡ true) ⌝ }
-    ensures { λ r. ⌜ FoundAs (now (s .entry)) r (find (named? id) (listAt (formC false recC) n (now (s .entry)) at)) ⌝ }
+    ensures { λ r. ⌜ FoundAs (now (s .entry)) r (find (named? id) (listAt (formC false recC) n (now (s .entry)) at)) × FoundEnd id at (listAt (formC false recC) n (now (s .entry)) at) r ⌝ }
 {
     let mut i = at;
     let mut left = n;
@@ -114,14 +116,14 @@ pub fn signed_place(area: &[u8], id: &[u8]) -> Place
     }
     Place {
         answer: Answer::Done(Kind::Nothing),
-        start: at + x.content,
+        start: at + (x.size - f.bytes as usize),
         len: f.bytes as usize,
     }
 }
 
 // The part of the area that holds a record's signed bytes; empty with a refusal.
 pub fn signed_bytes<'a>(area: &'a [u8], id: &[u8]) -> &'a [u8]
-    ensures { λ r. ⌜ now r ≡ signedBytesOf (now (area .entry)) (now (id .entry)) .1 ⌝ }
+    ensures { λ r. ⌜ now r ≡ partIn (now (area .entry)) (signedBytesOf (now (area .entry)) (now (id .entry)) (0, 0) .1) ⌝ }
 {
     let p = signed_place(area, id);
     let a = p.start;
@@ -170,7 +172,7 @@ pub fn entry(area: &[u8], id: &[u8], out: &mut [u8]) -> Answer
 }
 
 pub fn revision(area: &[u8], value: &mut u64) -> Answer
-    ensures { λ r. ⌜ (r, now (value .exit)) ≡ revisionOf (now (area .entry)) (now (value .entry)) ⌝ }
+    ensures { λ r. ⌜ (r, now (value .exit)) ≡ numberOf (λ q. q .revision) (now (area .entry)) (now (value .entry)) ⌝ }
 {
     let a = area_at(area);
     if !a.ok {
@@ -183,7 +185,7 @@ pub fn revision(area: &[u8], value: &mut u64) -> Answer
 }
 
 pub fn observed_height(area: &[u8], value: &mut u64) -> Answer
-    ensures { λ r. ⌜ (r, now (value .exit)) ≡ observedHeightOf (now (area .entry)) (now (value .entry)) ⌝ }
+    ensures { λ r. ⌜ (r, now (value .exit)) ≡ numberOf (λ q. q .cursor) (now (area .entry)) (now (value .entry)) ⌝ }
 {
     let a = area_at(area);
     if !a.ok {
@@ -198,7 +200,7 @@ pub fn observed_height(area: &[u8], value: &mut u64) -> Answer
 
 // 1 without records, else 0.
 pub fn is_empty(area: &[u8], value: &mut u64) -> Answer
-    ensures { λ r. ⌜ (r, now (value .exit)) ≡ isEmptyOf (now (area .entry)) (now (value .entry)) ⌝ }
+    ensures { λ r. ⌜ (r, now (value .exit)) ≡ numberOf (λ q. one (isEmpty? (q .recs))) (now (area .entry)) (now (value .entry)) ⌝ }
 {
     let a = area_at(area);
     if !a.ok {
@@ -212,7 +214,7 @@ pub fn is_empty(area: &[u8], value: &mut u64) -> Answer
 
 // 1 if a pending record's deadline is due, else 0.
 pub fn deadline_due(area: &[u8], time: Time, height: Height, value: &mut u64) -> Answer
-    ensures { λ r. ⌜ (r, now (value .exit)) ≡ deadlineDueOf (now (area .entry)) (time .0) (height .0) (now (value .entry)) ⌝ }
+    ensures { λ r. ⌜ (r, now (value .exit)) ≡ numberOf (λ q. one (deadlineDue? (time .0) (height .0) q)) (now (area .entry)) (now (value .entry)) ⌝ }
 {
     let a = area_at(area);
     if !a.ok {
@@ -227,7 +229,7 @@ pub fn deadline_due(area: &[u8], time: Time, height: Height, value: &mut u64) ->
 
 // The cursor's height, tip flag and tip, as they stand in the header.
 pub fn observation_cursor(area: &[u8], out: &mut [u8]) -> Answer
-    ensures { λ r. ⌜ written r (now (out .exit)) ≡ observationCursorOf (now (area .entry)) (now (out .entry)) ⌝ }
+    ensures { λ r. ⌜ written r (now (out .exit)) ≡ readOf cursorBytes (now (area .entry)) (now (out .entry)) ⌝ }
 {
     let a = area_at(area);
     if !a.ok {

@@ -38,7 +38,8 @@ ghost use Rattle.queue.specs.CallsAs.{AreaIn};
 ghost use Rattle.queue.specs.Reconciling.{asked, LentTo, GoneAre, ChangedIs, WholeTo, goneBytes, FloorFor, CursorTold, ReconcileTold};
 ghost use Rattle.queue.specs.paper.Lists.{one, sort};
 ghost use Rattle.queue.specs.paper.Changing.{topHeight};
-ghost use Rattle.queue.specs.paper.Calls.{outcome, reconcileArgs, reconcileOf};
+ghost use Rattle.queue.specs.Checked.{outcome, reconcileOf};
+ghost use Rattle.queue.specs.paper.Calls.{reconcileArgs};
 
 // The rows in order, and the places of those released to the front of gone; returns how many.
 fn release_rows(

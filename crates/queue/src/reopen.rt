@@ -34,7 +34,8 @@ ghost use Rattle.queue.specs.Reopens.{IdsIn, IdsRise, idsAt, listedS, ag
 ghost use Rattle.queue.specs.paper.Lists.{any?, map};
 ghost use Rattle.queue.specs.paper.Changing.{listed?};
 ghost use Rattle.queue.specs.paper.Sound.{among?};
-ghost use Rattle.queue.specs.paper.Calls.{outcome, rise?, reopenOf};
+ghost use Rattle.queue.specs.Checked.{outcome, reopenOf};
+ghost use Rattle.queue.specs.paper.Calls.{rise?};
 
 // Do n lent ids rise strictly?
 pub fn rise(ids: &[u8], n: u64) -> bool

@@ -14,7 +14,7 @@ use Rattle.queue.specs.paper.Records.{Bytes, Rec, Queue}
 use Rattle.queue.specs.paper.Lists.{map, concat}
 use Rattle.queue.specs.paper.Sound.{need}
 use Rattle.queue.specs.paper.Area.{recBytes, headBytes, areaBytes, over}
-use Rattle.queue.specs.paper.Calls.{Written, written}
+use Rattle.queue.specs.Checked.{Written, written}
 
 -- "Lines of lowercase hexadecimal, one frame a line, each ended by byte 10."
 abbrev pub line : Bytes → Bytes

@@ -13,7 +13,8 @@ use Rattle.queue.specs.Codec.{All}
 use Rattle.queue.specs.paper.Records.{Bytes, Id, Limits, Rec, Queue}
 use Rattle.queue.specs.paper.Sound.{inRange, need, holders, heldBytes, tombstones, apart?}
 use Rattle.queue.specs.paper.Area.{areaBytes}
-use Rattle.queue.specs.paper.Calls.{AdmitArgs, ReconcileArgs, written, freshOf}
+use Rattle.queue.specs.Checked.{written}
+use Rattle.queue.specs.paper.Calls.{AdmitArgs, ReconcileArgs, freshOf}
 use Rattle.image.specs.paper.Image.{imageBytes}
 use Rattle.pokerbox.specs.paper.Machine.{Call, admitting, cancelling, expiring, reconciling, reopening, settingCursor, Fate, kept, failed, cutBefore, cutAfter, Step, call, cut, Told, Worked, work, Plain, plainStep, plainRun, World, worldRun, restart, starts}
 

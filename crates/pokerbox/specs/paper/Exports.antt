@@ -6,7 +6,8 @@ use Rattle.queue.specs.declared.Kind.the-variants.{Nothing}
 use Rattle.queue.specs.declared.Answer.{Answer}
 use Rattle.queue.specs.declared.Answer.the-variants.{Refused, Done}
 use Rattle.queue.specs.paper.Records.{Bytes}
-use Rattle.queue.specs.paper.Calls.{Outcome, Written, Numbered, number, signedBytesOf}
+use Rattle.queue.specs.Checked.{Outcome, Written}
+use Rattle.queue.specs.paper.Calls.{number, signedBytesOf}
 use Rattle.image.specs.paper.Image.{Imaged}
 
 -- a changing call: its number, the next area and the output

@@ -14,7 +14,8 @@ use Rattle.queue.specs.paper.Sound.{need}
 use Rattle.queue.specs.paper.Area.{over}
 use Rattle.queue.specs.paper.Changing.{Out, refused, done, moved, admit, cancel, expire, reconcile, reopen, setCursor}
 use Rattle.queue.specs.paper.Calls as calls
-use Rattle.queue.specs.paper.Calls.{AdmitArgs, ReconcileArgs, Outcome, Written, fresh}
+use Rattle.queue.specs.Checked.{Outcome, Written}
+use Rattle.queue.specs.paper.Calls.{AdmitArgs, ReconcileArgs, fresh}
 use Rattle.image.specs.paper.Image.{Imaged, imageOf, openOf}
 
 -- "admissions, cancellations, expiries, reconciliations, reopenings and cursor settings", with their arguments

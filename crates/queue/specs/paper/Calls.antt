@@ -14,12 +14,12 @@ use Rattle.queue.specs.declared.Answer.the-variants.{Refused, Done}
 use Rattle.queue.specs.Codec.{be}
 use Rattle.queue.specs.Areas.{readArea}
 use Rattle.queue.specs.paper.Records.{Bytes, Id, Limits, Terms, Held, Rec, Queue}
-use Rattle.queue.specs.paper.Lists.{isSome, one, any?, map, concat}
+use Rattle.queue.specs.paper.Lists.{isSome, maybe, one, find, map, concat}
 use Rattle.queue.specs.paper.Ids.{below?, same?}
-use Rattle.queue.specs.paper.Sound.{inRange, need, holder?, inputs, content}
-use Rattle.queue.specs.paper.Area.{flagged, termsBytes, placeBytes, areaBytes, beVal, over}
-use Rattle.queue.specs.paper.Changing.{Out, refused, done, moved, Admission, admit, cancel, expire, Applied, Reconciling, reconcile, reopen, setCursor}
-use Rattle.queue.specs.paper.Reading as reading
+use Rattle.queue.specs.paper.Sound.{inRange, need, inputs}
+use Rattle.queue.specs.paper.Area.{flagged, termsBytes, placeBytes, headBytes, recBytes, areaBytes, beVal, over}
+use Rattle.queue.specs.paper.Changing.{Out, refused, done, named?, moved, Admission, admit, cancel, expire, Applied, Reconciling, reconcile, reopen, setCursor}
+use Rattle.queue.specs.paper.Reading.{selectionAt}
 
 -- the number that a call gives back: a refusal's own, or 100 and the kind
 abbrev pub kindNumber : Kind → ℕ
@@ -31,6 +31,10 @@ kindNumber Cursor = 3
 abbrev pub number : Answer → ℕ
 number (Refused n) = n
 number (Done k) = 100 + kindNumber k
+
+-- what an exported call gives back: that number, and what is lent to it as it is left
+abbrev pub gives : {A : Type 0} → Answer × A → ℕ × A
+gives o = (number (o .0), o .1)
 
 -- ---- what is lent
 
@@ -62,11 +66,18 @@ flag? n = leb n 1
 abbrev pub given : {A : Type 0} → ℕ → A → Option A
 given flag a = cond (eqb flag 1) (some a) none
 
+abbrev pub idList? : Bytes → Bool
+idList? s = whole? 32 s && rise? (items 32 s)
+
 -- an id that is there must be whole
 abbrev pub givenId? : ℕ → Bytes → Bool
 givenId? flag s = flag? flag && (eqb flag 0 || id? s)
 
 -- ---- answers in bytes
+
+-- how many, and each
+abbrev pub counted : {A : Type 0} → (A → Bytes) → List A → Bytes
+counted f l = be 4 (length l) ++ concat (map f l)
 
 -- an entry: the record frame from the id to the mined place, and the inputs
 unfoldable pub entryBytes : Rec → Bytes
@@ -85,40 +96,17 @@ releasedBytes a = one (a .0) ∷ idsBytes (a .1)
 abbrev pub nothingBytes : Unit {0} → Bytes
 nothingBytes a = []
 
+-- a confirmation, a due record with its state, the cursor
+abbrev pub placedBytes : Id × (ℕ × Id) → Bytes
+placedBytes x = x .0 ++ (be 4 (x .1 .0) ++ x .1 .1)
+
+abbrev pub dueBytes : Id × ℕ → Bytes
+dueBytes x = x .0 ++ be 1 (x .1)
+
+abbrev pub cursorBytes : Queue → Bytes
+cursorBytes q = be 4 (q .cursor) ++ flagged (λ i. i) (q .tip)
+
 -- ---- changing calls
-
--- what a changing call gives back, and leaves in the next area and the output
-pub record Outcome : Type 0 where
-  pub answer : Answer
-  pub next : Bytes
-  pub out : Bytes
-
-abbrev pub outcome : Answer → Bytes → Bytes → Outcome
-outcome a n o = record { answer = a; next = n; out = o }
-
-abbrev pub refuse : ℕ → Bytes → Bytes → Outcome
-refuse n next out = outcome (Refused n) next out
-
--- "0 nothing, next untouched"
-abbrev pub nextArea : Kind → Queue → Bytes → Bytes
-nextArea Nothing q next = next
-nextArea Memory q next = over (areaBytes q) next
-nextArea Whole q next = over (areaBytes q) next
-nextArea Cursor q next = over (areaBytes q) next
-
--- "output shorter than the answer" is 4, after all other refusals of the call
-abbrev pub told : {A : Type 0} → (A → Bytes) → Bytes → Bytes → Out A → Outcome
-told bytes next out (refused n) = refuse n next out
-told bytes next out (done k q a) =
-    cond (ltb (length out) (length (bytes a))) (refuse 4 next out) (outcome (Done k) (nextArea k q next) (over (bytes a) out))
-
--- 3: "lent queue area not sound by docs/AREA.md"; 2: "area to write shorter than needed"
-abbrev pub onQueue : Bytes → Bytes → (Queue → Outcome) → Option Queue → Outcome
-onQueue next out f none = refuse 3 next out
-onQueue next out f (some q) = cond (ltb (length next) (need (q .limits))) (refuse 2 next out) (f q)
-
-abbrev pub changing : Bytes → Bytes → Bytes → (Queue → Outcome) → Outcome
-changing cur next out f = onQueue next out f (readArea cur)
 
 pub record AdmitArgs : Type 0 where
   pub id : Bytes
@@ -141,25 +129,7 @@ pub record AdmitArgs : Type 0 where
 
 -- in the order of docs/CALLS.md
 abbrev pub admitArgs : Bytes → Bytes → Bytes → Bytes → ℕ → ℕ → ℕ → ℕ → ℕ → ℕ → ℕ → Bytes → ℕ → ℕ → ℕ → ℕ → Bytes → AdmitArgs
-admitArgs id inputs outputs bytes now timeFlag time heightFlag height priority labelFlag label fee cost tipHeight tipFlag tip = record {
-  id = id;
-  inputs = inputs;
-  outputs = outputs;
-  bytes = bytes;
-  now = now;
-  timeFlag = timeFlag;
-  time = time;
-  heightFlag = heightFlag;
-  height = height;
-  priority = priority;
-  labelFlag = labelFlag;
-  label = label;
-  fee = fee;
-  cost = cost;
-  tipHeight = tipHeight;
-  tipFlag = tipFlag;
-  tip = tip;
-}
+admitArgs id inputs outputs bytes now timeFlag time heightFlag height priority labelFlag label fee cost tipHeight tipFlag tip = record { id = id; inputs = inputs; outputs = outputs; bytes = bytes; now = now; timeFlag = timeFlag; time = time; heightFlag = heightFlag; height = height; priority = priority; labelFlag = labelFlag; label = label; fee = fee; cost = cost; tipHeight = tipHeight; tipFlag = tipFlag; tip = tip }
 
 abbrev pub admission : AdmitArgs → Admission
 admission a = record {
@@ -176,26 +146,6 @@ admission a = record {
   tip = given (a .tipFlag) (a .tip);
 }
 
-abbrev pub admitShape? : AdmitArgs → Bool
-admitShape? a =
-    (id? (a .id) && (whole? 32 (a .inputs) && whole? 32 (a .outputs)))
-    && ((flag? (a .timeFlag) && flag? (a .heightFlag)) && (flag? (a .labelFlag) && givenId? (a .tipFlag) (a .tip)))
-
--- 6: "over K inputs or outputs"
-abbrev pub overK? : ℕ → AdmitArgs → Bool
-overK? K a = ltb K (length (a .inputs) / 32) || ltb K (length (a .outputs) / 32)
-
-unfoldable pub admitOf : Bytes → Bytes → Bytes → AdmitArgs → Outcome
-admitOf cur next out a =
-    changing cur next out λ q.
-    cond (admitShape? a) (cond (overK? (q .limits .K) a) (refuse 6 next out) (told entryBytes next out (admit (admission a) q))) (refuse 5 next out)
-
-unfoldable pub cancelOf : Bytes → Bytes → Bytes → Bytes → Outcome
-cancelOf cur next out id = changing cur next out λ q. cond (id? id) (told entryBytes next out (cancel id q)) (refuse 5 next out)
-
-unfoldable pub expireOf : Bytes → Bytes → Bytes → ℕ → ℕ → Outcome
-expireOf cur next out now height = changing cur next out λ q. told idsBytes next out (expire now height q)
-
 pub record ReconcileArgs : Type 0 where
   pub height : ℕ
   pub tip : Bytes
@@ -211,8 +161,8 @@ reconcileArgs height tip applied caughtUp available window = record { height = h
 abbrev pub appliedOf : Bytes → Applied
 appliedOf s = record { id = take 32 s; height = beVal (take 4 (drop 32 s)); block = drop 36 s }
 
-abbrev pub reconciling : ReconcileArgs → Reconciling
-reconciling a = record {
+abbrev pub reconciliation : ReconcileArgs → Reconciling
+reconciliation a = record {
   height = a .height;
   tip = a .tip;
   applied = map appliedOf (items 68 (a .applied));
@@ -221,158 +171,143 @@ reconciling a = record {
   window = a .window;
 }
 
-abbrev pub reconcileShape? : ReconcileArgs → Bool
-reconcileShape? a =
+-- "admissions, cancellations, expiries, reconciliations, reopenings and cursor settings", with their arguments
+pub data Call : Type 0 where
+  admitting : AdmitArgs → Call
+  cancelling : Bytes → Call
+  expiring : ℕ → ℕ → Call
+  reconciling : ReconcileArgs → Call
+  reopening : Bytes → Call
+  settingCursor : ℕ → ℕ → Bytes → Call
+
+-- 5
+abbrev pub shape? : Call → Bool
+shape? (admitting a) =
+    (id? (a .id) && (whole? 32 (a .inputs) && whole? 32 (a .outputs)))
+    && ((flag? (a .timeFlag) && flag? (a .heightFlag)) && (flag? (a .labelFlag) && givenId? (a .tipFlag) (a .tip)))
+shape? (cancelling i) = id? i
+shape? (expiring now height) = true
+shape? (reconciling a) =
     (id? (a .tip) && flag? (a .caughtUp))
-    && ((whole? 68 (a .applied) && rise? (map (take 32) (items 68 (a .applied)))) && (whole? 32 (a .available) && rise? (items 32 (a .available))))
+    && ((whole? 68 (a .applied) && rise? (map (take 32) (items 68 (a .applied)))) && idList? (a .available))
+shape? (reopening ids) = idList? ids
+shape? (settingCursor height flag tip) = givenId? flag tip
 
-unfoldable pub reconcileOf : Bytes → Bytes → Bytes → ReconcileArgs → Outcome
-reconcileOf cur next out a =
-    changing cur next out λ q. cond (reconcileShape? a) (told releasedBytes next out (reconcile (reconciling a) q)) (refuse 5 next out)
+-- 6: "over K inputs or outputs"
+abbrev pub overK? : ℕ → AdmitArgs → Bool
+overK? K a = ltb K (length (a .inputs) / 32) || ltb K (length (a .outputs) / 32)
 
--- reopening and cursor setting have no output: their answer is the kind
-abbrev pub idList? : Bytes → Bool
-idList? ids = whole? 32 ids && rise? (items 32 ids)
+-- "Each answer, kind and next it works out from its own queue, by this paper's rules and refusals", from the lengths of what is
+-- lent: the answer, the next queue, and the answer's bytes
+pub record Worked : Type 0 where
+  pub answer : Answer
+  pub next : Queue
+  pub bytes : Bytes
 
-unfoldable pub reopenOf : Bytes → Bytes → Bytes → Outcome
-reopenOf cur next ids =
-    changing cur next [] λ q. cond (idList? ids) (told nothingBytes next [] (reopen (items 32 ids) q)) (refuse 5 next [])
+abbrev pub refusing : ℕ → Queue → Worked
+refusing n q = record { answer = Refused n; next = q; bytes = [] }
 
-unfoldable pub setCursorOf : Bytes → Bytes → ℕ → ℕ → Bytes → Outcome
-setCursorOf cur next height flag tip =
-    changing cur next [] λ q. cond (givenId? flag tip) (told nothingBytes next [] (setCursor height (given flag tip) q)) (refuse 5 next [])
+-- 4 comes last: "output shorter than the answer"
+abbrev pub worked : {A : Type 0} → (A → Bytes) → Queue → ℕ → Out A → Worked
+worked bytes q room (refused n) = refusing n q
+worked bytes q room (done k x a) = cond (ltb room (length (bytes a))) (refusing 4 q) (record { answer = Done k; next = x; bytes = bytes a })
 
--- the same beside an output that the call isn't lent
-abbrev pub withOut : Bytes → Outcome → Outcome
-withOut out o = outcome (o .answer) (o .next) out
+-- 6 and the call's own rules; reopening and cursor setting have no output: their answer is the kind
+abbrev pub rules : Call → Queue → ℕ → Worked
+rules (admitting a) q room = cond (overK? (q .limits .K) a) (refusing 6 q) (worked entryBytes q room (admit (admission a) q))
+rules (cancelling i) q room = worked entryBytes q room (cancel i q)
+rules (expiring now height) q room = worked idsBytes q room (expire now height q)
+rules (reconciling a) q room = worked releasedBytes q room (reconcile (reconciliation a) q)
+rules (reopening ids) q room = worked nothingBytes q room (reopen (items 32 ids) q)
+rules (settingCursor height flag tip) q room = worked nothingBytes q room (setCursor height (given flag tip) q)
+
+-- 2: "area to write shorter than needed"; 5; then 6 and the rules
+unfoldable pub work : Call → Queue → ℕ → ℕ → Worked
+work c q lent room = cond (ltb lent (need (q .limits))) (refusing 2 q) (cond (shape? c) (rules c q room) (refusing 5 q))
+
+-- "0 nothing, next untouched"
+abbrev pub nextArea : Answer → Queue → Bytes → Bytes
+nextArea (Refused n) q next = next
+nextArea (Done Nothing) q next = next
+nextArea (Done Memory) q next = over (areaBytes q) next
+nextArea (Done Whole) q next = over (areaBytes q) next
+nextArea (Done Cursor) q next = over (areaBytes q) next
+
+abbrev pub onLent : Bytes → Bytes → Worked → Answer × (Bytes × Bytes)
+onLent next out w = (w .answer, (nextArea (w .answer) (w .next) next, over (w .bytes) out))
+
+-- A changing call on the bytes of the current area, the next area and the output: its answer, and what it leaves in the last two.
+-- 3: "lent queue area not sound by docs/AREA.md"
+unfoldable pub callOf : Call → Bytes → Bytes → Bytes → Answer × (Bytes × Bytes)
+callOf c cur next out = maybe (Refused 3, (next, out)) (λ q. onLent next out (work c q (length next) (length out))) (readArea cur)
 
 -- ---- fresh queues and settling
 
--- what a call that writes one area gives back, and leaves there
-pub record Written : Type 0 where
-  pub answer : Answer
-  pub area : Bytes
-
-abbrev pub written : Answer → Bytes → Written
-written a s = record { answer = a; area = s }
+-- a queue into a lent area: the answer, and what is left there
+abbrev pub putQueue : Answer → Queue → Bytes → Answer × Bytes
+putQueue a q area = cond (ltb (length area) (need (q .limits))) (Refused 2, area) (a, over (areaBytes q) area)
 
 -- "A fresh queue has persisted 0."
 abbrev pub fresh : Limits → Queue
 fresh m = record { persisted = 0; limits = m; revision = 0; cursor = 0; tip = none; counter = 0; recs = [] }
 
-unfoldable pub freshOf : Limits → Bytes → Written
-freshOf m area =
-    cond (inRange m)
-    (cond (ltb (length area) (need m)) (written (Refused 2) area) (written (Done Nothing) (over (areaBytes (fresh m)) area)))
-    (written (Refused 1) area)
+unfoldable pub freshOf : Limits → Bytes → Answer × Bytes
+freshOf m area = cond (inRange m) (putQueue (Done Nothing) (fresh m) area) (Refused 1, area)
 
 unfoldable pub soundOf : Bytes → Answer
 soundOf area = cond (isSome (readArea area)) (Done Nothing) (Refused 3)
-
--- "failed kind 2 makes it the current queue, and only there settling can give 2, by the current limits"
-abbrev pub settleBack : Queue → Bytes → Written
-settleBack q next = cond (ltb (length next) (need (q .limits))) (written (Refused 2) next) (written (Refused 17) (over (areaBytes q) next))
 
 -- "kind 2 or 3, and outcome 0 kept or 1 failed"
 abbrev pub settleShape? : ℕ → ℕ → Bool
 settleShape? kind outcome = (eqb kind 2 || eqb kind 3) && leb outcome 1
 
 -- "Kept leaves it"; "failed kind 3 gives it the current persisted height"
-abbrev pub settleNext : Queue → Bytes → ℕ → ℕ → Option Queue → Written
-settleNext q next kind outcome none = written (Refused 3) next
-settleNext q next kind outcome (some x) =
+abbrev pub settleNext : Queue → Bytes → ℕ → ℕ → Queue → Answer × Bytes
+settleNext q next kind outcome x =
     cond (settleShape? kind outcome)
-    (cond (eqb outcome 0) (written (Done Nothing) next) (written (Refused 17) (over (areaBytes (moved (q .persisted) (x .cursor) (x .tip) x)) next)))
-    (written (Refused 5) next)
+    (cond (eqb outcome 0) (Done Nothing, next) (Refused 17, over (areaBytes (moved (q .persisted) (x .cursor) (x .tip) x)) next))
+    (Refused 5, next)
 
-abbrev pub settleRead : Bytes → ℕ → ℕ → Option Queue → Written
-settleRead next kind outcome none = written (Refused 3) next
-settleRead next kind outcome (some q) =
-    cond (eqb kind 2 && eqb outcome 1) (settleBack q next) (settleNext q next kind outcome (readArea next))
-
-unfoldable pub settleOf : Bytes → Bytes → ℕ → ℕ → Written
-settleOf cur next kind outcome = settleRead next kind outcome (readArea cur)
+-- "failed kind 2 makes it the current queue, and only there settling can give 2, by the current limits"
+unfoldable pub settleOf : Bytes → Bytes → ℕ → ℕ → Answer × Bytes
+settleOf cur next kind outcome =
+    maybe (Refused 3, next)
+    (λ q. cond (eqb kind 2 && eqb outcome 1) (putQueue (Refused 17) q next) (maybe (Refused 3, next) (settleNext q next kind outcome) (readArea next)))
+    (readArea cur)
 
 -- ---- reading calls
 
-abbrev pub toldOut : Bytes → Bytes → Written
-toldOut bytes out = cond (ltb (length out) (length bytes)) (written (Refused 4) out) (written (Done Nothing) (over bytes out))
+-- bytes into an output: the answer, and what is left there
+abbrev pub toldOut : Bytes → Bytes → Answer × Bytes
+toldOut bytes out = cond (ltb (length out) (length bytes)) (Refused 4, out) (Done Nothing, over bytes out)
 
-abbrev pub readQueue : Bytes → (Queue → Written) → Option Queue → Written
-readQueue out f none = written (Refused 3) out
-readQueue out f (some q) = f q
+-- a call that answers bytes of the queue
+unfoldable pub readOf : (Queue → Bytes) → Bytes → Bytes → Answer × Bytes
+readOf f area out = maybe (Refused 3, out) (λ q. toldOut (f q) out) (readArea area)
 
-abbrev pub reads : Bytes → Bytes → (Queue → Written) → Written
-reads area out f = readQueue out f (readArea area)
+-- a call that answers a number, behind a reference
+unfoldable pub numberOf : (Queue → ℕ) → Bytes → ℕ → Answer × ℕ
+numberOf f area old = maybe (Refused 3, old) (λ q. (Done Nothing, f q)) (readArea area)
 
-abbrev pub toldEntry : Bytes → Option Rec → Written
-toldEntry out none = written (Refused 13) out
-toldEntry out (some r) = toldOut (entryBytes r) out
+-- a call about one id: 5, 13
+abbrev pub lookUp : {A : Type 0} → Bytes → Bytes → A → (Queue → Rec → Answer × A) → Answer × A
+lookUp area id old f =
+    maybe (Refused 3, old) (λ q. cond (id? id) (maybe (Refused 13, old) (f q) (find (named? id) (q .recs))) (Refused 5, old)) (readArea area)
 
-unfoldable pub entryOf : Bytes → Bytes → Bytes → Written
-entryOf area id out = reads area out λ q. cond (id? id) (toldEntry out (reading.entry id q)) (written (Refused 5) out)
+unfoldable pub entryOf : Bytes → Bytes → Bytes → Answer × Bytes
+entryOf area id out = lookUp area id out (λ q r. toldOut (entryBytes r) out)
 
-unfoldable pub selectionAtOf : Bytes → ℕ → ℕ → Bytes → Written
-selectionAtOf area now height out = reads area out λ q. toldOut (idsBytes (reading.selectionAt now height q)) out
+-- "A record's signed bytes are handed back as a part of the lent area (13 for a tombstone)": they end where the record's frame ends
+abbrev pub endOf : Id → List Rec → ℕ
+endOf i [] = 0
+endOf i (r ∷ l) = length (recBytes r) + cond (named? i r) 0 (endOf i l)
 
-unfoldable pub recordIdsOf : Bytes → Bytes → Written
-recordIdsOf area out = reads area out λ q. toldOut (idsBytes (reading.recordIds q)) out
+-- where the part starts, counted from the area's start, and how long it is
+unfoldable pub signedPart : Id → Queue → Held → ℕ × ℕ
+signedPart i q h = (4 + length (headBytes q) + endOf i (q .recs) - length (h .bytes), length (h .bytes))
 
-unfoldable pub guardedIdsOf : Bytes → Bytes → Written
-guardedIdsOf area out = reads area out λ q. toldOut (idsBytes (reading.guardedIds q)) out
+unfoldable pub signedBytesOf : Bytes → Bytes → ℕ × ℕ → Answer × (ℕ × ℕ)
+signedBytesOf area id old = lookUp area id old (λ q r. maybe (Refused 13, old) (λ h. (Done Nothing, signedPart id q h)) (r .body))
 
-unfoldable pub reservedInputsOf : Bytes → Bytes → Written
-reservedInputsOf area out = reads area out λ q. toldOut (idsBytes (reading.reservedInputs q)) out
-
-unfoldable pub reservationSnapshotOf : Bytes → Bytes → Written
-reservationSnapshotOf area out = reads area out λ q. toldOut (be 8 (q .revision) ++ idsBytes (reading.reservedInputs q)) out
-
-unfoldable pub guardSnapshotOf : Bytes → Bytes → Written
-guardSnapshotOf area out = reads area out λ q. toldOut (idsBytes (reading.guardedIds q) ++ idsBytes (reading.reservedInputs q)) out
-
-unfoldable pub listOf : Bytes → Bytes → Written
-listOf area out = reads area out λ q. toldOut (be 4 (length (q .recs)) ++ concat (map entryBytes (q .recs))) out
-
-unfoldable pub dueOf : Bytes → ℕ → ℕ → Bytes → Written
-dueOf area now height out =
-    reads area out λ q. toldOut (be 4 (length (reading.due now height q)) ++ concat (map (λ x. x .0 ++ be 1 (x .1)) (reading.due now height q))) out
-
-unfoldable pub confirmationsOf : Bytes → Bytes → Written
-confirmationsOf area out =
-    reads area out λ q.
-    toldOut (be 4 (length (reading.confirmations q)) ++ concat (map (λ x. x .0 ++ (be 4 (x .1 .0) ++ x .1 .1)) (reading.confirmations q))) out
-
-unfoldable pub observationCursorOf : Bytes → Bytes → Written
-observationCursorOf area out = reads area out λ q. toldOut (be 4 (q .cursor) ++ flagged (λ i. i) (q .tip)) out
-
--- a number behind a reference: the answer, and what stands there
-abbrev pub Numbered : Type 0
-Numbered = Answer × ℕ
-
-abbrev pub numberOf : (Queue → ℕ) → ℕ → Option Queue → Numbered
-numberOf f old none = (Refused 3, old)
-numberOf f old (some q) = (Done Nothing, f q)
-
-unfoldable pub revisionOf : Bytes → ℕ → Numbered
-revisionOf area old = numberOf (λ q. q .revision) old (readArea area)
-
-unfoldable pub isEmptyOf : Bytes → ℕ → Numbered
-isEmptyOf area old = numberOf (λ q. one (reading.isEmpty? (q .recs))) old (readArea area)
-
-unfoldable pub deadlineDueOf : Bytes → ℕ → ℕ → ℕ → Numbered
-deadlineDueOf area now height old = numberOf (λ q. one (reading.deadlineDue? now height q)) old (readArea area)
-
-unfoldable pub observedHeightOf : Bytes → ℕ → Numbered
-observedHeightOf area old = numberOf (λ q. q .cursor) old (readArea area)
-
--- signed bytes: the answer, and the part of the area that holds them
-abbrev pub toldPart : Option Bytes → Answer × Bytes
-toldPart none = (Refused 13, [])
-toldPart (some s) = (Done Nothing, s)
-
-abbrev pub partOf : Bytes → Option Queue → Answer × Bytes
-partOf id none = (Refused 3, [])
-partOf id (some q) = cond (id? id) (toldPart (reading.signedBytes id q)) (Refused 5, [])
-
-unfoldable pub signedBytesOf : Bytes → Bytes → Answer × Bytes
-signedBytesOf area id = partOf id (readArea area)
+unfoldable pub selectionAtOf : Bytes → ℕ → ℕ → Bytes → Answer × Bytes
+selectionAtOf area now height out = readOf (λ q. idsBytes (selectionAt now height q)) area out

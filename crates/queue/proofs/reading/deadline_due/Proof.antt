@@ -6,7 +6,6 @@ use lib.ListN.{length, take, drop}
 use borrow.Author.Tests.{not-true, not-false}
 use Rattle.queue.specs.paper.Lists.{one}
 use Rattle.queue.specs.paper.Reading.{deadlineDue?}
-use Rattle.queue.specs.paper.Calls.{deadlineDueOf}
 use Rattle.queue.specs.paper.Lists.{any?}
 use Rattle.queue.specs.paper.Changing.{due?}
 use lib.Dec.{ltb}
@@ -24,7 +23,6 @@ area-at-requires : tie.Need-area-at-requires
 area-at-requires c κs = search needs
 
 returns : tie.Need-returns
-unfolding deadlineDueOf
 returns c = number-3 (λ q. one (deadlineDue? (c .before .before .before .before .args .time .0) (c .before .before .before .before .args .height .0) q)) (c .before .before .before .before .args .area .now) (c .before .before .before .before .args .value .now) (c .before .before .area-at .ensures) (not-true _ (c .if1 .taken))
 
 tally-requires : tie.Need-tally-requires
@@ -34,7 +32,7 @@ one-if-requires : tie.Need-one-if-requires
 one-if-requires c κs = search needs
 
 returns-2 : tie.Need-returns-2
-unfolding deadlineDueOf deadlineDue?
+unfolding deadlineDue?
 returns-2 c = number-100 (λ q. one (deadlineDue? (c .before .before .before .before .before .before .before .before .args .time .0) (c .before .before .before .before .before .before .before .before .args .height .0) q)) (c .before .before .before .before .before .before .before .before .args .area .now) (c .before .before .before .before .before .before .before .before .args .value .now) (c .before .before .before .before .before .before .area-at .ensures) (not-false _ (c .before .before .before .before .if1 .left)) (λ q a. c .one-if .ensures .0 ∙ ap (λ n. one (ltb 0 n)) (c .before .tally .ensures .0) ∙ ap one (due-sum (c .before .before .before .before .before .before .before .before .args .time) (c .before .before .before .before .before .before .before .before .args .height) _) ∙ ap (λ l. one (any? (due? (c .before .before .before .before .before .before .before .before .args .time .0) (c .before .before .before .before .before .before .before .before .args .height .0)) l)) (a .store .list))
 
 pub deadline-due-spec : {M : Type 1} → statement M

@@ -17,7 +17,7 @@ use Rattle.queue.proofs.frame.rec_at.Reads as rec-at-reads
 use Rattle.queue.proofs.view.cmp_id.Reads as cmp-id-reads
 
 abbrev Inv-loop : tie.InvT-loop
-Inv-loop s at n id i₀ left₀ i left = Scan (formC false recC) (findF id) s n at tt i left tt
+Inv-loop s at n id i₀ left₀ i left = Scan (formC false recC) (findF id) s n at at i left i
 
 abbrev μ-loop : tie.MeasureT-loop
 μ-loop s at n id i₀ left₀ i left = left

@@ -6,7 +6,6 @@ use lib.ListN.{length, take, drop}
 use borrow.Author.Tests.{not-true, not-false}
 use Rattle.queue.specs.paper.Lists.{one}
 use Rattle.queue.specs.paper.Reading.{isEmpty?}
-use Rattle.queue.specs.paper.Calls.{isEmptyOf}
 use Rattle.queue.proofs.ReadingLaws.{number-3, number-100, empty-is}
 use borrow.Author.Needs.{needs}
 use Rattle.queue.proofs.reading.is_empty.Statement.{statement}
@@ -20,14 +19,12 @@ area-at-requires : tie.Need-area-at-requires
 area-at-requires c κs = search needs
 
 returns : tie.Need-returns
-unfolding isEmptyOf
 returns c = number-3 (λ q. one (isEmpty? (q .recs))) (c .before .before .before .before .args .area .now) (c .before .before .before .before .args .value .now) (c .before .before .area-at .ensures) (not-true _ (c .if1 .taken))
 
 one-if-requires : tie.Need-one-if-requires
 one-if-requires c κs = search needs
 
 returns-2 : tie.Need-returns-2
-unfolding isEmptyOf
 returns-2 c = number-100 (λ q. one (isEmpty? (q .recs))) (c .before .before .before .before .before .before .before .before .args .area .now) (c .before .before .before .before .before .before .before .before .args .value .now) (c .before .before .before .before .before .before .area-at .ensures) (not-false _ (c .before .before .before .before .if1 .left)) (λ q a. c .one-if .ensures .0 ∙ empty-is (q .recs) (a .store .count))
 
 pub is-empty-spec : {M : Type 1} → statement M

@@ -4,7 +4,6 @@ use mathlib.Core.Bool.{Bool, true, false, _&&_}
 use Prim.Native.Nat.{ℕ, _≤_, _+_, _-_, _*_, _<_}
 use lib.ListN.{length, take, drop}
 use borrow.Author.Tests.{not-true, not-false}
-use Rattle.queue.specs.paper.Calls.{observedHeightOf}
 use Rattle.queue.proofs.ReadingLaws.{number-3, number-100}
 use borrow.Author.Needs.{needs}
 use Rattle.queue.proofs.reading.observed_height.Statement.{statement}
@@ -17,11 +16,9 @@ area-at-requires : tie.Need-area-at-requires
 area-at-requires c κs = search needs
 
 returns : tie.Need-returns
-unfolding observedHeightOf
 returns c = number-3 (λ q. q .cursor) (c .before .before .before .before .args .area .now) (c .before .before .before .before .args .value .now) (c .before .before .area-at .ensures) (not-true _ (c .if1 .taken))
 
 returns-2 : tie.Need-returns-2
-unfolding observedHeightOf
 returns-2 c = number-100 (λ q. q .cursor) (c .before .before .before .before .before .before .before .args .area .now) (c .before .before .before .before .before .before .before .args .value .now) (c .before .before .before .before .before .area-at .ensures) (not-false _ (c .before .before .before .if1 .left)) (λ q a. sym (a .store .head .cursor))
 
 pub observed-height-spec : {M : Type 1} → statement M

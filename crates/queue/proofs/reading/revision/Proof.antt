@@ -4,7 +4,6 @@ use mathlib.Core.Bool.{Bool, true, false, _&&_}
 use Prim.Native.Nat.{ℕ, _≤_, _+_, _-_, _*_, _<_}
 use lib.ListN.{length, take, drop}
 use borrow.Author.Tests.{not-true, not-false}
-use Rattle.queue.specs.paper.Calls.{revisionOf}
 use Rattle.queue.proofs.ReadingLaws.{number-3, number-100}
 use borrow.Author.Needs.{needs}
 use Rattle.queue.proofs.reading.revision.Statement.{statement}
@@ -17,11 +16,9 @@ area-at-requires : tie.Need-area-at-requires
 area-at-requires c κs = search needs
 
 returns : tie.Need-returns
-unfolding revisionOf
 returns c = number-3 (λ q. q .revision) (c .before .before .before .before .args .area .now) (c .before .before .before .before .args .value .now) (c .before .before .area-at .ensures) (not-true _ (c .if1 .taken))
 
 returns-2 : tie.Need-returns-2
-unfolding revisionOf
 returns-2 c = number-100 (λ q. q .revision) (c .before .before .before .before .before .before .args .area .now) (c .before .before .before .before .before .before .args .value .now) (c .before .before .before .before .area-at .ensures) (not-false _ (c .before .before .if1 .left)) (λ q a. sym (a .store .head .revision))
 
 pub revision-spec : {M : Type 1} → statement M

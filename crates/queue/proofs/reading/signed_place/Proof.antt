@@ -25,12 +25,15 @@ rec-at-requires c κs = search needs
 returns-2 : tie.Need-returns-2
 returns-2 c = place-tomb (c .before .before .before .before .before .before .before .before .before .args .area .now) (c .before .before .before .before .before .before .before .before .before .args .id .now) (c .before .before .before .before .before .before .look .ensures) (c .before .before .before .before .if1 .left) (c .before .before .before .rec-at .ensures) (not-true _ (c .if2 .taken))
 
-add-t12 : tie.Need-add-t12
-add-t12 c = let w = place-within (c .before .before .before .before .before .before .before .before .before .before .args .area .now) (c .before .before .before .before .before .before .before .before .before .before .args .id .now) (c .before .before .before .before .before .before .before .look .ensures) (c .before .before .before .before .before .if1 .left) (c .before .before .before .before .rec-at .ensures) in omega (arith, w .0, w .1)
+sub-t13 : tie.Need-sub-t13
+sub-t13 c = let w = place-within (c .before .before .before .before .before .before .before .before .before .before .args .area .now) (c .before .before .before .before .before .before .before .before .before .before .args .id .now) (c .before .before .before .before .before .before .before .look .ensures) (c .before .before .before .before .before .if1 .left) (c .before .before .before .before .rec-at .ensures) in omega (arith, w .1)
+
+add-t14 : tie.Need-add-t14
+add-t14 c = let w = place-within (c .before .before .before .before .before .before .before .before .before .before .args .area .now) (c .before .before .before .before .before .before .before .before .before .before .args .id .now) (c .before .before .before .before .before .before .before .look .ensures) (c .before .before .before .before .before .if1 .left) (c .before .before .before .before .rec-at .ensures) in omega (arith, w .1, w .2)
 
 returns-3 : tie.Need-returns-3
-returns-3 c = place-held (c .before .before .before .before .before .before .before .before .before .before .args .area .now) (c .before .before .before .before .before .before .before .before .before .before .args .id .now) (c .before .before .before .before .before .before .before .look .ensures) (c .before .before .before .before .before .if1 .left) (c .before .before .before .before .rec-at .ensures) (not-false _ (c .before .if2 .left))
+returns-3 c = place-held (c .before .before .before .before .before .before .before .before .before .before .args .area .now) (c .before .before .before .before .before .before .before .before .before .before .args .id .now) (c .before .before .before .before .before .before .before .look .ensures) (c .before .before .before .before .before .if1 .left) (c .before .before .before .before .rec-at .ensures) refl (not-false _ (c .before .if2 .left))
 
 pub signed-place-spec : {M : Type 1} → statement M
 signed-place-spec =
-    tie.close (tie.spec look-requires returns rec-at-requires returns-2 add-t12 returns-3)
+    tie.close (tie.spec look-requires returns rec-at-requires returns-2 sub-t13 add-t14 returns-3)
