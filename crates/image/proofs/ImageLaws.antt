@@ -28,14 +28,14 @@ use Rattle.queue.specs.Plain.{area-plain, image-plain}
 use Rattle.queue.specs.Bound.{fits-need, area-size, reads-image}
 use Rattle.queue.specs.paper.Records.{Bytes, Limits, Queue}
 use Rattle.queue.specs.paper.Sound.{need, sound?}
-use Rattle.queue.specs.paper.Area.{areaBytes, over}
+use Rattle.queue.specs.paper.Area.{areaBytes, imageBytes, over}
 use Rattle.queue.specs.Checked.{written}
 use Rattle.queue.proofs.PutLaws.{splice-is, then, kept, recast, sized, Left, begun, onward, done}
 use Rattle.queue.proofs.ByteLaws.{be-same}
 use Rattle.queue.proofs.Turns.{SeenIn, ReadsRec}
 use Rattle.image.specs.declared.text.Text.{Text}
 use Rattle.image.specs.Texts.{turned, turnedLen, TextAs, TextIs, StoreRoom, StorePut, AreaHeld, ImageLen, AreaRoom, AreaPut}
-use Rattle.image.specs.paper.Image.{imageBytes, imaged, imageOf, openOf}
+use Rattle.image.specs.paper.Image.{imageOf, openOf}
 
 -- ---- a text
 same-limits : (m : Limits) {p b t k : ℕ} → m .P ≡ p → m .B ≡ b → m .T ≡ t → m .K ≡ k → m ≡ limits p b t k
@@ -241,14 +241,14 @@ put-over : {d d′ bs : Bytes} {n r : ℕ} → Put d 0 bs n r d′ → length bs
 put-over {d} {d′} {bs} p h = p .is ∙ over-splice bs d h
 
 module _ {s : Bytes} {a : Area} (w : AreaIs s a) (out : Bytes) (old : ℕ) where
-  pub write-unsound : a .ok ≡ false → imaged (Refused 3) out old ≡ imageOf s out old
+  pub write-unsound : a .ok ≡ false → (Refused 3, (out, old)) ≡ imageOf s out old
   unfolding imageOf
   write-unsound e = rw (w .bad e)
 
   pub write-held : a .ok ≡ true → AreaHeld a
   write-held t = let u = w .good t in record { area = s; queue = u .0; is = u .2 }
 
-  pub write-short : {n : ℕ} → a .ok ≡ true → ImageLen a n → length out < n → imaged (Refused 4) out old ≡ imageOf s out old
+  pub write-short : {n : ℕ} → a .ok ≡ true → ImageLen a n → length out < n → (Refused 4, (out, old)) ≡ imageOf s out old
   unfolding imageOf
   write-short {n} t l h = let u = w .good t in let e = l s (u .0) (u .2) in rw (u .1, ← e, lt-ltb (length out) n h)
 
@@ -259,14 +259,14 @@ module _ {s : Bytes} {a : Area} (w : AreaIs s a) (out : Bytes) (old : ℕ) where
       let k = ap length (image-is (u .0)) in
       record { store = storeOf (u .0); is = u .2 .store; here = start-four (u .2 .store) .1; room = omega arith }
 
-  pub write-done : {n r : ℕ} {out′ : Bytes} → a .ok ≡ true → ImageLen a n → n ≤ length out → StorePut false s 4 (a .open) out 0 r out′ → imaged (Done Nothing) out′ n ≡ imageOf s out old
+  pub write-done : {n r : ℕ} {out′ : Bytes} → a .ok ≡ true → ImageLen a n → n ≤ length out → StorePut false s 4 (a .open) out 0 r out′ → (Done Nothing, (out′, n)) ≡ imageOf s out old
   unfolding imageOf
   write-done {n} {r} {out′} t l h p =
       let u = w .good t in
       let e = l s (u .0) (u .2) in
       let k : out′ ≡ over (storeC true .enc (storeOf (u .0))) out = put-over (p (storeOf (u .0)) (u .2 .store)) (omega (arith, ap length (image-is (u .0)))) in
       let o : out′ ≡ over (imageBytes (u .0)) out = k ∙ ap (λ (b : Bytes). over b out) (image-is (u .0)) in
-      rw (u .1, ← e, le-ltb (length out) n h) (ap (λ (b : Bytes). imaged (Done Nothing) b n) o)
+      rw (u .1, ← e, le-ltb (length out) n h) (ap (λ (b : Bytes). (Done Nothing, (b, n))) o)
 
 -- ---- opening
 module _ {s : Bytes} {t : Text} {q : Queue} (w : TextAs s t q) where

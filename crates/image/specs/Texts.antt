@@ -12,8 +12,7 @@ use Rattle.queue.specs.declared.area.Open.{Open}
 use Rattle.queue.specs.declared.area.Area.{Area}
 use Rattle.queue.specs.paper.Records.{Bytes, Queue}
 use Rattle.queue.specs.paper.Sound.{need, sound?}
-use Rattle.queue.specs.paper.Area.{areaBytes}
-use Rattle.image.specs.paper.Image.{line, imageBytes}
+use Rattle.queue.specs.paper.Area.{areaBytes, line, imageBytes}
 use Rattle.image.specs.declared.text.Text.{Text}
 
 -- a frame that stands in digits is written as its bytes, one that stands as bytes as its line

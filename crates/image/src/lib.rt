@@ -12,7 +12,7 @@ ghost use mathlib.Core.Path.{_≡_};
 ghost use lib.ListN.{length};
 ghost use Rattle.queue.specs.Checked.{written};
 ghost use Rattle.image.specs.Texts.{AreaHeld, ImageLen, AreaRoom, AreaPut};
-ghost use Rattle.image.specs.paper.Image.{imaged, imageOf, openOf};
+ghost use Rattle.image.specs.paper.Image.{imageOf, openOf};
 
 pub mod frames;
 pub mod text;
@@ -29,7 +29,7 @@ pub fn image_len(a: Area) -> usize
 
 // The image writer. All that can refuse comes before the first byte is written.
 pub fn write(area: &[u8], out: &mut [u8], size: &mut u64) -> Answer
-    ensures { λ r. ⌜ imaged r (now (out .exit)) (now (size .exit)) ≡ imageOf (now (area .entry)) (now (out .entry)) (now (size .entry)) ⌝ }
+    ensures { λ r. ⌜ (r, (now (out .exit), now (size .exit))) ≡ imageOf (now (area .entry)) (now (out .entry)) (now (size .entry)) ⌝ }
 {
     let a = area_at(area);
     if !a.ok {

@@ -1,3 +1,2 @@
-pub mod Exports
 pub mod Machine
 pub mod Claim

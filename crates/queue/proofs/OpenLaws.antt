@@ -22,7 +22,7 @@ use Rattle.queue.specs.Rules.{rightF, weight, sum}
 use Rattle.queue.specs.Opens.{limits, StoreAs, heldOk, minedOk, soundL, sound-list, filledBy, FilledAs, AreaAs, AreaIs}
 use Rattle.queue.specs.paper.Records.{Bytes, Limits, Rec, Queue}
 use Rattle.queue.specs.paper.Lists.{one, all?}
-use Rattle.queue.specs.paper.Sound.{inRange, need, holders, heldBytes, minedHolders, minedBytes, tombstones, right?, counts?, rising?, distinct?, apart?, sound?}
+use Rattle.queue.specs.paper.Sound.{inRange, need, holders, holderBytes, minedHolders, minedBytes, tombstones, right?, counts?, rising?, distinct?, apart?, sound?}
 use Rattle.queue.specs.declared.frame.HeadR.{HeadR}
 use Rattle.queue.specs.declared.frame.Finish.{Finish}
 use Rattle.queue.specs.declared.area.Open.{Open}
@@ -70,7 +70,7 @@ pub holders-sum : (l : List Rec) → sum Holders l ≡ holders l
 unfolding sum weight factsOf
 holders-sum l = refl
 
-pub bytes-sum : (l : List Rec) → sum HeldBytes l ≡ heldBytes l
+pub bytes-sum : (l : List Rec) → sum HeldBytes l ≡ holderBytes l
 unfolding sum weight factsOf
 bytes-sum l = refl
 

@@ -97,8 +97,7 @@ module _ (z : Id) {s : Bytes} {n at i left : ℕ} (x : Scan (formC false recC) (
   find-stop {m} h r e = let t = seen false x h r in
       let f : _≡_ {A = Option Rec × ℕ} (some (t .item), i + (length (recBytes (t .item)) + 0)) (find (named? z) (listAt (formC false recC) n s at), at + endOf z (listAt (formC false recC) n s at)) = stop x t (rw (← (t .is .0 .id), eq-eqb _ _ e)) in
       let o = one-here s i (afterIn false s i m) (t .item) (t .here) in
-      let g : some (t .item) ≡ find (named? z) (listAt (formC false recC) n s at) = ap (λ p. p .0) f in
-      (
+      let g : some (t .item) ≡ find (named? z) (listAt (formC false recC) n s at) = ap (λ p. p .0) f in (
         record { good = λ _. (t .item, sym g, (x .within, o .0, o .1)); bad = λ e. false-true (sym e) },
         λ u _ v. let k : t .item ≡ u = some-same (g ∙ v) in ap (λ w. i + length (recBytes w)) (sym k) ∙ omega (arith, ap (λ p. p .1) f),
       )

@@ -12,12 +12,12 @@ use Rattle.queue.specs.Codec.{All, byteC, beC, pairC, mapC, optC, vecC, 
 use Rattle.queue.specs.Frames.{Head, tagC, idC, labelC, termsC, heldC, bodyC, placeC, recC, limitsC, headC}
 use Rattle.queue.specs.Forms.{headFor, storeOf, formC, storeC, framesC, queueC, ok-store}
 use Rattle.queue.specs.Areas.{layout, readArea, readImage, stands-reads, reads-stands, shows-reads, reads-shows}
-use Rattle.queue.specs.Plain.{area-plain, line, image-plain}
+use Rattle.queue.specs.Plain.{area-plain, image-plain}
 use Rattle.queue.specs.Sounds.{Right, sound-of, Fit, fit-of, fit-sound, fit-ok}
 use Rattle.queue.specs.paper.Records.{Bytes, Id, Terms, Held, Rec, Queue}
 use Rattle.queue.specs.paper.Lists.{isSome, one, map, concat}
-use Rattle.queue.specs.paper.Sound.{sound?, need, holder?, inputs, outputs, content, labelLen, holders, heldBytes, tombstones}
-use Rattle.queue.specs.paper.Area.{recBytes, headBytes, areaBytes, over}
+use Rattle.queue.specs.paper.Sound.{sound?, need, holder?, inputs, outputs, content, labelLen, holders, holderBytes, tombstones}
+use Rattle.queue.specs.paper.Area.{areaBytes, imageBytes, over}
 
 bytes-most : (s : Bytes) → vecMost byteC s ≡ length s
 unfolding byteC
@@ -75,7 +75,7 @@ rec-most K c r h s =
     let e = body-most K (r .body) (h .1 .1 .1 .1 .1 .1 .1 .1) (s .ins) (s .outs) in
     omega arith
 
-recs-most : (K c : ℕ) (l : List Rec) → All (recC .ok) l → All (Right K c) l → vecMost recC l ≤ 330 * (holders l + tombstones l) + holders l * (8 + 64 * K) + heldBytes l
+recs-most : (K c : ℕ) (l : List Rec) → All (recC .ok) l → All (Right K c) l → vecMost recC l ≤ 330 * (holders l + tombstones l) + holders l * (8 + 64 * K) + holderBytes l
 recs-most K c [] h s = omega arith
 recs-most K c (r ∷ l) h s =
     let i = recs-most K c l (h .1) (s .1) in
@@ -152,13 +152,10 @@ reads-size s q e =
     let z = area-size q (w .0) (w .1 .0) in
     omega (arith, simp length-append at (ap length (w .1 .1)))
 
-abbrev pub imageLines : Queue → Bytes
-imageLines q = line (headBytes q) ++ concat (map (λ r. line (recBytes r)) (q .recs))
+pub image-reads : (q : Queue) → sound? q ≡ true → queueC .ok q → q .persisted ≡ q .cursor → readImage (imageBytes q) ≡ some q
+image-reads q e o h = shows-reads (imageBytes q) q (record { sound = e; range = o; level = h; is = sym (image-plain q) })
 
-pub image-reads : (q : Queue) → sound? q ≡ true → queueC .ok q → q .persisted ≡ q .cursor → readImage (imageLines q) ≡ some q
-image-reads q e o h = shows-reads (imageLines q) q (record { sound = e; range = o; level = h; is = sym (image-plain q) })
-
-pub reads-image : (t : Bytes) (q : Queue) → readImage t ≡ some q → (sound? q ≡ true) × (queueC .ok q × ((q .persisted ≡ q .cursor) × (t ≡ imageLines q)))
+pub reads-image : (t : Bytes) (q : Queue) → readImage t ≡ some q → (sound? q ≡ true) × (queueC .ok q × ((q .persisted ≡ q .cursor) × (t ≡ imageBytes q)))
 reads-image t q e = let w = reads-shows t q e in (w .sound, (w .range, (w .level, w .is ∙ image-plain q)))
 
 -- ---- the same of a queue that fits
@@ -169,7 +166,7 @@ fit-stands q f later = stands q (fit-sound q f) (fit-ok q f) later
 pub fit-over : (q : Queue) → Fit q → (d : Bytes) → readArea (over (areaBytes q) d) ≡ some q
 fit-over q f d = over-reads q (fit-sound q f) (fit-ok q f) d
 
-pub fit-image : (q : Queue) → Fit q → q .persisted ≡ q .cursor → readImage (imageLines q) ≡ some q
+pub fit-image : (q : Queue) → Fit q → q .persisted ≡ q .cursor → readImage (imageBytes q) ≡ some q
 fit-image q f h = image-reads q (fit-sound q f) (fit-ok q f) h
 
 pub reads-fit : (s : Bytes) (q : Queue) → readArea s ≡ some q → Fit q

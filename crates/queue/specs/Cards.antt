@@ -5,16 +5,16 @@ use mathlib.Core.Option.{Option, none, some}
 use mathlib.Core.List.{List, [], _∷_, _++_}
 use Prim.Native.Nat.{ℕ, _+_}
 use lib.Dec.{eqb}
-use lib.ListN.{length, replicate}
+use lib.ListN.{length, take, replicate}
+use Rattle.queue.specs.declared.Answer.{Answer}
 use Rattle.queue.specs.Hex.{textOf, digOf}
-use Rattle.queue.specs.Bound.{imageLines}
-use Rattle.queue.specs.paper.Records.{Id, Limits, Rec, Queue}
+use Rattle.queue.specs.paper.Records.{Bytes, Id, Limits, Rec, Queue}
 use Rattle.queue.specs.paper.Lists.{all?, find}
 use Rattle.queue.specs.paper.Ids.{cmpL, same?}
 use Rattle.queue.specs.paper.Sound.{need, sound?, inRange, counts?, right?, rising?, distinct?, apart?, used?, clash?}
-use Rattle.queue.specs.paper.Area.{termsBytes, placeBytes, heldBytes, recBytes, headBytes, queueBytes, areaBytes}
+use Rattle.queue.specs.paper.Area.{termsBytes, placeBytes, heldBytes, recBytes, headBytes, queueBytes, areaBytes, imageBytes, over}
 use Rattle.queue.specs.paper.Changing.{Out, refused, done, named?, committed, moved, newRec, admit, finished, finishThose, forget, cancel, due?, expire, Applied, confirm, judged, touch, releases, released, reconcile, reopened, reopen, setCursor}
-use Rattle.queue.specs.paper.Calls.{kindNumber, fresh}
+use Rattle.queue.specs.paper.Calls.{kindNumber, number, fresh, settleNext}
 
 -- the number that a call gives back: a refusal's own, or 100 and the kind
 abbrev gives : {A : Type 0} → Out A → ℕ
@@ -52,10 +52,13 @@ releasedIn (done k q a) = length (a .1)
 abbrev limits : ℕ → ℕ → ℕ → ℕ → Limits
 limits P B T K = record { P = P; B = B; T = T; K = K }
 
--- an id of one byte, inputs, n signed bytes, time deadline and height deadline
+abbrev id : ℕ → Id
+id n = replicate 32 n
+
+-- an id, inputs, n signed bytes, time deadline and height deadline
 abbrev enterWith : List Id → ℕ → ℕ → ℕ → Option ℕ → Option ℕ → Queue → Out Rec
 enterWith ins i n now due dueHeight q = admit (record {
-  id = i ∷ [];
+  id = id i;
   now = now;
   due = due;
   dueHeight = dueHeight;
@@ -72,10 +75,10 @@ abbrev enter : ℕ → ℕ → ℕ → Option ℕ → Option ℕ → Queue → O
 enter = enterWith []
 
 abbrev watch : ℕ → ℕ → List Applied → Queue → Out (Bool × List Id)
-watch height window applied q = reconcile (record { height = height; tip = []; applied = applied; caughtUp = false; available = []; window = window }) q
+watch height window applied q = reconcile (record { height = height; tip = id 8; applied = applied; caughtUp = false; available = []; window = window }) q
 
 abbrev mined50 : ℕ → List Applied
-mined50 i = record { id = i ∷ []; height = 50; block = [] } ∷ []
+mined50 i = record { id = id i; height = 50; block = id 7 } ∷ []
 
 abbrev small : Queue
 small = fresh (limits 2 10 1 1)
@@ -83,7 +86,7 @@ small = fresh (limits 2 10 1 1)
 -- two Mined holders under P 2, the first with an input
 abbrev twoMined : Queue
 twoMined =
-    after (watch 50 100 (mined50 1 ++ mined50 2)) (after (enter 2 3 0 none none) (after (enterWith ((9 ∷ []) ∷ []) 1 3 0 none none) small))
+    after (watch 50 100 (mined50 1 ++ mined50 2)) (after (enter 2 3 0 none none) (after (enterWith (id 9 ∷ []) 1 3 0 none none) small))
 
 -- one record Mined at 50, kept by a window of 100
 abbrev confirmed : Queue
@@ -92,6 +95,10 @@ confirmed = after (watch 50 100 (mined50 1)) (after (enter 1 3 0 none none) smal
 -- its persisted height is 100
 abbrev at100 : Queue
 at100 = after (watch 100 100 []) confirmed
+
+-- settling as failed, kind 3, the queue that a reconciliation at 132 leaves
+abbrev settled : Answer × Bytes
+settled = let x = after (watch 132 100 []) at100 in settleNext at100 (areaBytes x) 3 1 x
 
 abbrev topRevision : Queue
 topRevision = record { persisted = 0; limits = limits 2 10 1 1; revision = 18446744073709551615; cursor = 0; tip = none; counter = 0; recs = [] }
@@ -137,27 +144,31 @@ cards =
     ∷ eqb (gives (watch 131 100 [] at100)) 101
     ∷ eqb (gives (watch 132 100 [] at100)) 103
     -- "Cancelled, confirmed, reopened: Cancelled."
-    ∷ is? 4 1 (1 ∷ []) (after (reopen ((1 ∷ []) ∷ [])) (after (watch 50 1 (mined50 1)) (after (cancel (1 ∷ [])) (after (enter 1 3 0 none none) small))))
+    ∷ is? 4 1 (id 1) (after (reopen (id 1 ∷ [])) (after (watch 50 1 (mined50 1)) (after (cancel (id 1)) (after (enter 1 3 0 none none) small))))
     -- "Released, reopened: 5, reason 3."
-    ∷ is? 5 3 (1 ∷ []) (after (reopen ((1 ∷ []) ∷ [])) (after (watch 50 0 []) confirmed))
+    ∷ is? 5 3 (id 1) (after (reopen (id 1 ∷ [])) (after (watch 50 0 []) confirmed))
     -- "T 1, two cancelled: the second remains."
-    ∷ is? 4 1 (1 ∷ []) (after (cancel (1 ∷ [])) (after (cancel (2 ∷ [])) (after (enter 2 3 0 none none) (after (enter 1 3 0 none none) small))))
-    ∷ absent? (2 ∷ []) (after (cancel (1 ∷ [])) (after (cancel (2 ∷ [])) (after (enter 2 3 0 none none) (after (enter 1 3 0 none none) small))))
+    ∷ is? 4 1 (id 1) (after (cancel (id 1)) (after (cancel (id 2)) (after (enter 2 3 0 none none) (after (enter 1 3 0 none none) small))))
+    ∷ absent? (id 2) (after (cancel (id 1)) (after (cancel (id 2)) (after (enter 2 3 0 none none) (after (enter 1 3 0 none none) small))))
     -- "Revision at top: 0."
     ∷ eqb (after (enter 1 3 0 none none) topRevision .revision) 0
     -- "Errors near to hand: counting Mined in refusal 10; dropping inputs at confirmation; taking zero bytes for a tombstone"
     ∷ eqb (gives (enter 3 3 0 none none twoMined)) 102
-    ∷ eqb (gives (enterWith ((9 ∷ []) ∷ []) 3 3 0 none none twoMined)) 12
-    ∷ eqb (gives (cancel (1 ∷ []) (after (enter 1 0 0 none none) small))) 102
+    ∷ eqb (gives (enterWith (id 9 ∷ []) 3 3 0 none none twoMined)) 12
+    ∷ eqb (gives (cancel (id 1) (after (enter 1 0 0 none none) small))) 102
+    -- "moving the persisted height on a failed write": a cursor write at 132 that failed leaves 100, and is due again
+    ∷ eqb (number (settled .0)) 17
+    ∷ same? (take 4 (settled .1)) (0 ∷ 0 ∷ 0 ∷ 100 ∷ [])
+    ∷ eqb (gives (watch 132 100 [] (moved 100 132 (some (id 8)) at100))) 103
     -- "Fresh with P 2, B 10, T 1, K 1, whole, 85 bytes": each digit's byte, and the end byte
-    ∷ same? (imageLines small)
+    ∷ same? (imageBytes small)
     ((48 ∷ 49 ∷ [])
     ++ ((48 ∷ 48 ∷ 48 ∷ 48 ∷ 48 ∷ 48 ∷ 48 ∷ 50 ∷ [])
     ++ ((48 ∷ 48 ∷ 48 ∷ 48 ∷ 48 ∷ 48 ∷ 48 ∷ 97 ∷ [])
     ++ ((48 ∷ 48 ∷ 48 ∷ 48 ∷ 48 ∷ 48 ∷ 48 ∷ 49 ∷ [])
     ++ ((48 ∷ 48 ∷ 48 ∷ 48 ∷ 48 ∷ 48 ∷ 48 ∷ 49 ∷ [])
     ++ (replicate 16 48 ++ (replicate 8 48 ++ (replicate 2 48 ++ (replicate 16 48 ++ (replicate 8 48 ++ (10 ∷ [])))))))))))
-    ∷ eqb (length (imageLines small)) 85
+    ∷ eqb (length (imageBytes small)) 85
     -- docs/AREA.md: "A fresh queue under P 2, B 10, T 1, K 1 needs 3,348 bytes. They start with these 46, and the rest are zeros"
     ∷ eqb (need (limits 2 10 1 1)) 3348
     ∷ same? (areaBytes small)
@@ -181,5 +192,5 @@ cards =
     ∷ []
 
 pub all-cards : all? (λ b. b) cards ≡ true
-unfolding cmpL need sound? inRange counts? right? rising? distinct? apart? used? clash? termsBytes placeBytes heldBytes recBytes headBytes queueBytes areaBytes committed moved newRec admit finished finishThose forget cancel due? expire confirm judged touch releases released reconcile reopened reopen setCursor textOf digOf
+unfolding cmpL over need sound? inRange counts? right? rising? distinct? apart? used? clash? termsBytes placeBytes heldBytes recBytes headBytes queueBytes areaBytes imageBytes committed moved newRec admit finished finishThose forget cancel due? expire confirm judged touch releases released reconcile reopened reopen setCursor textOf digOf
 all-cards = refl

@@ -16,14 +16,14 @@ use Rattle.queue.specs.ListLaws.{one-le, pairwise-with, filter-sub, filt
 use Rattle.queue.specs.Sounds.{InRange, Right, Before, Distinct, Apart, Sound}
 use Rattle.queue.specs.paper.Records.{Limits, Rec}
 use Rattle.queue.specs.paper.Lists.{one, count}
-use Rattle.queue.specs.paper.Sound.{holder?, mined?, content, holders, heldBytes, minedHolders, minedBytes, tombstones, stamped?}
+use Rattle.queue.specs.paper.Sound.{holder?, mined?, content, holders, holderBytes, minedHolders, minedBytes, tombstones, stamped?}
 use Rattle.queue.specs.paper.Changing.{higher, stays?, forget}
 
 -- all rules but those on the number of tombstones
 pub record Core (m : Limits) (counter : ℕ) (l : List Rec) : Type 0 where
   pub range : InRange m
   pub fewHolders : holders l ≤ 2 * m .P
-  pub fewBytes : heldBytes l ≤ 2 * m .B
+  pub fewBytes : holderBytes l ≤ 2 * m .B
   pub fewMined : minedHolders l ≤ m .P
   pub fewMinedBytes : minedBytes l ≤ m .B
   pub right : All (Right (m .K) counter) l

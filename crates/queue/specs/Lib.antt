@@ -31,6 +31,7 @@ pub mod Finishing
 pub mod ReadingAs
 pub mod Writes
 pub mod SelectAs
+pub mod Signed
 pub mod CallsAs
 pub mod PiecesAs
 pub mod Reopens

@@ -15,7 +15,7 @@ use Rattle.queue.specs.Areas.{readArea, zero?}
 use Rattle.queue.specs.Facts.{HeadAs}
 use Rattle.queue.specs.paper.Records.{Bytes, Limits, Rec, Queue}
 use Rattle.queue.specs.paper.Lists.{all?}
-use Rattle.queue.specs.paper.Sound.{inRange, need, holders, heldBytes, minedHolders, minedBytes, tombstones, right?, counts?, rising?, distinct?, apart?, sound?}
+use Rattle.queue.specs.paper.Sound.{inRange, need, holders, holderBytes, minedHolders, minedBytes, tombstones, right?, counts?, rising?, distinct?, apart?, sound?}
 use Rattle.queue.specs.declared.area.Open.{Open}
 use Rattle.queue.specs.declared.area.Area.{Area}
 use Rattle.queue.specs.declared.scan.Span.{Span}
@@ -37,7 +37,7 @@ pub record StoreAs (hex : Bool) (s : Bytes) (base : ℕ) (x : Open) (st : Store)
 
 -- the rules of a sound queue on its limits, counter and records; the counts in two parts
 unfoldable pub heldOk : ℕ → ℕ → ℕ → List Rec → Bool
-heldOk p b t l = leb (length l) (2 * p + t) && (leb (holders l) (2 * p) && leb (heldBytes l) (2 * b))
+heldOk p b t l = leb (length l) (2 * p + t) && (leb (holders l) (2 * p) && leb (holderBytes l) (2 * b))
 
 unfoldable pub minedOk : ℕ → ℕ → ℕ → List Rec → Bool
 minedOk p b t l = (leb (minedHolders l) p && leb (minedBytes l) b) && leb (tombstones l) t

@@ -12,7 +12,7 @@ use Rattle.queue.specs.Forms.{headFor, storeOf, formC, lineEnc, queueC, 
 use Rattle.queue.specs.Areas.{layout, image}
 use Rattle.queue.specs.paper.Records.{Bytes, Id, Terms, Held, Rec, Queue}
 use Rattle.queue.specs.paper.Lists.{map, concat}
-use Rattle.queue.specs.paper.Area.{flagged, termsBytes, placeBytes, heldBytes, recBytes, headBytes, queueBytes, areaBytes}
+use Rattle.queue.specs.paper.Area.{flagged, termsBytes, placeBytes, heldBytes, recBytes, headBytes, queueBytes, areaBytes, line, imageBytes}
 
 pub bytes-plain : (s : Bytes) → encs byteC s ≡ s
 unfolding encs byteC
@@ -87,14 +87,11 @@ pub area-plain : (q : Queue) → layout q ≡ areaBytes q
 unfolding layout areaBytes
 area-plain q = rw (queue-plain q)
 
-abbrev pub line : Bytes → Bytes
-line f = textOf f ++ (10 ∷ [])
-
 lines-plain : (l : List Rec) → encs (formC true recC) l ≡ concat (map (λ r. line (recBytes r)) l)
 unfolding encs formC lineEnc
 lines-plain [] = refl
 lines-plain (r ∷ l) = rw (rec-plain r, lines-plain l)
 
-pub image-plain : (q : Queue) → image q ≡ line (headBytes q) ++ concat (map (λ r. line (recBytes r)) (q .recs))
-unfolding image lineEnc
+pub image-plain : (q : Queue) → image q ≡ imageBytes q
+unfolding image lineEnc imageBytes
 image-plain q = image-enc (storeOf q) ∙ rw (head-plain q, lines-plain (q .recs))

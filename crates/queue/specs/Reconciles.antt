@@ -21,7 +21,7 @@ use Rattle.queue.specs.declared.Kind.the-variants.{Nothing, Memory, Whol
 use Rattle.queue.specs.paper.Records.{Id, Limits, Held, Rec, Queue, queued, mined, conflicted, cancelled, expired}
 use Rattle.queue.specs.paper.Lists.{isSome, one, all?, any?, total, filter, find, sort, map}
 use Rattle.queue.specs.paper.Ids.{same?}
-use Rattle.queue.specs.paper.Sound.{holder?, pending?, mined?, inputs, content, among?, holders, heldBytes, tombstones, heldRight?, reasonRight?, placeRight?, markRight?}
+use Rattle.queue.specs.paper.Sound.{holder?, pending?, mined?, inputs, content, among?, holders, holderBytes, tombstones, heldRight?, reasonRight?, placeRight?, markRight?}
 use Rattle.queue.specs.paper.Changing.{Out, refused, done, top, topHeight, moved, finished, Applied, Reconciling, confirmed?, confirm, judged, judge, touchFound, touch, orElse, minedHeight, newer?, releases, released, onePast, placeIn, releaseOne, trimmed, someReleased?, reconcileTo, reconcileOn, queuedOutputs, reconcile}
 
 abbrev pub AppliedOk : Applied → Type 0
@@ -326,7 +326,7 @@ module _ (c : Reconciling) (m : Limits) (n : ℕ) (l : List Rec) (right : All (R
       one-place zero e p e′ = absurd (omega arith)
       one-place (suc d) e p e′ = place-inj (a .id) (b .id) ids d e e′
 
-  pub release-core : InRange m → holders l ≤ 2 * m .P → heldBytes l ≤ 2 * m .B → Pairwise Distinct l → Pairwise Apart l → Core m (n + length ids) (map rel l)
+  pub release-core : InRange m → holders l ≤ 2 * m .P → holderBytes l ≤ 2 * m .B → Pairwise Distinct l → Pairwise Apart l → Core m (n + length ids) (map rel l)
   unfolding finished released
   release-core range fewHolders fewBytes distinct apart = record {
     range = range;

@@ -8,7 +8,7 @@ use lib.Dec.{ltb, leb, eqb}
 use lib.ListN.{length}
 use Rattle.queue.specs.paper.Records.{Rec}
 use Rattle.queue.specs.paper.Lists.{one, total}
-use Rattle.queue.specs.paper.Sound.{pending?, heldRight?, reasonRight?, placeRight?, markRight?, finishRight?, sizesRight?, right?, holders, heldBytes, minedHolders, minedBytes, tombstones, stamped?}
+use Rattle.queue.specs.paper.Sound.{pending?, heldRight?, reasonRight?, placeRight?, markRight?, finishRight?, sizesRight?, right?, holders, holderBytes, minedHolders, minedBytes, tombstones, stamped?}
 use Rattle.queue.specs.paper.Changing.{reached?, due?, higher}
 use Rattle.queue.specs.Facts.{factsOf}
 use Rattle.queue.specs.declared.frame.Facts.{Facts}

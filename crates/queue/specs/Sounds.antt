@@ -16,7 +16,7 @@ use Rattle.queue.specs.Order.{same-is, same-self, below-trans, or-false,
 use Rattle.queue.specs.paper.Records.{Id, Limits, Rec, Queue}
 use Rattle.queue.specs.paper.Lists.{isSome, one, all?, count}
 use Rattle.queue.specs.paper.Ids.{below?, same?}
-use Rattle.queue.specs.paper.Sound.{inRange, holder?, inputs, outputs, content, labelLen, rising?, holders, heldBytes, minedHolders, minedBytes, tombstones, heldRight?, among?, used?, clash?, apart?, reasonRight?, placeRight?, markRight?, finishRight?, stamped?, distinct?, right?, counts?, sound?}
+use Rattle.queue.specs.paper.Sound.{inRange, holder?, inputs, outputs, content, labelLen, rising?, holders, holderBytes, minedHolders, minedBytes, tombstones, heldRight?, among?, used?, clash?, apart?, reasonRight?, placeRight?, markRight?, finishRight?, stamped?, distinct?, right?, counts?, sound?}
 
 -- the rules of one record
 pub record Right (K counter : ℕ) (r : Rec) : Type 0 where
@@ -229,7 +229,7 @@ pub record Sound (m : Limits) (counter : ℕ) (l : List Rec) : Type 0 where
   pub range : InRange m
   pub few : length l ≤ 2 * m .P + m .T
   pub fewHolders : holders l ≤ 2 * m .P
-  pub fewBytes : heldBytes l ≤ 2 * m .B
+  pub fewBytes : holderBytes l ≤ 2 * m .B
   pub fewMined : minedHolders l ≤ m .P
   pub fewMinedBytes : minedBytes l ≤ m .B
   pub fewTombs : tombstones l ≤ m .T

@@ -1,4 +1,4 @@
--- Demand 3, as a single claim about the whole list.
+-- Demand 3, as a single claim about the whole list; and what it means for a template.
 use mathlib.Core.Path.{_≡_}
 use mathlib.Core.Bool.{Bool, true, false, cond, _&&_}
 use mathlib.Core.Option.{Option, none, some}
@@ -6,17 +6,17 @@ use mathlib.Core.List.{List, [], _∷_, _++_}
 use Prim.Native.Nat.{ℕ, _+_, _*_, _≤_, _<_}
 use lib.Dec.{eqb}
 use lib.ListN.{length}
-use Rattle.queue.specs.declared.Kind.the-variants.{Nothing, Memory, Whole, Cursor}
+use Rattle.queue.specs.declared.Kind.the-variants.{Nothing}
 use Rattle.queue.specs.declared.Answer.{Answer}
-use Rattle.queue.specs.declared.Answer.the-variants.{Refused, Done}
+use Rattle.queue.specs.declared.Answer.the-variants.{Done}
 use Rattle.queue.specs.Codec.{All}
-use Rattle.queue.specs.paper.Records.{Bytes, Id, Limits, Rec, Queue}
-use Rattle.queue.specs.paper.Sound.{inRange, need, holders, heldBytes, tombstones, apart?}
-use Rattle.queue.specs.paper.Area.{areaBytes}
-use Rattle.queue.specs.Checked.{written}
-use Rattle.queue.specs.paper.Calls.{AdmitArgs, ReconcileArgs, freshOf}
-use Rattle.image.specs.paper.Image.{imageBytes}
-use Rattle.pokerbox.specs.paper.Machine.{Call, admitting, cancelling, expiring, reconciling, reopening, settingCursor, Fate, kept, failed, cutBefore, cutAfter, Step, call, cut, Told, Worked, work, Plain, plainStep, plainRun, World, worldRun, restart, starts}
+use Rattle.queue.specs.paper.Records.{Bytes, Limits, Queue}
+use Rattle.queue.specs.paper.Lists.{maybe, map}
+use Rattle.queue.specs.paper.Sound.{inRange, need, holders, holderBytes, tombstones, apart?, different?}
+use Rattle.queue.specs.paper.Area.{areaBytes, imageBytes}
+use Rattle.queue.specs.paper.Reading.{isEmpty?, selectedAt}
+use Rattle.queue.specs.paper.Calls.{idsBytes, Call, admitting, cancelling, expiring, reconciling, reopening, settingCursor, work, freshOf, toldOut, selectionAtOf}
+use Rattle.pokerbox.specs.paper.Machine.{Fate, kept, failed, cutBefore, cutAfter, Step, call, cut, Told, byKind, run, Plain, restart, plainStep, World, worldStep, starts}
 
 -- ---- which lists: any, as far as numbers fit their widths and bytes are bytes (a caller can lend nothing else), and "all
 -- other areas, and the output lent to the image writer, are long enough"
@@ -37,17 +37,11 @@ CallOk (settingCursor height flag tip) = Small tip × (height < 4294967296)
 
 -- the output to the image writer, should a write be due
 abbrev pub TextOk : Answer → Queue → Bytes → Type 0
-TextOk (Refused n) next text = Unit {0}
-TextOk (Done Nothing) next text = Unit {0}
-TextOk (Done Memory) next text = Unit {0}
-TextOk (Done Whole) next text = length (imageBytes next) ≤ length text
-TextOk (Done Cursor) next text = length (imageBytes next) ≤ length text
-
-abbrev pub WorkOk : Worked → Bytes → Type 0
-WorkOk w text = TextOk (w .answer) (w .next) text
+TextOk a next text = byKind a false false true true ≡ true → length (imageBytes next) ≤ length text
 
 abbrev pub StepOk : Limits → Plain → Step → Type 0
-StepOk m p (call c l fate) = CallOk c × (WorkOk (work c (p .queue) (length (l .next)) (length (l .out))) (l .text) × (need m ≤ length (l .other)))
+StepOk m p (call c l fate) =
+    let w = work c (p .queue) (length (l .next)) (length (l .out)) in CallOk c × (TextOk (w .answer) (w .next) (l .text) × (need m ≤ length (l .other)))
 StepOk m p (cut l) = need m ≤ length (l .other)
 
 -- each step, where the machine stands then
@@ -60,26 +54,18 @@ StepsOk m p (x ∷ xs) = StepOk m p x × StepsOk m (plainStep m p x .1) xs
 -- opening or a fresh queue" too; "a call refused by another number than 17, or a failed kind 2, doesn't move it". But "at a
 -- cut .. for next's if the rename had happened": next's cursor is also the one that opening then gives, so it is claimed on.
 
-abbrev pub byWrite : Bool → Bool → Bool → Fate → Bool
-byWrite old new afterFailed kept = new
-byWrite old new afterFailed failed = afterFailed
-byWrite old new afterFailed cutBefore = false
-byWrite old new afterFailed cutAfter = new
+abbrev pub byWrite : Bool → Bool → Fate → Bool
+byWrite new afterFailed kept = new
+byWrite new afterFailed (failed second) = afterFailed
+byWrite new afterFailed (cutBefore second) = false
+byWrite new afterFailed cutAfter = new
 
 abbrev pub byAnswer : Bool → Bool → Fate → Answer → Bool
-byAnswer old new fate (Refused n) = old
-byAnswer old new fate (Done Nothing) = old
-byAnswer old new fate (Done Memory) = new
-byAnswer old new fate (Done Whole) = byWrite old new old fate
-byAnswer old new fate (Done Cursor) = byWrite old new false fate
+byAnswer old new fate a = byKind a old new (byWrite new old fate) (byWrite new false fate)
 
--- "by an admission given a tip into no records"
-abbrev pub noneYet? : List Rec → Bool
-noneYet? [] = true
-noneYet? (r ∷ l) = false
-
+-- "by a cursor setting or a reconciliation, by an admission given a tip into no records"
 abbrev pub mover : Call → Queue → Bool → Bool
-mover (admitting a) q old = cond (noneYet? (q .recs) && eqb (a .tipFlag) 1) false old
+mover (admitting a) q old = cond (isEmpty? (q .recs) && eqb (a .tipFlag) 1) false old
 mover (cancelling i) q old = old
 mover (expiring now height) q old = old
 mover (reconciling a) q old = true
@@ -97,38 +83,54 @@ movedLast m p old (x ∷ xs) = movedLast m (plainStep m p x .1) (movedBy p old x
 
 -- "With nothing stored, the image's cursor counts as 0."
 abbrev pub imageCursor : Option Queue → ℕ
-imageCursor none = 0
-imageCursor (some q) = q .cursor
+imageCursor o = maybe 0 (λ q. q .cursor) o
 
 abbrev pub images : Option Queue → Option Bytes
-images none = none
-images (some q) = some (imageBytes q)
+images o = maybe none (λ q. some (imageBytes q)) o
 
 -- ---- the claim
 
--- After a list of steps: "All answers and the queue equal those of document 01's plain machine, fed the same"; the first file is
--- "byte for byte the image of the machine's stored queue, or absent"; and the bounds.
-pub record Holds (m : Limits) (xs : List Step) (told : List Told) (w : World) (p : List Told × Plain) : Type 0 where
-  pub answers : told ≡ p .0
+-- After a list of steps, on bytes and files (v) and on the plain machine (p): "All answers and the queue equal those of document
+-- 01's plain machine, fed the same"; the first file is "byte for byte the image of the machine's stored queue, or absent"; and
+-- the bounds. Nothing is claimed of the second file.
+pub record Holds (m : Limits) (xs : List Step) (v : List Told × World) (p : List Told × Plain) : Type 0 where
+  pub answers : v .0 ≡ p .0
   pub later : Bytes
-  pub queue : w .area ≡ areaBytes (p .1 .queue) ++ later
-  pub file : w .file ≡ images (p .1 .stored)
+  pub queue : v .1 .area ≡ areaBytes (p .1 .queue) ++ later
+  pub file : v .1 .file ≡ images (p .1 .stored)
   -- "Opening what is stored, or starting fresh where nothing is, gives exactly the records of that machine's queue"
-  pub opening : (other : Bytes) → need m ≤ length other → (rest : Bytes) × (starts m (w .file) other ≡ written (Done Nothing) (areaBytes (restart m (p .1 .stored) .queue) ++ rest))
+  pub opening : (other : Bytes) → need m ≤ length other → (rest : Bytes) × (starts m (v .1 .file) other ≡ (Done Nothing, areaBytes (restart m (p .1 .stored) .queue) ++ rest))
   pub records : restart m (p .1 .stored) .queue .recs ≡ p .1 .queue .recs
   -- "No input id is in two records. Holders number at most 2P with at most 2B signed bytes, tombstones at most T. A cursor last
   -- moved by a successful reconciliation is at most 31 blocks above the image's."
   pub limits : p .1 .queue .limits ≡ m
   pub apart : apart? (p .1 .queue .recs) ≡ true
   pub holders : holders (p .1 .queue .recs) ≤ 2 * m .P
-  pub bytes : heldBytes (p .1 .queue .recs) ≤ 2 * m .B
+  pub bytes : holderBytes (p .1 .queue .recs) ≤ 2 * m .B
   pub tombstones : tombstones (p .1 .queue .recs) ≤ m .T
   pub cursor : movedLast m (restart m none) false xs ≡ true → p .1 .queue .cursor ≤ imageCursor (p .1 .stored) + 31
 
--- "The queue starts fresh, under any limits in range, with nothing stored. For every list .." (every list, so every first part
--- of one: the claim holds after each call and each cut)
+-- "The queue starts fresh, under any limits in range, with nothing stored": the area, and no first file; the second may hold
+-- anything
+abbrev pub world : Limits → Bytes → Option Bytes → World
+world m first second = record { area = freshOf m first .1; file = none; second = second }
+
+-- "For every list .." (every list, so every first part of one: the claim holds after each call and each cut)
+abbrev pub Always : (Limits → List Step → List Told × World → List Told × Plain → Type 0) → Type 0
+Always C = (m : Limits) (first : Bytes) (second : Option Bytes) (xs : List Step) → inRange m ≡ true → need m ≤ length first → StepsOk m (restart m none) xs
+    → C m xs (run (worldStep m) (world m first second) xs) (run (plainStep m) (restart m none) xs)
+
 unfoldable pub Claim : Type 0
-Claim =
-    (m : Limits) (first : Bytes) (xs : List Step) → inRange m ≡ true → need m ≤ length first → StepsOk m (restart m none) xs
-    → Holds m xs (worldRun m (record { area = freshOf m first .area; file = none }) xs .0) (worldRun m (record { area = freshOf m first .area; file = none }) xs .1)
-    (plainRun m (restart m none) xs)
+Claim = Always Holds
+
+-- ---- "An input spent twice in a template voids the block, and the reward goes to another pool."
+
+-- What the selection answers on the bytes in the area, for any time and height: the ids of some records of the queue. No id
+-- stands there twice, and no input id is in two of these records.
+pub record Template (area : Bytes) (q : Queue) (now height : ℕ) : Type 0 where
+  pub told : (out : Bytes) → selectionAtOf area now height out ≡ toldOut (idsBytes (map (λ r. r .id) (selectedAt now height q))) out
+  pub once : different? (map (λ r. r .id) (selectedAt now height q)) ≡ true
+  pub apart : apart? (selectedAt now height q) ≡ true
+
+unfoldable pub Templates : Type 0
+Templates = Always λ m xs v p. (now height : ℕ) → Template (v .1 .area) (p .1 .queue) now height

@@ -1,4 +1,4 @@
--- docs/AREA.md: the bytes of a sound queue. Numbers are big-endian.
+-- Document 01, "Image", and docs/AREA.md: the bytes of a sound queue in an area, and its image. Numbers are big-endian.
 use mathlib.Core.Option.{Option, none, some}
 use mathlib.Core.List.{List, [], _∷_, _++_}
 use Prim.Native.Nat.{ℕ, _+_, _-_, _*_, _^_}
@@ -7,6 +7,7 @@ use Rattle.queue.specs.paper.Records.{Bytes, Id, Limits, Terms, Held, Re
 use Rattle.queue.specs.paper.Lists.{map, concat}
 use Rattle.queue.specs.paper.Sound.{need}
 use Rattle.queue.specs.Codec.{be}
+use Rattle.queue.specs.Hex.{textOf}
 
 -- "A flag is 0 or 1; an absent value has no bytes."
 abbrev pub flagged : {A : Type 0} → (A → Bytes) → Option A → Bytes
@@ -64,3 +65,11 @@ beVal (b ∷ s) = b * 256 ^ length s + beVal s
 -- what a write of bs leaves of lent bytes d: "later bytes of the area are untouched"
 unfoldable pub over : Bytes → Bytes → Bytes
 over bs d = bs ++ drop (length bs) d
+
+-- "Lines of lowercase hexadecimal, one frame a line, each ended by byte 10."
+abbrev pub line : Bytes → Bytes
+line frame = textOf frame ++ (10 ∷ [])
+
+-- "Header .. Then records by id"
+unfoldable pub imageBytes : Queue → Bytes
+imageBytes q = line (headBytes q) ++ concat (map (λ r. line (recBytes r)) (q .recs))

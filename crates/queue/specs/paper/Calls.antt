@@ -162,14 +162,7 @@ abbrev pub appliedOf : Bytes → Applied
 appliedOf s = record { id = take 32 s; height = beVal (take 4 (drop 32 s)); block = drop 36 s }
 
 abbrev pub reconciliation : ReconcileArgs → Reconciling
-reconciliation a = record {
-  height = a .height;
-  tip = a .tip;
-  applied = map appliedOf (items 68 (a .applied));
-  caughtUp = eqb (a .caughtUp) 1;
-  available = items 32 (a .available);
-  window = a .window;
-}
+reconciliation a = record { height = a .height; tip = a .tip; applied = map appliedOf (items 68 (a .applied)); caughtUp = eqb (a .caughtUp) 1; available = items 32 (a .available); window = a .window }
 
 -- "admissions, cancellations, expiries, reconciliations, reopenings and cursor settings", with their arguments
 pub data Call : Type 0 where
