@@ -80,7 +80,7 @@ signed-there s id q r h e f b =
     let n3 = ap length (k .is) ∙ length-append m (h .bytes) in
     let start : 4 + length d + endOf id (q .recs) - length (h .bytes) ≡ length before = omega (arith, n, n1, n2, n3, a .ends, be-length 4 (q .persisted)) in
     let whole : s ≡ ((p ++ (d ++ (a .front ++ ((m ++ h .bytes) ++ a .back)))) ++ zeros) ++ later =
-        reads-area s q e .1 .1 ∙ ap (λ (y : Bytes). ((p ++ (d ++ y)) ++ zeros) ++ later) (a .is ∙ ap (λ (y : Bytes). a .front ++ (y ++ a .back)) (k .is)) in
+    reads-area s q e .1 .1 ∙ ap (λ (y : Bytes). ((p ++ (d ++ y)) ++ zeros) ++ later) (a .is ∙ ap (λ (y : Bytes). a .front ++ (y ++ a .back)) (k .is)) in
     let is : s ≡ before ++ (h .bytes ++ rest) = whole ∙ simp append-assoc in
     ap (λ k. take (length (h .bytes)) (drop k s)) start ∙ ap (λ (y : Bytes). take (length (h .bytes)) (drop (length before) y)) is
     ∙ ap (take (length (h .bytes))) (drop-at before (h .bytes ++ rest) (length before) refl) ∙ take-at (h .bytes) rest (length (h .bytes)) refl
