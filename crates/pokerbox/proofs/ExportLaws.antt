@@ -15,8 +15,7 @@ use Rattle.queue.specs.Areas.{readArea}
 use Rattle.queue.specs.Opens.{AreaIs}
 use Rattle.queue.specs.ReadingAs.{PlaceAs}
 use Rattle.queue.specs.paper.Records.{Bytes}
-use Rattle.queue.specs.paper.Calls.{number, kindNumber, soundOf, signedBytesOf}
-use Rattle.pokerbox.specs.paper.Exports.{Placed}
+use Rattle.queue.specs.paper.Calls.{number, kindNumber, gives, soundOf, signedBytesOf}
 
 pub sound-yes : {s : Bytes} {x : Area} → AreaIs s x → x .ok ≡ true → Done Nothing ≡ soundOf s
 unfolding soundOf
@@ -27,11 +26,8 @@ unfolding soundOf
 sound-no i t = rw (i .bad t)
 
 module _ {s id : Bytes} {x : Place} (w : PlaceAs s id x) where
-  answer-is : x .answer ≡ signedBytesOf s id .0
-  answer-is = ap (λ y. y .0) (w .is)
+  pub place-refused : (start size : ℕ) {n : ℕ} → x .answer ≡ Refused n → (n, (start, size)) ≡ gives (signedBytesOf s id (start, size))
+  place-refused start size {n} e = ap gives (w .refused n (start, size) e .1)
 
-  pub place-refused : (start size : ℕ) {n : ℕ} → x .answer ≡ Refused n → Placed s id start size n start size
-  place-refused start size e = let z = sym answer-is ∙ e in record { number = rw z; told = rw z (refl, refl) }
-
-  pub place-done : (start size : ℕ) {k : Kind} {n : ℕ} → x .answer ≡ Done k → n ≡ kindNumber k → Placed s id start size (100 + n) (x .start) (x .len)
-  place-done start size {k} e f = let z = sym answer-is ∙ e in record { number = rw (z, f); told = rw z (w .within, ap (λ y. y .1) (w .is)) }
+  pub place-done : (start size : ℕ) {k : Kind} {n : ℕ} → x .answer ≡ Done k → n ≡ kindNumber k → (100 + n, (x .start, x .len)) ≡ gives (signedBytesOf s id (start, size))
+  place-done start size {k} e f = ap (λ (n : ℕ). (100 + n, (x .start, x .len))) f ∙ ap gives (w .done k (start, size) e)

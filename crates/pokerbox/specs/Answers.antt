@@ -21,57 +21,15 @@ use Rattle.queue.specs.Arguments.{AdmitLent, admission-ok, ReconcileLent, recon
 use Rattle.queue.specs.paper.Records.{Bytes, Id, Rec, Queue}
 use Rattle.queue.specs.paper.Lists.{isSome, any?, map}
 use Rattle.queue.specs.paper.Sound.{need}
-use Rattle.queue.specs.paper.Area.{over}
 use Rattle.queue.specs.paper.Changing.{Out, refused, done, top, topHeight, moved, Reconciling, touch, orElse, released, someReleased?, queuedOutputs, reconcileTo, reconcileOn, admit, cancel, expire, reconcile, reopen, setCursor}
-use Rattle.queue.specs.Checked.{Outcome, outcome, told, admitShape?, reconcileShape?, admitOf, cancelOf, expireOf, reconcileOf, reopenOf, setCursorOf}
-use Rattle.queue.specs.paper.Calls.{nextArea, entryBytes, idsBytes, releasedBytes, nothingBytes, id?, items, given, givenId?, idList?, admission, overK?}
-use Rattle.queue.specs.paper.Calls as calls
-use Rattle.pokerbox.specs.paper.Machine.{Call, admitting, cancelling, expiring, reconciling, reopening, settingCursor, Worked, worked, rules, work, onBytes}
+use Rattle.queue.specs.paper.Calls.{id?, items, given, entryBytes, idsBytes, releasedBytes, nothingBytes, Call, admitting, cancelling, expiring, reconciling, reopening, settingCursor, admission, reconciliation, shape?, overK?, worked, rules, work, onLent, callOf}
 use Rattle.pokerbox.specs.paper.Claim.{CallOk, mover}
 
 -- ---- on lent bytes
 
--- the next area after an answer
-abbrev pub nextFor : Answer → Queue → Bytes → Bytes
-nextFor (Refused n) x next = next
-nextFor (Done k) x next = nextArea k x next
-
-abbrev pub onLent : Bytes → Bytes → Worked → Outcome
-onLent next out w = outcome (w .answer) (nextFor (w .answer) (w .next) next) (over (w .bytes) out)
-
-told-is : {A : Type 0} (bytes : A → Bytes) (q : Queue) (next out : Bytes) (o : Out A) → told bytes next out o ≡ onLent next out (worked bytes q (length out) o)
-unfolding over
-told-is bytes q next out (refused n) = refl
-told-is bytes q next out (done k x a) = cases (ltb (length out) (length (bytes a))) (λ t. rw t) (λ t. rw t)
-
--- a call that has no output
-untold-is : (q : Queue) (next out : Bytes) (o : Out (Unit {0})) → withOut out (told nothingBytes next [] o) ≡ onLent next out (worked nothingBytes q 0 o)
-unfolding over
-untold-is q next out (refused n) = refl
-untold-is q next out (done k x a) = refl
-
-pub call-is : (c : Call) (cur next out : Bytes) (q : Queue) → readArea cur ≡ some q → onBytes c cur next out ≡ onLent next out (work c q (length next) (length out))
-unfolding onBytes work admitOf cancelOf expireOf reconcileOf reopenOf setCursorOf over
-call-is (admitting a) cur next out q e = cases (ltb (length next) (need (q .limits)))
-    (λ t. rw (e, t))
-    (λ t. cases (admitShape? a)
-    (λ u. cases (overK? (q .limits .K) a) (λ v. rw (e, t, u, v)) (λ v. rw (e, t, u, v) (told-is entryBytes q next out (admit (admission a) q))))
-    (λ u. rw (e, t, u)))
-call-is (cancelling i) cur next out q e = cases (ltb (length next) (need (q .limits)))
-    (λ t. rw (e, t))
-    (λ t. cases (id? i) (λ u. rw (e, t, u) (told-is entryBytes q next out (cancel i q))) (λ u. rw (e, t, u)))
-call-is (expiring now height) cur next out q e = cases (ltb (length next) (need (q .limits)))
-    (λ t. rw (e, t))
-    (λ t. rw (e, t) (told-is idsBytes q next out (expire now height q)))
-call-is (reconciling a) cur next out q e = cases (ltb (length next) (need (q .limits)))
-    (λ t. rw (e, t))
-    (λ t. cases (reconcileShape? a) (λ u. rw (e, t, u) (told-is releasedBytes q next out (reconcile (calls.reconciling a) q))) (λ u. rw (e, t, u)))
-call-is (reopening ids) cur next out q e = cases (ltb (length next) (need (q .limits)))
-    (λ t. rw (e, t))
-    (λ t. cases (idList? ids) (λ u. rw (e, t, u) (untold-is q next out (reopen (items 32 ids) q))) (λ u. rw (e, t, u)))
-call-is (settingCursor height flag tip) cur next out q e = cases (ltb (length next) (need (q .limits)))
-    (λ t. rw (e, t))
-    (λ t. cases (givenId? flag tip) (λ u. rw (e, t, u) (untold-is q next out (setCursor height (given flag tip) q))) (λ u. rw (e, t, u)))
+pub call-is : (c : Call) (cur next out : Bytes) (q : Queue) → readArea cur ≡ some q → callOf c cur next out ≡ onLent next out (work c q (length next) (length out))
+unfolding callOf
+call-is c cur next out q e = rw e
 
 -- ---- what is worked out
 
@@ -136,13 +94,11 @@ set-goods : (height : ℕ) (tip : Option Id) (q : Queue) → Leaves q (setCursor
 unfolding setCursor moved
 set-goods height tip q h = (h, (refl, λ z. false-true z))
 
-rules-good : (c : Call) (q : Queue) (room : ℕ) (old : Bool) → CallOk c → Fit q → Good (mover c q old) q (rules c q room .answer) (rules c q room .next)
-rules-good (admitting a) q room old h f = cases (admitShape? a)
-    (λ u. cases (overK? (q .limits .K) a)
-    (λ v. rw (u, v) tt)
-    (λ v. rw (u, v) (worked-good entryBytes room (mover (admitting a) q old) q (admit (admission a) q)
-    (whole-goods (mover (admitting a) q old) q (admit (admission a) q) (admit-leaves (admission a) q f (admission-ok (q .limits .K) a lent u v)) (admit-wholly (admission a) q)))))
-    (λ u. rw u tt)
+rules-good : (c : Call) (q : Queue) (room : ℕ) (old : Bool) → shape? c ≡ true → CallOk c → Fit q → Good (mover c q old) q (rules c q room .answer) (rules c q room .next)
+rules-good (admitting a) q room old u h f = cases (overK? (q .limits .K) a)
+    (λ v. rw v tt)
+    (λ v. rw v (worked-good entryBytes room (mover (admitting a) q old) q (admit (admission a) q)
+    (whole-goods (mover (admitting a) q old) q (admit (admission a) q) (admit-leaves (admission a) q f (admission-ok (q .limits .K) a lent u v)) (admit-wholly (admission a) q))))
   where
     lent : AdmitLent a
     lent = record {
@@ -160,26 +116,24 @@ rules-good (admitting a) q room old h f = cases (admitShape? a)
       tipHeight = h .1 .1 .1 .1 .1 .1 .1;
       tip = h .0 .1 .1 .1 .1 .1;
     }
-rules-good (cancelling i) q room old h f = cases (id? i)
-    (λ u. rw u (worked-good entryBytes room old q (cancel i q) (whole-goods old q (cancel i q) (cancel-leaves i q f) (cancel-wholly i q))))
-    (λ u. rw u tt)
-rules-good (expiring now height) q room old h f =
+rules-good (cancelling i) q room old u h f =
+    worked-good entryBytes room old q (cancel i q) (whole-goods old q (cancel i q) (cancel-leaves i q f) (cancel-wholly i q))
+rules-good (expiring now height) q room old u h f =
     worked-good idsBytes room old q (expire now height q) (whole-goods old q (expire now height q) (expire-leaves now height q f) (expire-wholly now height q))
-rules-good (reconciling a) q room old h f = cases (reconcileShape? a)
-    (λ u. rw u (worked-good releasedBytes room true q (reconcile (calls.reconciling a) q)
-    (near-goods true q (reconcile (calls.reconciling a) q) (reconcile-leaves (calls.reconciling a) q f (reconciling-ok a lent u)) (reconcile-near (calls.reconciling a) q) (reconcile-recs (calls.reconciling a) q))))
-    (λ u. rw u tt)
+rules-good (reconciling a) q room old u h f =
+    worked-good releasedBytes room true q (reconcile (reconciliation a) q)
+    (near-goods true q (reconcile (reconciliation a) q) (reconcile-leaves (reconciliation a) q f (reconciling-ok a lent u)) (reconcile-near (reconciliation a) q) (reconcile-recs (reconciliation a) q))
   where
     lent : ReconcileLent a
     lent = record { height = h .1 .0; tip = h .0 .0; applied = h .0 .1 .0 }
-rules-good (reopening ids) q room old h f = cases (idList? ids)
-    (λ u. rw u (worked-good nothingBytes 0 old q (reopen (items 32 ids) q) (whole-goods old q (reopen (items 32 ids) q) (reopen-leaves (items 32 ids) q f) (reopen-wholly (items 32 ids) q))))
-    (λ u. rw u tt)
-rules-good (settingCursor height flag tip) q room old h f = cases (givenId? flag tip)
-    (λ u. rw u (worked-good nothingBytes 0 false q (setCursor height (given flag tip) q)
-    (set-goods height (given flag tip) q (setCursor-leaves height (given flag tip) q f (h .1) (given-id flag tip u (h .0))))))
-    (λ u. rw u tt)
+rules-good (reopening ids) q room old u h f =
+    worked-good nothingBytes room old q (reopen (items 32 ids) q) (whole-goods old q (reopen (items 32 ids) q) (reopen-leaves (items 32 ids) q f) (reopen-wholly (items 32 ids) q))
+rules-good (settingCursor height flag tip) q room old u h f =
+    worked-good nothingBytes room false q (setCursor height (given flag tip) q)
+    (set-goods height (given flag tip) q (setCursor-leaves height (given flag tip) q f (h .1) (given-id flag tip u (h .0))))
 
 pub work-good : (c : Call) (q : Queue) (lent room : ℕ) (old : Bool) → CallOk c → Fit q → Good (mover c q old) q (work c q lent room .answer) (work c q lent room .next)
 unfolding work
-work-good c q lent room old h f = cases (ltb lent (need (q .limits))) (λ t. rw t tt) (λ t. rw t (rules-good c q room old h f))
+work-good c q lent room old h f = cases (ltb lent (need (q .limits)))
+    (λ t. rw t tt)
+    (λ t. cases (shape? c) (λ u. rw (t, u) (rules-good c q room old u h f)) (λ u. rw (t, u) tt))

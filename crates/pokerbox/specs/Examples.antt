@@ -14,9 +14,9 @@ use Rattle.queue.specs.paper.Ids.{cmpL}
 use Rattle.queue.specs.paper.Sound.{inRange, need, used?, clash?}
 use Rattle.queue.specs.paper.Area.{termsBytes, placeBytes}
 use Rattle.queue.specs.paper.Changing.{committed, moved, newRec, admit, finished, finishThose, forget, cancel, reconcile, touch, releases, released}
-use Rattle.queue.specs.paper.Calls.{number, items, rise?, entryBytes, idsBytes, releasedBytes, freshOf}
-use Rattle.pokerbox.specs.paper.Machine.{Call, admitting, cancelling, reconciling, kept, failed, cutBefore, cutAfter, Lent, Step, call, cut, Told, work, Plain, restart, plainStep, plainRun, World, worldRun}
-use Rattle.pokerbox.specs.paper.Claim.{Small, CallOk, movedLast, imageCursor, Holds, Claim}
+use Rattle.queue.specs.paper.Calls.{number, items, rise?, entryBytes, idsBytes, releasedBytes, Call, admitting, cancelling, reconciling, work}
+use Rattle.pokerbox.specs.paper.Machine.{kept, failed, cutBefore, cutAfter, Lent, Step, call, cut, Told, run, Plain, restart, plainStep, World, worldStep}
+use Rattle.pokerbox.specs.paper.Claim.{Small, CallOk, movedLast, imageCursor, Holds, world, Claim}
 use Rattle.pokerbox.specs.Theorem.{the-claim, imageRoom, RoomyOk, roomy}
 
 abbrev m : Limits
@@ -61,14 +61,14 @@ seen height = reconciling (record { height = height; tip = id 8; applied = []; c
 -- cancellation cut before its rename, then one cut after it; a cut between calls; a cursor write that fails
 abbrev steps : List Step
 steps =
-    call (enters 1) lent failed
+    call (enters 1) lent (failed none)
     ∷ call (enters 1) lent kept
     ∷ call (enters 2) short kept
     ∷ call (seen 131) lent kept
-    ∷ call (cancelling (id 1)) lent cutBefore
+    ∷ call (cancelling (id 1)) lent (cutBefore (some (1 ∷ [])))
     ∷ call (cancelling (id 1)) lent cutAfter
     ∷ cut lent
-    ∷ call (seen 132) lent failed
+    ∷ call (seen 132) lent (failed (some []))
     ∷ []
 
 -- the number of a call's answer, and of settling's (0 where nothing was settled)
@@ -91,11 +91,11 @@ Shown = (Bool × (ℕ × ℕ)) × List ℕ
 
 abbrev shown : List Step → Shown
 shown xs =
-    let p = plainRun m start xs .1 in
+    let p = run (plainStep m) start xs .1 in
     ((movedLast m start false xs, (p .queue .cursor, imageCursor (p .stored))), map (λ r. r .state) (p .queue .recs))
 
 abbrev all : List (ℕ × ℕ) × List Shown
-all = (map numbers (plainRun m start steps .0), map shown (take 4 steps ∷ take 5 steps ∷ steps ∷ []))
+all = (map numbers (run (plainStep m) start steps .0), map shown (take 4 steps ∷ take 5 steps ∷ steps ∷ []))
 
 -- After four steps the bound is reached, 131 to 100. After the cut before the rename the record is pending still, at 100; at the
 -- end it is cancelled, and nothing is claimed of the cursor.
@@ -140,17 +140,17 @@ steps-ok =
     let e = roomed (seen-ok 132 (omega arith)) in
     (a, (a, (b, (d, (c, (c, (other-room, (e, tt))))))))
 
-abbrev world : World
-world = record { area = freshOf m (replicate 2184 0) .area; file = none }
+abbrev began : World
+began = world m (replicate 2184 0) none
 
 range : inRange m ≡ true
 unfolding inRange
 range = refl
 
-pub holds : Holds m steps (worldRun m world steps .0) (worldRun m world steps .1) (plainRun m start steps)
+pub holds : Holds m steps (run (worldStep m) began steps) (run (plainStep m) start steps)
 unfolding Claim
-holds = the-claim m (replicate 2184 0) steps range other-room (roomy m steps range steps-ok)
+holds = the-claim m (replicate 2184 0) none steps range other-room (roomy m steps range steps-ok)
 
 -- so the run on bytes says the same
-pub bytes-say : map numbers (worldRun m world steps .0) ≡ wanted
+pub bytes-say : map numbers (run (worldStep m) began steps .0) ≡ wanted
 bytes-say = ap (map numbers) (holds .answers) ∙ ap (λ z. z .0) plain-says

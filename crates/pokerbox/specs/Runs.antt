@@ -3,7 +3,7 @@ use mathlib.Core.Path.{_≡_, refl, ap, sym, _∙_}
 use mathlib.Core.Bool.{Bool, true, false}
 use mathlib.Core.Option.{Option, none, some}
 use mathlib.Core.List.{List, [], _∷_, _++_}
-use Prim.Native.Nat.{_+_, _*_, _≤_, _<_}
+use Prim.Native.Nat.{ℕ, _+_, _*_, _≤_, _<_}
 use native.Mathlib.Omega.{arith}
 use lib.ListN.{length, drop, length-append}
 use lib.Seq.{take-at}
@@ -21,14 +21,13 @@ use Rattle.queue.specs.Bound.{fits-need, reads-size, fit-stands, fit-over, fit-
 use Rattle.queue.specs.Keeps.{fresh-fit, settled-fit}
 use Rattle.queue.specs.paper.Records.{Bytes, Limits, Queue}
 use Rattle.queue.specs.paper.Sound.{inRange, need}
-use Rattle.queue.specs.paper.Area.{areaBytes, over}
+use Rattle.queue.specs.paper.Area.{areaBytes, imageBytes, over}
 use Rattle.queue.specs.paper.Changing.{moved}
-use Rattle.queue.specs.Checked.{Written, written}
-use Rattle.queue.specs.paper.Calls.{fresh, freshOf, settleOf}
-use Rattle.image.specs.paper.Image.{imageBytes, imageOf, openOf}
-use Rattle.pokerbox.specs.paper.Machine.{Call, Fate, kept, failed, cutBefore, cutAfter, Lent, Step, call, cut, Worked, work, Plain, restart, settling, silent, plainCall, plainStep, plainRun, World, imageText, starts, opened, settlingBytes, worldCall, worldStep, worldRun}
-use Rattle.pokerbox.specs.paper.Claim.{byAnswer, mover, movedBy, movedLast, imageCursor, images, TextOk, WorkOk, StepOk, StepsOk, CallOk}
-use Rattle.pokerbox.specs.Answers.{onLent, nextFor, Good, call-is, work-good}
+use Rattle.queue.specs.paper.Calls.{Call, Worked, work, nextArea, onLent, fresh, freshOf, settleOf}
+use Rattle.image.specs.paper.Image.{imageOf, openOf}
+use Rattle.pokerbox.specs.paper.Machine.{Fate, kept, failed, cutBefore, cutAfter, Lent, Step, call, cut, run, Plain, restart, settling, plainCall, plainStep, World, imageText, starts, restarted, settledIn, settlingBytes, worldCall, worldStep}
+use Rattle.pokerbox.specs.paper.Claim.{byAnswer, mover, movedBy, movedLast, imageCursor, images, TextOk, StepOk, StepsOk, CallOk}
+use Rattle.pokerbox.specs.Answers.{Good, call-is, work-good}
 
 -- ---- the parts of a step
 
@@ -53,34 +52,41 @@ abbrev pub StoredOk : Limits → Option Queue → Type 0
 StoredOk m none = Unit {0}
 StoredOk m (some q) = Fit q × ((q .persisted ≡ q .cursor) × (q .limits ≡ m))
 
-pub fresh-is : (m : Limits) (other : Bytes) → inRange m ≡ true → need m ≤ length other → freshOf m other ≡ written (Done Nothing) (over (areaBytes (fresh m)) other)
+pub fresh-is : (m : Limits) (other : Bytes) → inRange m ≡ true → need m ≤ length other → freshOf m other ≡ (Done Nothing, over (areaBytes (fresh m)) other)
 unfolding freshOf
 fresh-is m other r h = rw (r, le-ltb (length other) (need m) h)
 
-open-is : (q : Queue) (other : Bytes) → Fit q → q .persisted ≡ q .cursor → need (q .limits) ≤ length other → openOf (imageBytes q) other ≡ written (Done Nothing) (over (areaBytes q) other)
+open-is : (q : Queue) (other : Bytes) → Fit q → q .persisted ≡ q .cursor → need (q .limits) ≤ length other → openOf (imageBytes q) other ≡ (Done Nothing, over (areaBytes q) other)
 unfolding openOf imageBytes
 open-is q other f e h = rw (fit-image q f e, le-ltb (length other) (need (q .limits)) h)
 
+-- opening sets persisted to the cursor height, where an image's queue has it already
+level : (q : Queue) → q .persisted ≡ q .cursor → moved (q .cursor) (q .cursor) (q .tip) q ≡ q
+unfolding moved
+level q e = ap (λ (n : ℕ). moved n (q .cursor) (q .tip) q) (sym e)
+
 pub starts-is : (m : Limits) (o : Option Queue) (other : Bytes) → inRange m ≡ true → StoredOk m o → need m ≤ length other
-    → starts m (images o) other ≡ written (Done Nothing) (over (areaBytes (restart m o .queue)) other)
+    → starts m (images o) other ≡ (Done Nothing, over (areaBytes (restart m o .queue)) other)
 unfolding starts
 starts-is m none other r s h = fresh-is m other r h
-starts-is m (some q) other r s h = let e = ap need (s .1 .1) in open-is q other (s .0) (s .1 .0) (omega arith)
+starts-is m (some q) other r s h =
+    let e = ap need (s .1 .1) in
+    open-is q other (s .0) (s .1 .0) (omega arith) ∙ ap (λ x. (Done Nothing, over (areaBytes x) other)) (sym (level q (s .1 .0)))
 
 module _ (cur next : Bytes) (q x : Queue) (e : readArea cur ≡ some q) (d : readArea next ≡ some x) where
-  settle-kept2 : settleOf cur next 2 0 ≡ written (Done Nothing) next
+  settle-kept2 : settleOf cur next 2 0 ≡ (Done Nothing, next)
   unfolding settleOf
   settle-kept2 = rw (e, d)
 
-  settle-kept3 : settleOf cur next 3 0 ≡ written (Done Nothing) next
+  settle-kept3 : settleOf cur next 3 0 ≡ (Done Nothing, next)
   unfolding settleOf
   settle-kept3 = rw (e, d)
 
-  settle-failed2 : need (q .limits) ≤ length next → settleOf cur next 2 1 ≡ written (Refused 17) (over (areaBytes q) next)
+  settle-failed2 : need (q .limits) ≤ length next → settleOf cur next 2 1 ≡ (Refused 17, over (areaBytes q) next)
   unfolding settleOf
   settle-failed2 h = rw (e, le-ltb (length next) (need (q .limits)) h)
 
-  settle-failed3 : settleOf cur next 3 1 ≡ written (Refused 17) (over (areaBytes (moved (q .persisted) (x .cursor) (x .tip) x)) next)
+  settle-failed3 : settleOf cur next 3 1 ≡ (Refused 17, over (areaBytes (moved (q .persisted) (x .cursor) (x .tip) x)) next)
   unfolding settleOf
   settle-failed3 = rw (e, d)
 
@@ -108,10 +114,11 @@ pub record Same {A : Type 0} (m : Limits) (near : Bool) (u : A × Plain) (v : A 
   pub rep : Rep (u .1) (v .1)
 
 pub restart-inv : (m : Limits) (near : Bool) (o : Option Queue) → inRange m ≡ true → StoredOk m o → Inv m near (restart m o)
+unfolding moved
 restart-inv m near none r s = record { fit = fresh-fit m r; limits = refl; stored = tt; tied = refl; recs = refl; close = λ _. omega arith }
 restart-inv m near (some q) r s =
     let k = s .1 .0 in
-    record { fit = s .0; limits = s .1 .1; stored = s; tied = s .1 .0; recs = refl; close = λ _. omega arith }
+    record { fit = rw (level q k) (s .0); limits = s .1 .1; stored = s; tied = refl; recs = refl; close = λ _. omega arith }
 
 restart-stored : (m : Limits) (o : Option Queue) → images o ≡ images (restart m o .stored)
 restart-stored m none = refl
@@ -123,19 +130,19 @@ module _ (m : Limits) (range : inRange m ≡ true) (old : Bool) (p : Plain) (w :
   cur-reads : readArea (w .area) ≡ some (p .queue)
   cur-reads = ap readArea (rep .area) ∙ fit-stands (p .queue) (inv .fit) (rep .later)
 
-  cut-rep : Rep (restart m (p .stored)) (record { area = opened m (w .file) (l .other); file = w .file })
+  cut-rep : (second : Option Bytes) → Rep (restart m (p .stored)) (restarted m (l .other) (w .file) second)
   unfolding over
-  cut-rep = record {
+  cut-rep second = record {
     later = drop (length (areaBytes (restart m (p .stored) .queue))) (l .other);
-    area = ap (λ f. opened m f (l .other)) (rep .file) ∙ ap (λ z. z .area) (starts-is m (p .stored) (l .other) range (inv .stored) room);
+    area = ap (λ f. starts m f (l .other) .1) (rep .file) ∙ ap (λ z. z .1) (starts-is m (p .stored) (l .other) range (inv .stored) room);
     file = rep .file ∙ restart-stored m (p .stored);
   }
 
-  cut-same : {A : Type 0} (a : A) (near : Bool) → Same m near (a, restart m (p .stored)) (a, record { area = opened m (w .file) (l .other); file = w .file })
-  cut-same a near = record { told = refl; inv = restart-inv m near (p .stored) range (inv .stored); rep = cut-rep }
+  cut-same : {A : Type 0} (a : A) (second : Option Bytes) (near : Bool) → Same m near (a, restart m (p .stored)) (a, restarted m (l .other) (w .file) second)
+  cut-same a second near = record { told = refl; inv = restart-inv m near (p .stored) range (inv .stored); rep = cut-rep second }
 
   -- a write of x that was due
-  module _ (new : Bool) (x : Queue) (fit : Fit x) (limits : x .limits ≡ m) (level : x .persisted ≡ x .cursor) (text : length (imageBytes x) ≤ length (l .text)) where
+  module _ (new : Bool) (x : Queue) (fit : Fit x) (limits : x .limits ≡ m) (even : x .persisted ≡ x .cursor) (text : length (imageBytes x) ≤ length (l .text)) where
     abbrev next : Bytes
     next = over (areaBytes x) (l .next)
 
@@ -145,65 +152,65 @@ module _ (m : Limits) (range : inRange m ≡ true) (old : Bool) (p : Plain) (w :
     image-is : imageText next (l .text) ≡ imageBytes x
     image-is = image-text next (l .text) x next-reads text
 
-    kept-same : (s : Written) → s ≡ written (Done Nothing) next
-        → Same m new (some (Done Nothing), record { queue = x; stored = some x }) (some (s .answer), record { area = s .area; file = some (imageText next (l .text)) })
-    unfolding over
+    kept-same : (s : Answer × Bytes) → s ≡ (Done Nothing, next)
+        → Same m new (some (Done Nothing), record { queue = x; stored = some x }) (settledIn s (some (imageText next (l .text))) none)
+    unfolding over moved
     kept-same s e = record {
-      told = ap (λ z. some (z .answer)) e;
-      inv = restart-inv m new (some x) range (fit, (level, limits));
-      rep = record { later = drop (length (areaBytes x)) (l .next); area = ap (λ z. z .area) e; file = ap some image-is };
+      told = ap (λ z. some (z .0)) e;
+      inv = record { fit = fit; limits = limits; stored = (fit, (even, limits)); tied = even; recs = refl; close = λ _. omega arith };
+      rep = record { later = drop (length (areaBytes x)) (l .next); area = ap (λ z. z .1) e; file = ap some image-is };
     }
 
-    after-same : Same {A = Option Answer} m new (none, restart m (some x)) (none, record { area = opened m (some (imageText next (l .text))) (l .other); file = some (imageText next (l .text)) })
+    after-same : Same {A = Option Answer} m new (none, restart m (some x)) (none, restarted m (l .other) (some (imageText next (l .text))) none)
     unfolding over
     after-same = record {
       told = refl;
-      inv = restart-inv m new (some x) range (fit, (level, limits));
+      inv = restart-inv m new (some x) range (fit, (even, limits));
       rep = record {
-        later = drop (length (areaBytes x)) (l .other);
-        area = ap (λ f. opened m (some f) (l .other)) image-is ∙ ap (λ z. z .area) (starts-is m (some x) (l .other) range (fit, (level, limits)) room);
+        later = drop (length (areaBytes (restart m (some x) .queue))) (l .other);
+        area = ap (λ f. starts m (some f) (l .other) .1) image-is ∙ ap (λ z. z .1) (starts-is m (some x) (l .other) range (fit, (even, limits)) room);
         file = ap some image-is;
       };
     }
 
-    back-same : Same m old (some (Refused 17), record { queue = p .queue; stored = p .stored }) (some (settleOf (w .area) next 2 1 .answer), record { area = settleOf (w .area) next 2 1 .area; file = w .file })
+    back-same : (second : Option Bytes) → Same m old (some (Refused 17), record { queue = p .queue; stored = p .stored }) (settledIn (settleOf (w .area) next 2 1) (w .file) second)
     unfolding over
-    back-same =
+    back-same second =
         let n = reads-size next x next-reads in
         let a = ap need limits in
         let b = ap need (inv .limits) in
         let e = settle-failed2 (w .area) next (p .queue) x cur-reads next-reads (omega arith) in
         record {
-          told = ap (λ z. some (z .answer)) e;
+          told = ap (λ z. some (z .0)) e;
           inv = inv;
-          rep = record { later = drop (length (areaBytes (p .queue))) next; area = ap (λ z. z .area) e; file = rep .file };
+          rep = record { later = drop (length (areaBytes (p .queue))) next; area = ap (λ z. z .1) e; file = rep .file };
         }
 
-    lost-same : x .recs ≡ p .queue .recs
-        → Same m false (some (Refused 17), record { queue = moved (p .queue .persisted) (x .cursor) (x .tip) x; stored = p .stored }) (some (settleOf (w .area) next 3 1 .answer), record { area = settleOf (w .area) next 3 1 .area; file = w .file })
+    lost-same : (second : Option Bytes) → x .recs ≡ p .queue .recs
+        → Same m false (some (Refused 17), record { queue = moved (p .queue .persisted) (x .cursor) (x .tip) x; stored = p .stored }) (settledIn (settleOf (w .area) next 3 1) (w .file) second)
     unfolding over moved
-    lost-same h =
+    lost-same second h =
         let e = settle-failed3 (w .area) next (p .queue) x cur-reads next-reads in
         record {
-          told = ap (λ z. some (z .answer)) e;
+          told = ap (λ z. some (z .0)) e;
           inv = record { fit = settled-fit (p .queue) x (inv .fit) fit; limits = limits; stored = inv .stored; tied = inv .tied; recs = inv .recs ∙ sym h; close = λ z. false-true z };
-          rep = record { later = drop (length (areaBytes (moved (p .queue .persisted) (x .cursor) (x .tip) x))) next; area = ap (λ z. z .area) e; file = rep .file };
+          rep = record { later = drop (length (areaBytes (moved (p .queue .persisted) (x .cursor) (x .tip) x))) next; area = ap (λ z. z .1) e; file = rep .file };
         }
 
     whole-same : (fate : Fate) → Same m (byAnswer old new fate (Done Whole)) (settling m p x fate (Done Whole)) (settlingBytes m w l next fate (Done Whole))
     whole-same kept = kept-same (settleOf (w .area) next 2 0) (settle-kept2 (w .area) next (p .queue) x cur-reads next-reads)
-    whole-same failed = back-same
-    whole-same cutBefore = cut-same none false
+    whole-same (failed second) = back-same second
+    whole-same (cutBefore second) = cut-same none second false
     whole-same cutAfter = after-same
 
     cursor-same : (fate : Fate) → x .recs ≡ p .queue .recs → Same m (byAnswer old new fate (Done Cursor)) (settling m p x fate (Done Cursor)) (settlingBytes m w l next fate (Done Cursor))
     cursor-same kept h = kept-same (settleOf (w .area) next 3 0) (settle-kept3 (w .area) next (p .queue) x cur-reads next-reads)
-    cursor-same failed h = lost-same h
-    cursor-same cutBefore h = cut-same none false
+    cursor-same (failed second) h = lost-same second h
+    cursor-same (cutBefore second) h = cut-same none second false
     cursor-same cutAfter h = after-same
 
   settle-same : (new : Bool) (a : Answer) (x : Queue) (fate : Fate) → Good new (p .queue) a x → TextOk a x (l .text)
-      → Same m (byAnswer old new fate a) (settling m p x fate a) (settlingBytes m w l (nextFor a x (l .next)) fate a)
+      → Same m (byAnswer old new fate a) (settling m p x fate a) (settlingBytes m w l (nextArea a x (l .next)) fate a)
   unfolding over
   settle-same new (Refused n) x fate h t = record { told = refl; inv = inv; rep = rep }
   settle-same new (Done Nothing) x fate h t = record { told = refl; inv = inv; rep = rep }
@@ -212,17 +219,17 @@ module _ (m : Limits) (range : inRange m ≡ true) (old : Bool) (p : Plain) (w :
     inv = record { fit = h .0 .fit; limits = h .0 .limits ∙ inv .limits; stored = inv .stored; tied = h .0 .level ∙ inv .tied; recs = inv .recs ∙ sym (h .1 .0); close = h .1 .1 };
     rep = record { later = drop (length (areaBytes x)) (l .next); area = refl; file = rep .file };
   }
-  settle-same new (Done Whole) x fate h t = whole-same new x (h .0 .fit) (h .0 .limits ∙ inv .limits) (h .0 .level) t fate
-  settle-same new (Done Cursor) x fate h t = cursor-same new x (h .0 .fit) (h .0 .limits ∙ inv .limits) (h .0 .level) t fate (h .1)
+  settle-same new (Done Whole) x fate h t = whole-same new x (h .0 .fit) (h .0 .limits ∙ inv .limits) (h .0 .level) (t refl) fate
+  settle-same new (Done Cursor) x fate h t = cursor-same new x (h .0 .fit) (h .0 .limits ∙ inv .limits) (h .0 .level) (t refl) fate (h .1)
 
-  call-same : (c : Call) (fate : Fate) → CallOk c → WorkOk (work c (p .queue) (length (l .next)) (length (l .out))) (l .text)
+  call-same : (c : Call) (fate : Fate) → CallOk c → TextOk (work c (p .queue) (length (l .next)) (length (l .out)) .answer) (work c (p .queue) (length (l .next)) (length (l .out)) .next) (l .text)
       → Same m (movedBy p old (call c l fate)) (plainStep m p (call c l fate)) (worldStep m w (call c l fate))
   unfolding plainStep worldStep
   call-same c fate o t =
       let g = work-good c (p .queue) (length (l .next)) (length (l .out)) old o (inv .fit) in
       rw (call-is c (w .area) (l .next) (l .out) (p .queue) cur-reads) (tell (work c (p .queue) (length (l .next)) (length (l .out))) g t)
     where
-      tell : (k : Worked) → Good (mover c (p .queue) old) (p .queue) (k .answer) (k .next) → WorkOk k (l .text)
+      tell : (k : Worked) → Good (mover c (p .queue) old) (p .queue) (k .answer) (k .next) → TextOk (k .answer) (k .next) (l .text)
           → Same m (byAnswer old (mover c (p .queue) old) fate (k .answer)) (plainCall m p (l .out) fate k) (worldCall m w l fate (onLent (l .next) (l .out) k))
       tell k g t =
           let s = settle-same (mover c (p .queue) old) (k .answer) (k .next) fate g t in
@@ -232,12 +239,12 @@ pub step-same : (m : Limits) → inRange m ≡ true → (old : Bool) (p : Plain)
     → Same m (movedBy p old x) (plainStep m p x) (worldStep m w x)
 unfolding plainStep worldStep
 step-same m range old p w (call c l fate) inv rep o = call-same m range old p w l inv rep (o .1 .1) c fate (o .0) (o .1 .0)
-step-same m range old p w (cut l) inv rep o = cut-same m range old p w l inv rep o (silent l) false
+step-same m range old p w (cut l) inv rep o = cut-same m range old p w l inv rep o (record { answer = Done Nothing; out = l .out; settled = none }) (w .second) false
 
 -- ---- every list
 
 pub run-same : (m : Limits) → inRange m ≡ true → (xs : List Step) (old : Bool) (p : Plain) (w : World) → Inv m old p → Rep p w → StepsOk m p xs
-    → Same m (movedLast m p old xs) (plainRun m p xs) (worldRun m w xs)
+    → Same m (movedLast m p old xs) (run (plainStep m) p xs) (run (worldStep m) w xs)
 run-same m range [] old p w inv rep o = record { told = refl; inv = inv; rep = rep }
 run-same m range (x ∷ xs) old p w inv rep o =
     let s = step-same m range old p w x inv rep (o .0) in

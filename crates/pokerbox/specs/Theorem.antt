@@ -4,11 +4,11 @@
 -- two records; the bounds hold.
 --
 -- It rests on the definitions of document 01's calls (queue, image) and not on code: that the exported functions do on bytes
--- what `onBytes`, `settleOf`, `imageOf`, `openOf` and `freshOf` say is each function's contract. It takes from the node what
+-- what `callOf`, `settleOf`, `imageOf`, `openOf` and `freshOf` say is each function's contract. It takes from the node what
 -- `Machine` says of it: who lends what, what a write does to the first file, and that nobody else writes meanwhile.
 use mathlib.Core.Path.{_≡_, refl, ap, _∙_}
 use mathlib.Core.Bool.{Bool, true, false}
-use mathlib.Core.Option.{none}
+use mathlib.Core.Option.{Option, none, some}
 use mathlib.Core.List.{List, [], _∷_, _++_}
 use Prim.Native.Nat.{ℕ, _+_, _*_, _≤_}
 use native.Mathlib.Omega.{arith}
@@ -17,21 +17,29 @@ use Rattle.queue.specs.declared.Kind.the-variants.{Nothing, Memory, Whole, Curs
 use Rattle.queue.specs.declared.Answer.{Answer}
 use Rattle.queue.specs.declared.Answer.the-variants.{Refused, Done}
 use Rattle.queue.specs.Codec.{All}
-use Rattle.queue.specs.Sounds.{of-apart}
-use Rattle.queue.specs.paper.Records.{Bytes, Limits, Queue}
-use Rattle.queue.specs.paper.Sound.{inRange, need}
+use Rattle.queue.specs.Lists.{Pairwise, sub-pairwise}
+use Rattle.queue.specs.ListLaws.{filter-sub, sort-apart}
+use Rattle.queue.specs.ReadLaws.{false-true}
+use Rattle.queue.specs.Areas.{readArea}
+use Rattle.queue.specs.Sounds.{Fit, Apart, apart-sym, of-apart}
+use Rattle.queue.specs.Bound.{fit-stands}
+use Rattle.queue.specs.Reconciles.{Diff, diff-sym, rising-diff}
+use Rattle.queue.specs.paper.Records.{Bytes, Limits, Rec, Queue}
+use Rattle.queue.specs.paper.Lists.{filter, map}
+use Rattle.queue.specs.paper.Sound.{inRange, need, among?, different?}
 use Rattle.queue.specs.paper.Area.{areaBytes, over}
-use Rattle.queue.specs.paper.Calls.{fresh, freshOf}
-use Rattle.pokerbox.specs.paper.Machine.{Step, call, cut, Told, work, Plain, restart, plainStep, plainRun, World, starts}
-use Rattle.pokerbox.specs.paper.Claim.{CallOk, TextOk, StepOk, StepsOk, mover, movedBy, movedLast, images, Holds, Claim}
+use Rattle.queue.specs.paper.Reading.{first?, selected?, selectedAt, selectionAt}
+use Rattle.queue.specs.paper.Calls.{work, fresh, readOf, selectionAtOf}
+use Rattle.pokerbox.specs.paper.Machine.{Step, call, cut, Told, run, Plain, restart, plainStep, World, worldStep, starts}
+use Rattle.pokerbox.specs.paper.Claim.{CallOk, TextOk, StepOk, StepsOk, mover, movedBy, movedLast, images, Holds, world, Claim, Template, Templates}
 use Rattle.pokerbox.specs.Answers.{Good, work-good}
 use Rattle.pokerbox.specs.Runs.{image-room, fresh-is, starts-is, Inv, Same, restart-inv, step-same, run-same}
 
 -- what holds between steps is what is claimed
-same-holds : (m : Limits) (xs : List Step) (told : List Told) (w : World) (p : List Told × Plain) → inRange m ≡ true
-    → Same m (movedLast m (restart m none) false xs) p (told, w) → Holds m xs told w p
+same-holds : (m : Limits) (xs : List Step) (v : List Told × World) (p : List Told × Plain) → inRange m ≡ true
+    → Same m (movedLast m (restart m none) false xs) p v → Holds m xs v p
 unfolding over
-same-holds m xs told w p range s =
+same-holds m xs v p range s =
     let i = s .inv in
     let r = s .rep in
     let n = ap (λ (k : Limits). 2 * k .P) (i .limits) in
@@ -54,11 +62,44 @@ same-holds m xs told w p range s =
       cursor = λ e. let z = i .close e in omega arith;
     }
 
+-- after every list
+all-same : (m : Limits) (first : Bytes) (second : Option Bytes) (xs : List Step) → inRange m ≡ true → need m ≤ length first → StepsOk m (restart m none) xs
+    → Same m (movedLast m (restart m none) false xs) (run (plainStep m) (restart m none) xs) (run (worldStep m) (world m first second) xs)
+unfolding over
+all-same m first second xs range room ok = run-same m range xs false (restart m none) (world m first second) (restart-inv m false none range tt)
+    (record { later = drop (length (areaBytes (fresh m))) first; area = ap (λ z. z .1) (fresh-is m first range room); file = refl }) ok
+
 pub the-claim : Claim
-unfolding Claim over
-the-claim m first xs range room ok = same-holds m xs _ _ (plainRun m (restart m none) xs) range
-    (run-same m range xs false (restart m none) (record { area = freshOf m first .area; file = none }) (restart-inv m false none range tt)
-    (record { later = drop (length (areaBytes (fresh m))) first; area = ap (λ z. z .area) (fresh-is m first range room); file = refl }) ok)
+unfolding Claim
+the-claim m first second xs range room ok = same-holds m xs _ _ range (all-same m first second xs range room ok)
+
+-- ---- what a selection answers
+
+-- no id twice, where the records' ids differ
+ids-differ : (l : List Rec) → Pairwise Diff l → different? (map (λ r. r .id) l) ≡ true
+ids-differ [] h = refl
+ids-differ (r ∷ l) h = rw (none l (h .0)) (ids-differ l (h .1))
+  where
+    none : (l : List Rec) → All (Diff r) l → among? (r .id) (map (λ r. r .id) l) ≡ false
+    none [] h = refl
+    none (x ∷ l) h = rw (h .0) (none l (h .1))
+
+pub template : (area : Bytes) (q : Queue) (now height : ℕ) → readArea area ≡ some q → Fit q → Template area q now height
+unfolding selectionAtOf selectionAt readOf
+template area q now height e f =
+    let s = filter-sub (selected? now height) (q .recs) in
+    record {
+      told = λ out. rw e;
+      once = ids-differ (selectedAt now height q) (sort-apart first? Diff diff-sym (filter (selected? now height) (q .recs)) (sub-pairwise Diff s (rising-diff (q .recs) (f .sound .rising))));
+      apart = of-apart (selectedAt now height q) (sort-apart first? Apart apart-sym (filter (selected? now height) (q .recs)) (sub-pairwise Apart s (f .sound .apart)));
+    }
+
+pub no-input-twice : Templates
+unfolding Templates
+no-input-twice m first second xs range room ok now height =
+    let s = all-same m first second xs range room ok in
+    template (run (worldStep m) (world m first second) xs .1 .area) (run (plainStep m) (restart m none) xs .1 .queue) now height
+    (ap readArea (s .rep .area) ∙ fit-stands (run (plainStep m) (restart m none) xs .1 .queue) (s .inv .fit) (s .rep .later)) (s .inv .fit)
 
 -- ---- the same for a node that always lends the image writer as much as any image takes
 
@@ -70,11 +111,11 @@ RoomyOk m (call c l fate) = CallOk c × ((imageRoom m ≤ length (l .text)) × (
 RoomyOk m (cut l) = need m ≤ length (l .other)
 
 text-ok : (m : Limits) (near : Bool) (q : Queue) (a : Answer) (x : Queue) (text : Bytes) → q .limits ≡ m → imageRoom m ≤ length text → Good near q a x → TextOk a x text
-text-ok m near q (Refused n) x text e r h = tt
-text-ok m near q (Done Nothing) x text e r h = tt
-text-ok m near q (Done Memory) x text e r h = tt
-text-ok m near q (Done Whole) x text e r h = let z = image-room x (h .0 .fit) in let k = ap imageRoom (h .0 .limits ∙ e) in omega arith
-text-ok m near q (Done Cursor) x text e r h = let z = image-room x (h .0 .fit) in let k = ap imageRoom (h .0 .limits ∙ e) in omega arith
+text-ok m near q (Refused n) x text e r h z = false-true z
+text-ok m near q (Done Nothing) x text e r h z = false-true z
+text-ok m near q (Done Memory) x text e r h z = false-true z
+text-ok m near q (Done Whole) x text e r h z = let z = image-room x (h .0 .fit) in let k = ap imageRoom (h .0 .limits ∙ e) in omega arith
+text-ok m near q (Done Cursor) x text e r h z = let z = image-room x (h .0 .fit) in let k = ap imageRoom (h .0 .limits ∙ e) in omega arith
 
 roomy-step : (m : Limits) (old : Bool) (p : Plain) (x : Step) → Inv m old p → RoomyOk m x → StepOk m p x
 roomy-step m old p (call c l fate) i h =
@@ -87,7 +128,7 @@ roomy-steps : (m : Limits) → inRange m ≡ true → (xs : List Step) (old : Bo
 roomy-steps m range [] old p i h = tt
 roomy-steps m range (x ∷ xs) old p i h =
     let o = roomy-step m old p x i (h .0) in
-    let s = step-same m range old p (record { area = areaBytes (p .queue) ++ []; file = images (p .stored) }) x i (record { later = []; area = refl; file = refl }) o in
+    let s = step-same m range old p (record { area = areaBytes (p .queue) ++ []; file = images (p .stored); second = none }) x i (record { later = []; area = refl; file = refl }) o in
     (o, roomy-steps m range xs (movedBy p old x) (plainStep m p x .1) (s .inv) (h .1))
 
 pub roomy : (m : Limits) (xs : List Step) → inRange m ≡ true → All (RoomyOk m) xs → StepsOk m (restart m none) xs

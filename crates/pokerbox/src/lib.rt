@@ -29,13 +29,14 @@ use queue::reserved::reservation_snapshot;
 use queue::reserved::reserved_inputs;
 use queue::select::selection_at;
 ghost use mathlib.Core.Path.{_≡_};
-ghost use mathlib.Core.List.{[]};
+ghost use mathlib.Core.List.{[], _++_};
 ghost use Prim.Native.Nat.{_≤_};
+ghost use Rattle.queue.specs.Codec.{be};
 ghost use Rattle.queue.specs.Opens.{limits};
-ghost use Rattle.queue.specs.Checked.{admitOf, cancelOf, expireOf, reconcileOf, reopenOf, setCursorOf};
-ghost use Rattle.queue.specs.paper.Calls.{number, kindNumber, freshOf, soundOf, admitArgs, reconcileArgs, settleOf, entryOf, selectionAtOf, readOf, numberOf};
+ghost use Rattle.queue.specs.paper.Lists.{one};
+ghost use Rattle.queue.specs.paper.Reading.{isEmpty?, deadlineDue?, recordIds, guardedIds, reservedInputs, dueStates, confirmations};
+ghost use Rattle.queue.specs.paper.Calls.{number, kindNumber, gives, counted, entryBytes, idsBytes, placedBytes, dueBytes, cursorBytes, admitArgs, reconcileArgs, admitting, cancelling, expiring, reconciling, reopening, settingCursor, callOf, freshOf, soundOf, settleOf, readOf, numberOf, entryOf, signedBytesOf, selectionAtOf};
 ghost use Rattle.image.specs.paper.Image.{imageOf, openOf};
-ghost use Rattle.pokerbox.specs.paper.Exports.{given, ofOutcome, ofWritten, ofImaged, ofNumbered, Placed};
 
 fn kind_number(k: Kind) -> u64
     ensures { λ r. ⌜ (r ≡ kindNumber k) × (r ≤ 3) ⌝ }
@@ -71,7 +72,7 @@ fn sound(area: &[u8]) -> Answer
 // A fresh queue into area: 1, 2.
 #[no_mangle]
 pub extern "C" fn pokerbox_fresh(p: u64, b: u64, t: u64, k: u64, area: &mut [u8]) -> u64
-    ensures { λ r. ⌜ (r, now (area .exit)) ≡ ofWritten (freshOf (limits p b t k) (now (area .entry))) ⌝ }
+    ensures { λ r. ⌜ (r, now (area .exit)) ≡ gives (freshOf (limits p b t k) (now (area .entry))) ⌝ }
 {
     number(Limits::fresh(p, b, t, k, area))
 }
@@ -108,7 +109,7 @@ pub extern "C" fn pokerbox_admit(
     tip: &[u8],
     out: &mut [u8],
 ) -> u64
-    ensures { λ r. ⌜ given r (now (next .exit)) (now (out .exit)) ≡ ofOutcome (admitOf (now (cur .entry)) (now (next .entry)) (now (out .entry)) (admitArgs (now (id .entry)) (now (inputs .entry)) (now (outputs .entry)) (now (bytes .entry)) clock timeflag time heightflag height priority labelflag (now (label .entry)) fee cost tipheight tipflag (now (tip .entry)))) ⌝ }
+    ensures { λ r. ⌜ (r, (now (next .exit), now (out .exit))) ≡ gives (callOf (admitting (admitArgs (now (id .entry)) (now (inputs .entry)) (now (outputs .entry)) (now (bytes .entry)) clock timeflag time heightflag height priority labelflag (now (label .entry)) fee cost tipheight tipflag (now (tip .entry)))) (now (cur .entry)) (now (next .entry)) (now (out .entry))) ⌝ }
 {
     number(admit(
         cur,
@@ -137,7 +138,7 @@ pub extern "C" fn pokerbox_admit(
 // Cancellation: the entry in out. 3, 2, 5, 13, 14, 15, 4.
 #[no_mangle]
 pub extern "C" fn pokerbox_cancel(cur: &[u8], next: &mut [u8], id: &[u8], out: &mut [u8]) -> u64
-    ensures { λ r. ⌜ given r (now (next .exit)) (now (out .exit)) ≡ ofOutcome (cancelOf (now (cur .entry)) (now (next .entry)) (now (out .entry)) (now (id .entry))) ⌝ }
+    ensures { λ r. ⌜ (r, (now (next .exit), now (out .exit))) ≡ gives (callOf (cancelling (now (id .entry))) (now (cur .entry)) (now (next .entry)) (now (out .entry))) ⌝ }
 {
     number(cancel(cur, next, id, out))
 }
@@ -151,7 +152,7 @@ pub extern "C" fn pokerbox_expire(
     height: u32,
     out: &mut [u8],
 ) -> u64
-    ensures { λ r. ⌜ given r (now (next .exit)) (now (out .exit)) ≡ ofOutcome (expireOf (now (cur .entry)) (now (next .entry)) (now (out .entry)) time height) ⌝ }
+    ensures { λ r. ⌜ (r, (now (next .exit), now (out .exit))) ≡ gives (callOf (expiring time height) (now (cur .entry)) (now (next .entry)) (now (out .entry))) ⌝ }
 {
     number(expire(cur, next, time, height, out))
 }
@@ -169,7 +170,7 @@ pub extern "C" fn pokerbox_reconcile(
     window: u32,
     out: &mut [u8],
 ) -> u64
-    ensures { λ r. ⌜ given r (now (next .exit)) (now (out .exit)) ≡ ofOutcome (reconcileOf (now (cur .entry)) (now (next .entry)) (now (out .entry)) (reconcileArgs height (now (tip .entry)) (now (applied .entry)) caughtup (now (available .entry)) window)) ⌝ }
+    ensures { λ r. ⌜ (r, (now (next .exit), now (out .exit))) ≡ gives (callOf (reconciling (reconcileArgs height (now (tip .entry)) (now (applied .entry)) caughtup (now (available .entry)) window)) (now (cur .entry)) (now (next .entry)) (now (out .entry))) ⌝ }
 {
     number(reconcile(
         cur,
@@ -187,7 +188,7 @@ pub extern "C" fn pokerbox_reconcile(
 // Reopening. 3, 2, 5.
 #[no_mangle]
 pub extern "C" fn pokerbox_reopen(cur: &[u8], next: &mut [u8], ids: &[u8]) -> u64
-    ensures { λ r. ⌜ given r (now (next .exit)) [] ≡ ofOutcome (reopenOf (now (cur .entry)) (now (next .entry)) (now (ids .entry))) ⌝ }
+    ensures { λ r. ⌜ (r, (now (next .exit), [])) ≡ gives (callOf (reopening (now (ids .entry))) (now (cur .entry)) (now (next .entry)) []) ⌝ }
 {
     number(reopen(cur, next, ids))
 }
@@ -201,7 +202,7 @@ pub extern "C" fn pokerbox_set_cursor(
     flag: u8,
     tip: &[u8],
 ) -> u64
-    ensures { λ r. ⌜ given r (now (next .exit)) [] ≡ ofOutcome (setCursorOf (now (cur .entry)) (now (next .entry)) height flag (now (tip .entry))) ⌝ }
+    ensures { λ r. ⌜ (r, (now (next .exit), [])) ≡ gives (callOf (settingCursor height flag (now (tip .entry))) (now (cur .entry)) (now (next .entry)) []) ⌝ }
 {
     number(set_cursor(cur, next, height, flag, tip))
 }
@@ -209,7 +210,7 @@ pub extern "C" fn pokerbox_set_cursor(
 // Settling. 3, 2, 5; 17 where the write failed.
 #[no_mangle]
 pub extern "C" fn pokerbox_settle(cur: &[u8], next: &mut [u8], kind: u64, outcome: u64) -> u64
-    ensures { λ r. ⌜ (r, now (next .exit)) ≡ ofWritten (settleOf (now (cur .entry)) (now (next .entry)) kind outcome) ⌝ }
+    ensures { λ r. ⌜ (r, now (next .exit)) ≡ gives (settleOf (now (cur .entry)) (now (next .entry)) kind outcome) ⌝ }
 {
     number(settle(cur, next, kind, outcome))
 }
@@ -217,7 +218,7 @@ pub extern "C" fn pokerbox_settle(cur: &[u8], next: &mut [u8], kind: u64, outcom
 // The image of the queue in area: into out, its length behind size. 3, 4.
 #[no_mangle]
 pub extern "C" fn pokerbox_image(area: &[u8], out: &mut [u8], size: &mut u64) -> u64
-    ensures { λ r. ⌜ (r, (now (out .exit), now (size .exit))) ≡ ofImaged (imageOf (now (area .entry)) (now (out .entry)) (now (size .entry))) ⌝ }
+    ensures { λ r. ⌜ (r, (now (out .exit), now (size .exit))) ≡ gives (imageOf (now (area .entry)) (now (out .entry)) (now (size .entry))) ⌝ }
 {
     number(image::write(area, out, size))
 }
@@ -225,7 +226,7 @@ pub extern "C" fn pokerbox_image(area: &[u8], out: &mut [u8], size: &mut u64) ->
 // The queue of an image into area. 16, 2.
 #[no_mangle]
 pub extern "C" fn pokerbox_open(text: &[u8], area: &mut [u8]) -> u64
-    ensures { λ r. ⌜ (r, now (area .exit)) ≡ ofWritten (openOf (now (text .entry)) (now (area .entry))) ⌝ }
+    ensures { λ r. ⌜ (r, now (area .exit)) ≡ gives (openOf (now (text .entry)) (now (area .entry))) ⌝ }
 {
     number(image::open(text, area))
 }
@@ -233,7 +234,7 @@ pub extern "C" fn pokerbox_open(text: &[u8], area: &mut [u8]) -> u64
 // The entry of an id. 3, 5, 13, 4.
 #[no_mangle]
 pub extern "C" fn pokerbox_entry(area: &[u8], id: &[u8], out: &mut [u8]) -> u64
-    ensures { λ r. ⌜ (r, now (out .exit)) ≡ ofWritten (entryOf (now (area .entry)) (now (id .entry)) (now (out .entry))) ⌝ }
+    ensures { λ r. ⌜ (r, now (out .exit)) ≡ gives (entryOf (now (area .entry)) (now (id .entry)) (now (out .entry))) ⌝ }
 {
     number(entry(area, id, out))
 }
@@ -246,7 +247,7 @@ pub extern "C" fn pokerbox_selection_entries_at(
     height: u32,
     out: &mut [u8],
 ) -> u64
-    ensures { λ r. ⌜ (r, now (out .exit)) ≡ ofWritten (selectionAtOf (now (area .entry)) time height (now (out .entry))) ⌝ }
+    ensures { λ r. ⌜ (r, now (out .exit)) ≡ gives (selectionAtOf (now (area .entry)) time height (now (out .entry))) ⌝ }
 {
     number(selection_at(area, Time(time), Height(height as u64), out))
 }
@@ -254,7 +255,7 @@ pub extern "C" fn pokerbox_selection_entries_at(
 // The selection at time 0 and height 0. 3, 4.
 #[no_mangle]
 pub extern "C" fn pokerbox_selection_entries(area: &[u8], out: &mut [u8]) -> u64
-    ensures { λ r. ⌜ (r, now (out .exit)) ≡ ofWritten (selectionAtOf (now (area .entry)) 0 0 (now (out .entry))) ⌝ }
+    ensures { λ r. ⌜ (r, now (out .exit)) ≡ gives (selectionAtOf (now (area .entry)) 0 0 (now (out .entry))) ⌝ }
 {
     number(selection_at(area, Time(0), Height(0), out))
 }
@@ -262,7 +263,7 @@ pub extern "C" fn pokerbox_selection_entries(area: &[u8], out: &mut [u8]) -> u64
 // The ids of the records. 3, 4.
 #[no_mangle]
 pub extern "C" fn pokerbox_record_ids(area: &[u8], out: &mut [u8]) -> u64
-    ensures { λ r. ⌜ (r, now (out .exit)) ≡ ofWritten (recordIdsOf (now (area .entry)) (now (out .entry))) ⌝ }
+    ensures { λ r. ⌜ (r, now (out .exit)) ≡ gives (readOf (λ q. idsBytes (recordIds q)) (now (area .entry)) (now (out .entry))) ⌝ }
 {
     number(record_ids(area, out))
 }
@@ -270,7 +271,7 @@ pub extern "C" fn pokerbox_record_ids(area: &[u8], out: &mut [u8]) -> u64
 // The ids of the holders. 3, 4.
 #[no_mangle]
 pub extern "C" fn pokerbox_guarded_ids(area: &[u8], out: &mut [u8]) -> u64
-    ensures { λ r. ⌜ (r, now (out .exit)) ≡ ofWritten (guardedIdsOf (now (area .entry)) (now (out .entry))) ⌝ }
+    ensures { λ r. ⌜ (r, now (out .exit)) ≡ gives (readOf (λ q. idsBytes (guardedIds q)) (now (area .entry)) (now (out .entry))) ⌝ }
 {
     number(guarded_ids(area, out))
 }
@@ -278,7 +279,7 @@ pub extern "C" fn pokerbox_guarded_ids(area: &[u8], out: &mut [u8]) -> u64
 // The input ids of all records, rising, each once. 3, 4.
 #[no_mangle]
 pub extern "C" fn pokerbox_reserved_inputs(area: &[u8], out: &mut [u8]) -> u64
-    ensures { λ r. ⌜ (r, now (out .exit)) ≡ ofWritten (reservedInputsOf (now (area .entry)) (now (out .entry))) ⌝ }
+    ensures { λ r. ⌜ (r, now (out .exit)) ≡ gives (readOf (λ q. idsBytes (reservedInputs q)) (now (area .entry)) (now (out .entry))) ⌝ }
 {
     number(reserved_inputs(area, out))
 }
@@ -286,7 +287,7 @@ pub extern "C" fn pokerbox_reserved_inputs(area: &[u8], out: &mut [u8]) -> u64
 // The revision, and the reserved inputs. 3, 4.
 #[no_mangle]
 pub extern "C" fn pokerbox_reservation_snapshot(area: &[u8], out: &mut [u8]) -> u64
-    ensures { λ r. ⌜ (r, now (out .exit)) ≡ ofWritten (reservationSnapshotOf (now (area .entry)) (now (out .entry))) ⌝ }
+    ensures { λ r. ⌜ (r, now (out .exit)) ≡ gives (readOf (λ q. be 8 (q .revision) ++ idsBytes (reservedInputs q)) (now (area .entry)) (now (out .entry))) ⌝ }
 {
     number(reservation_snapshot(area, out))
 }
@@ -294,7 +295,7 @@ pub extern "C" fn pokerbox_reservation_snapshot(area: &[u8], out: &mut [u8]) -> 
 // The ids of the holders, and the reserved inputs. 3, 4.
 #[no_mangle]
 pub extern "C" fn pokerbox_guard_snapshot(area: &[u8], out: &mut [u8]) -> u64
-    ensures { λ r. ⌜ (r, now (out .exit)) ≡ ofWritten (guardSnapshotOf (now (area .entry)) (now (out .entry))) ⌝ }
+    ensures { λ r. ⌜ (r, now (out .exit)) ≡ gives (readOf (λ q. idsBytes (guardedIds q) ++ idsBytes (reservedInputs q)) (now (area .entry)) (now (out .entry))) ⌝ }
 {
     number(guard_snapshot(area, out))
 }
@@ -302,7 +303,7 @@ pub extern "C" fn pokerbox_guard_snapshot(area: &[u8], out: &mut [u8]) -> u64
 // The entries of all records. 3, 4.
 #[no_mangle]
 pub extern "C" fn pokerbox_list(area: &[u8], out: &mut [u8]) -> u64
-    ensures { λ r. ⌜ (r, now (out .exit)) ≡ ofWritten (listOf (now (area .entry)) (now (out .entry))) ⌝ }
+    ensures { λ r. ⌜ (r, now (out .exit)) ≡ gives (readOf (λ q. counted entryBytes (q .recs)) (now (area .entry)) (now (out .entry))) ⌝ }
 {
     number(list(area, out))
 }
@@ -310,7 +311,7 @@ pub extern "C" fn pokerbox_list(area: &[u8], out: &mut [u8]) -> u64
 // The Mined records with their places. 3, 4.
 #[no_mangle]
 pub extern "C" fn pokerbox_confirmations(area: &[u8], out: &mut [u8]) -> u64
-    ensures { λ r. ⌜ (r, now (out .exit)) ≡ ofWritten (confirmationsOf (now (area .entry)) (now (out .entry))) ⌝ }
+    ensures { λ r. ⌜ (r, now (out .exit)) ≡ gives (readOf (λ q. counted placedBytes (confirmations q)) (now (area .entry)) (now (out .entry))) ⌝ }
 {
     number(confirmations(area, out))
 }
@@ -318,7 +319,7 @@ pub extern "C" fn pokerbox_confirmations(area: &[u8], out: &mut [u8]) -> u64
 // The records that are due, with their states. 3, 4.
 #[no_mangle]
 pub extern "C" fn pokerbox_due(area: &[u8], time: u64, height: u32, out: &mut [u8]) -> u64
-    ensures { λ r. ⌜ (r, now (out .exit)) ≡ ofWritten (dueOf (now (area .entry)) time height (now (out .entry))) ⌝ }
+    ensures { λ r. ⌜ (r, now (out .exit)) ≡ gives (readOf (λ q. counted dueBytes (dueStates time height q)) (now (area .entry)) (now (out .entry))) ⌝ }
 {
     number(due(area, Time(time), Height(height as u64), out))
 }
@@ -326,7 +327,7 @@ pub extern "C" fn pokerbox_due(area: &[u8], time: u64, height: u32, out: &mut [u
 // The cursor: height, and tip if there is one. 3, 4.
 #[no_mangle]
 pub extern "C" fn pokerbox_observation_cursor(area: &[u8], out: &mut [u8]) -> u64
-    ensures { λ r. ⌜ (r, now (out .exit)) ≡ ofWritten (observationCursorOf (now (area .entry)) (now (out .entry))) ⌝ }
+    ensures { λ r. ⌜ (r, now (out .exit)) ≡ gives (readOf cursorBytes (now (area .entry)) (now (out .entry))) ⌝ }
 {
     number(observation_cursor(area, out))
 }
@@ -334,7 +335,7 @@ pub extern "C" fn pokerbox_observation_cursor(area: &[u8], out: &mut [u8]) -> u6
 // The revision. 3.
 #[no_mangle]
 pub extern "C" fn pokerbox_revision(area: &[u8], value: &mut u64) -> u64
-    ensures { λ r. ⌜ (r, now (value .exit)) ≡ ofNumbered (revisionOf (now (area .entry)) (now (value .entry))) ⌝ }
+    ensures { λ r. ⌜ (r, now (value .exit)) ≡ gives (numberOf (λ q. q .revision) (now (area .entry)) (now (value .entry))) ⌝ }
 {
     number(revision(area, value))
 }
@@ -342,7 +343,7 @@ pub extern "C" fn pokerbox_revision(area: &[u8], value: &mut u64) -> u64
 // The cursor height. 3.
 #[no_mangle]
 pub extern "C" fn pokerbox_observed_height(area: &[u8], value: &mut u64) -> u64
-    ensures { λ r. ⌜ (r, now (value .exit)) ≡ ofNumbered (observedHeightOf (now (area .entry)) (now (value .entry))) ⌝ }
+    ensures { λ r. ⌜ (r, now (value .exit)) ≡ gives (numberOf (λ q. q .cursor) (now (area .entry)) (now (value .entry))) ⌝ }
 {
     number(observed_height(area, value))
 }
@@ -350,7 +351,7 @@ pub extern "C" fn pokerbox_observed_height(area: &[u8], value: &mut u64) -> u64
 // 1 without records, else 0. 3.
 #[no_mangle]
 pub extern "C" fn pokerbox_is_empty(area: &[u8], value: &mut u64) -> u64
-    ensures { λ r. ⌜ (r, now (value .exit)) ≡ ofNumbered (isEmptyOf (now (area .entry)) (now (value .entry))) ⌝ }
+    ensures { λ r. ⌜ (r, now (value .exit)) ≡ gives (numberOf (λ q. one (isEmpty? (q .recs))) (now (area .entry)) (now (value .entry))) ⌝ }
 {
     number(is_empty(area, value))
 }
@@ -358,7 +359,7 @@ pub extern "C" fn pokerbox_is_empty(area: &[u8], value: &mut u64) -> u64
 // 1 if a deadline is due, else 0. 3.
 #[no_mangle]
 pub extern "C" fn pokerbox_deadline_due(area: &[u8], time: u64, height: u32, value: &mut u64) -> u64
-    ensures { λ r. ⌜ (r, now (value .exit)) ≡ ofNumbered (deadlineDueOf (now (area .entry)) time height (now (value .entry))) ⌝ }
+    ensures { λ r. ⌜ (r, now (value .exit)) ≡ gives (numberOf (λ q. one (deadlineDue? time height q)) (now (area .entry)) (now (value .entry))) ⌝ }
 {
     number(deadline_due(area, Time(time), Height(height as u64), value))
 }
@@ -371,7 +372,7 @@ pub extern "C" fn pokerbox_signed_bytes(
     start: &mut u64,
     size: &mut u64,
 ) -> u64
-    ensures { λ r. ⌜ Placed (now (area .entry)) (now (id .entry)) (now (start .entry)) (now (size .entry)) r (now (start .exit)) (now (size .exit)) ⌝ }
+    ensures { λ r. ⌜ (r, (now (start .exit), now (size .exit))) ≡ gives (signedBytesOf (now (area .entry)) (now (id .entry)) (now (start .entry), now (size .entry))) ⌝ }
 {
     let p = signed_place(area, id);
     let a = p.answer;

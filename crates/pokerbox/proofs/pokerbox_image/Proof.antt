@@ -1,5 +1,5 @@
 use mathlib.Core.Path.{_≡_, refl, sym, ap, _∙_}
-use Rattle.pokerbox.specs.paper.Exports.{ofImaged}
+use Rattle.queue.specs.paper.Calls.{gives}
 use borrow.Author.Needs.{needs}
 use Rattle.pokerbox.proofs.pokerbox_image.Statement.{statement}
 use Rattle.pokerbox.proofs.pokerbox_image.Tie as tie
@@ -18,7 +18,7 @@ same-length : tie.Need-same-length
 same-length c = search needs
 
 returns : tie.Need-returns
-returns c = rw (c .number .ensures) (ap ofImaged (c .before .before .before .write .ensures))
+returns c = rw (c .number .ensures) (ap gives (c .before .before .before .write .ensures))
 
 pub pokerbox-image-spec : {M : Type 1} → statement M
 pokerbox-image-spec = tie.close (tie.spec write-requires number-requires same-length returns)

@@ -1,5 +1,5 @@
 use mathlib.Core.Path.{_≡_, refl, sym, ap, _∙_}
-use Rattle.pokerbox.specs.paper.Exports.{ofNumbered}
+use Rattle.queue.specs.paper.Calls.{gives}
 use borrow.Author.Needs.{needs}
 use Rattle.pokerbox.proofs.pokerbox_observed_height.Statement.{statement}
 use Rattle.pokerbox.proofs.pokerbox_observed_height.Tie as tie
@@ -15,7 +15,7 @@ number-requires : tie.Need-number-requires
 number-requires c κs = search needs
 
 returns : tie.Need-returns
-returns c = rw (c .number .ensures) (ap ofNumbered (c .before .observed-height .ensures))
+returns c = rw (c .number .ensures) (ap gives (c .before .observed-height .ensures))
 
 pub pokerbox-observed-height-spec : {M : Type 1} → statement M
 pokerbox-observed-height-spec =

@@ -1,5 +1,6 @@
 use mathlib.Core.Path.{_≡_, refl, sym, ap, _∙_}
-use Rattle.pokerbox.specs.paper.Exports.{ofOutcome}
+use Rattle.queue.specs.Checked.{reconcile-is}
+use Rattle.queue.specs.paper.Calls.{gives}
 use borrow.Author.Needs.{needs}
 use Rattle.pokerbox.proofs.pokerbox_reconcile.Statement.{statement}
 use Rattle.pokerbox.proofs.pokerbox_reconcile.Tie as tie
@@ -21,7 +22,7 @@ same-length-2 : tie.Need-same-length-2
 same-length-2 c = search needs
 
 returns : tie.Need-returns
-returns c = rw (c .number .ensures) (ap ofOutcome (c .before .before .before .before .before .reconcile .ensures))
+returns c = rw (c .number .ensures) (ap gives (c .before .before .before .before .before .reconcile .ensures ∙ reconcile-is _ _ _ _))
 
 pub pokerbox-reconcile-spec : {M : Type 1} → statement M
 pokerbox-reconcile-spec =

@@ -1,5 +1,5 @@
 use mathlib.Core.Path.{_≡_, refl, sym, ap, _∙_}
-use Rattle.pokerbox.specs.paper.Exports.{ofWritten}
+use Rattle.queue.specs.paper.Calls.{gives}
 use borrow.Author.Needs.{needs}
 use Rattle.pokerbox.proofs.pokerbox_selection_entries.Statement.{statement}
 use Rattle.pokerbox.proofs.pokerbox_selection_entries.Tie as tie
@@ -18,7 +18,7 @@ same-length : tie.Need-same-length
 same-length c = search needs
 
 returns : tie.Need-returns
-returns c = rw (c .number .ensures) (ap ofWritten (c .before .before .before .selection-at .ensures))
+returns c = rw (c .number .ensures) (ap gives (c .before .before .before .selection-at .ensures))
 
 pub pokerbox-selection-entries-spec : {M : Type 1} → statement M
 pokerbox-selection-entries-spec =

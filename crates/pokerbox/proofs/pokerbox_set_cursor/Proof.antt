@@ -1,5 +1,6 @@
 use mathlib.Core.Path.{_≡_, refl, sym, ap, _∙_}
-use Rattle.pokerbox.specs.paper.Exports.{ofOutcome}
+use Rattle.queue.specs.Checked.{setCursor-is}
+use Rattle.queue.specs.paper.Calls.{gives}
 use borrow.Author.Needs.{needs}
 use Rattle.pokerbox.proofs.pokerbox_set_cursor.Statement.{statement}
 use Rattle.pokerbox.proofs.pokerbox_set_cursor.Tie as tie
@@ -18,7 +19,7 @@ same-length : tie.Need-same-length
 same-length c = search needs
 
 returns : tie.Need-returns
-returns c = rw (c .number .ensures) (ap ofOutcome (c .before .before .before .set-cursor .ensures))
+returns c = rw (c .number .ensures) (ap gives (c .before .before .before .set-cursor .ensures ∙ setCursor-is _ _ _ _ _))
 
 pub pokerbox-set-cursor-spec : {M : Type 1} → statement M
 pokerbox-set-cursor-spec =
