@@ -168,12 +168,18 @@ zero-cut : (s : Bytes) (i to : ℕ) → i < to → to ≤ length s → zero? (ta
 unfolding zero?
 zero-cut s i to h k = let e : to - i ≡ suc (to - (i + 1)) = omega arith in rw (drop-cons s i 0 (omega arith), e, add-one)
 
-pub zero-go : (s : Bytes) (i to : ℕ) {b : Bool} → i < to → to ≤ length s → getD s i 0 ≡ 0 → zero? (take (to - i) (drop i s)) ≡ b → zero? (take (to - (i + 1)) (drop (i + 1) s)) ≡ b
-zero-go s i to h k z e = sym (zero-cut s i to h k ∙ rw (eq-eqb _ _ z)) ∙ e
+and-zero : (a b z : Bool) → (a && cond b z false) ≡ ((a && b) && z)
+and-zero true true z = refl
+and-zero true false z = refl
+and-zero false b z = refl
 
-pub zero-stop : (s : Bytes) (i to : ℕ) {b : Bool} → i < to → to ≤ length s → (getD s i 0 ≡ 0 → ⊥) → zero? (take (to - i) (drop i s)) ≡ b → false ≡ b
-zero-stop s i to h k z e = sym (zero-cut s i to h k ∙ rw (ne-eqb _ _ z)) ∙ e
+pub zero-turn : (s : Bytes) (i to : ℕ) (ok : Bool) → i < to → to ≤ length s → (ok && zero? (take (to - i) (drop i s))) ≡ ((ok && eqb (getD s i 0) 0) && zero? (take (to - (i + 1)) (drop (i + 1) s)))
+zero-turn s i to ok h k = ap (λ z. ok && z) (zero-cut s i to h k) ∙ and-zero ok _ _
 
-pub zero-end : (s : Bytes) (i to : ℕ) {b : Bool} → to ≤ i → zero? (take (to - i) (drop i s)) ≡ b → true ≡ b
+and-one : (a : Bool) → (a && true) ≡ a
+and-one true = refl
+and-one false = refl
+
+pub zero-over : (s : Bytes) (i to : ℕ) (ok : Bool) → to ≤ i → (ok && zero? (take (to - i) (drop i s))) ≡ ok
 unfolding zero?
-zero-end s i to h e = let z : to - i ≡ 0 = omega arith in rw z at e
+zero-over s i to ok h = let z : to - i ≡ 0 = omega arith in rw z (and-one ok)
