@@ -6,6 +6,7 @@ pub mod ScanLaws
 pub mod FilterLaws
 pub mod RowLaws
 pub mod SuspectLaws
+pub mod NumberLaws
 pub mod OpenLaws
 pub mod ByteLaws
 pub mod FinishLaws

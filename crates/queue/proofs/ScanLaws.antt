@@ -16,15 +16,14 @@ use Rattle.queue.specs.View.{view}
 use Rattle.queue.specs.Reads.{Reads, whole, listAt, behind}
 use Rattle.queue.specs.ReadLaws.{Turn, turn, none-left, whole-step, whole-bad, false-true}
 use Rattle.queue.specs.Facts.{factsOf, SeenAs}
-use Rattle.queue.specs.Rules.{weight, sum, stampedF}
+use Rattle.queue.specs.Rules.{weight, sum}
 use Rattle.queue.specs.Areas.{zero?}
 use Rattle.queue.specs.paper.Records.{Bytes, Id, Rec}
-use Rattle.queue.specs.paper.Lists.{any?, total, count}
+use Rattle.queue.specs.paper.Lists.{any?, total}
 use Rattle.queue.specs.paper.Ids.{cmpL}
-use Rattle.queue.specs.paper.Sound.{rising?, stamped?, among?, used?, clash?}
+use Rattle.queue.specs.paper.Sound.{rising?, among?, used?, clash?}
 use Rattle.queue.specs.declared.frame.Seen.{Seen}
 use Rattle.queue.specs.declared.rules.Query.{Query}
-use Rattle.queue.specs.declared.rules.Query.the-variants.{Stamped}
 use Rattle.queue.proofs.Turns.{Scan, start, here, on, stop, end, SeenIn, ReadsRec, seen, see}
 
 -- ---- counts
@@ -157,11 +156,6 @@ module _ (l : List Rec) {v : Bytes} {n at i left : ℕ} (x : Scan idC (clashF l)
   pub clash-end : left ≡ 0 → false ≡ clash? (listAt idC n v at) l
   unfolding clash? clashF
   clash-end e = end x e
-
--- ---- tombstones with a finish number
-pub stamped-sum : (n : ℕ) (l : List Rec) → sum (Stamped (record { 0 = n })) l ≡ count (stamped? n) l
-unfolding sum weight factsOf stampedF
-stamped-sum n l = refl
 
 -- ---- zeros
 zero-cut : (s : Bytes) (i to : ℕ) → i < to → to ≤ length s → zero? (take (to - i) (drop i s)) ≡ cond (eqb (getD s i 0) 0) (zero? (take (to - (i + 1)) (drop (i + 1) s))) false

@@ -28,6 +28,7 @@ use Rattle.queue.specs.declared.frame.Seen.{Seen}
 use Rattle.queue.proofs.FrameLaws.{bytes-enc}
 use Rattle.queue.proofs.Turns.{Scan, here, on, stop, end, ReadsRec, seen, see}
 use Rattle.queue.proofs.ScanLaws.{nothingF}
+use Rattle.queue.proofs.RowLaws.{shuffled-self}
 use Rattle.queue.proofs.FilterLaws.{mark-size, mark-here, mark-old, apart-yes, apart-no}
 
 -- ---- an id that is read: its bytes
@@ -153,6 +154,10 @@ looked {hex} {s} {all} {v} {v′} {b} k e = record {
   yes = λ t a. crosses-yes hex s v′ all (shuffled-all (held? hex s all) k ∙ a) 0 all refl (sym e ∙ t);
   no = λ t. sym (shuffled-all (first? hex s all) k) ∙ all-first hex s v′ all (sym e ∙ t);
 }
+
+pub looked-none : {hex : Bool} {s : Bytes} {all : List Rec} (v : List ℕ) → length v ≡ 0 → Looked hex s all v false v
+looked-none [] e = record { kept = shuffled-self []; yes = λ t. false-true t; no = λ _. refl }
+looked-none (x ∷ v) e = absurd (let z : ⊥ = omega arith in z)
 
 -- ---- the loops of a look
 unfoldable pub meetsF : Bool → Bytes → List ℕ → ℕ → Unit {0} → List Id → Bool

@@ -14,6 +14,7 @@ pub mod Facts
 pub mod Rules
 pub mod Filter
 pub mod Suspects
+pub mod Numbers
 pub mod Opens
 pub mod Plain
 pub mod Order

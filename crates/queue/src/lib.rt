@@ -11,6 +11,7 @@ pub mod head;
 pub mod lent;
 pub mod limits;
 pub mod logic;
+pub mod numbers;
 pub mod pieces;
 pub mod put;
 pub mod reading;

@@ -4,7 +4,6 @@ use super::filter::mark;
 use super::filter::seen;
 use super::forms::after_in;
 use super::forms::ends_line;
-use super::frame::Facts;
 use super::frame::id_read;
 use super::frame::rec_at;
 use super::logic::both;
@@ -22,11 +21,11 @@ ghost use Rattle.queue.specs.Frames.{recC, idC};
 ghost use Rattle.queue.specs.Forms.{formC, Many};
 ghost use Rattle.queue.specs.View.{view};
 ghost use Rattle.queue.specs.Reads.{whole, listAt};
-ghost use Rattle.queue.specs.Rules.{sum, stampedF};
-ghost use Rattle.queue.specs.Filter.{hashL, heldBy, numbered, Passed};
+ghost use Rattle.queue.specs.Rules.{sum};
+ghost use Rattle.queue.specs.Filter.{hashL, heldBy, Passed};
 ghost use Rattle.queue.specs.paper.Ids.{same?};
 ghost use Rattle.queue.specs.Areas.{zero?};
-ghost use Rattle.queue.specs.paper.Sound.{rising?, distinct?, among?, used?, apart?};
+ghost use Rattle.queue.specs.paper.Sound.{rising?, among?, used?, apart?};
 
 pub struct Span {
     pub ok: bool,
@@ -94,51 +93,6 @@ pub fn rising(s: &[u8], hex: bool, at: usize, n: u64) -> bool
         left = left - 1;
     }
     true
-}
-
-// Is the finish number of a tombstone one of two or more? Only a number that the filter has is counted; another is marked.
-fn repeated(s: &[u8], hex: bool, at: usize, n: u64, f: Facts, t: &mut [u64]) -> bool
-    requires { ⌜ (at ≤ length (now s)) × (whole (formC hex recC) n (now s) at ≡ true) × (n < 4294967296) × (0 < length (now t)) ⌝ }
-    ensures { λ r. ⌜ Passed (λ k. stampedF k f) (λ k. k) (numbered (listAt (formC hex recC) n (now (s .entry)) at)) (now (t .entry)) r (now (t .exit)) ⌝ }
-{
-    if f.holder {
-        return false;
-    }
-    let m = f.finish;
-    let h = m.0;
-    if seen(t, h) {
-        let c = tally(s, hex, at, n, Query::Stamped(m));
-        return 1 < c;
-    }
-    mark(t, h);
-    false
-}
-
-// Whatever t holds: what it holds too much only costs time.
-fn distinct_by(s: &[u8], hex: bool, at: usize, n: u64, t: &mut [u64]) -> bool
-    requires { ⌜ (at ≤ length (now s)) × (whole (formC hex recC) n (now s) at ≡ true) × (n < 4294967296) × (0 < length (now t)) ⌝ }
-    ensures { λ r. ⌜ r ≡ distinct? (listAt (formC hex recC) n (now (s .entry)) at) ⌝ }
-{
-    let mut i = at;
-    let mut left = n;
-    while 0 < left {
-        let x = rec_at(s, hex, i);
-        let f = x.facts;
-        if repeated(s, hex, at, n, f, t) {
-            return false;
-        }
-        i = after_in(s, hex, i, x.size);
-        left = left - 1;
-    }
-    true
-}
-
-pub fn distinct(s: &[u8], hex: bool, at: usize, n: u64) -> bool
-    requires { ⌜ (at ≤ length (now s)) × (whole (formC hex recC) n (now s) at ≡ true) × (n < 4294967296) ⌝ }
-    ensures { λ r. ⌜ r ≡ distinct? (listAt (formC hex recC) n (now (s .entry)) at) ⌝ }
-{
-    let mut t = [0u64; 2048];
-    distinct_by(s, hex, at, n, &mut t)
 }
 
 // Is the id one of the n ids at offset `at` of the frame at base?

@@ -80,15 +80,29 @@ fn swap(v: &mut [u64], i: usize, j: usize)
     v[j] = a;
 }
 
+// What rows are put in order by: themselves as numbers, or the ids at their places.
+pub enum Order {
+    Numbers,
+    Ids(bool),
+}
+
+// Does the row x go before y, or are they alike?
+fn leads(s: &[u8], o: Order, x: u64, y: u64) -> bool {
+    match o {
+        Order::Numbers => x <= y,
+        Order::Ids(hex) => up_to(s, hex, x, y),
+    }
+}
+
 // Of the two rows below i in a heap of n, the one that goes last.
-fn child(s: &[u8], hex: bool, v: &[u64], i: usize, n: usize) -> usize
+fn child(s: &[u8], o: Order, v: &[u64], i: usize, n: usize) -> usize
     requires { ⌜ (i < n / 2) × (n ≤ length (now v)) ⌝ }
     ensures { λ r. ⌜ (i < r) × (r < n) ⌝ }
 {
     let a = 2 * i + 1;
     let b = a + 1;
     if b < n {
-        if up_to(s, hex, v[a], v[b]) {
+        if leads(s, o, v[a], v[b]) {
             return b;
         }
     }
@@ -96,14 +110,14 @@ fn child(s: &[u8], hex: bool, v: &[u64], i: usize, n: usize) -> usize
 }
 
 // The row at `from` goes down in a heap of n.
-fn sift(s: &[u8], hex: bool, v: &mut [u64], from: usize, n: usize)
+fn sift(s: &[u8], o: Order, v: &mut [u64], from: usize, n: usize)
     requires { ⌜ n ≤ length (now v) ⌝ }
     ensures { λ _. ⌜ Shuffled (now (v .entry)) (now (v .exit)) ⌝ }
 {
     let mut i = from;
     while i < n / 2 {
-        let c = child(s, hex, v, i, n);
-        if up_to(s, hex, v[c], v[i]) {
+        let c = child(s, o, v, i, n);
+        if leads(s, o, v[c], v[i]) {
             return;
         }
         swap(v, i, c);
@@ -111,34 +125,34 @@ fn sift(s: &[u8], hex: bool, v: &mut [u64], from: usize, n: usize)
     }
 }
 
-fn heap(s: &[u8], hex: bool, v: &mut [u64])
+fn heap(s: &[u8], o: Order, v: &mut [u64])
     ensures { λ _. ⌜ Shuffled (now (v .entry)) (now (v .exit)) ⌝ }
 {
     let n = v.len();
     let mut i = n / 2;
     while 0 < i {
         i = i - 1;
-        sift(s, hex, v, i, n);
+        sift(s, o, v, i, n);
     }
 }
 
-fn unheap(s: &[u8], hex: bool, v: &mut [u64])
+fn unheap(s: &[u8], o: Order, v: &mut [u64])
     ensures { λ _. ⌜ Shuffled (now (v .entry)) (now (v .exit)) ⌝ }
 {
     let mut e = v.len();
     while 1 < e {
         e = e - 1;
         swap(v, 0, e);
-        sift(s, hex, v, 0, e);
+        sift(s, o, v, 0, e);
     }
 }
 
 // Heap sort. It is proved to keep the rows; that they are in order is looked at afterwards.
-fn order_rows(s: &[u8], hex: bool, v: &mut [u64])
+pub fn order_rows(s: &[u8], o: Order, v: &mut [u64])
     ensures { λ _. ⌜ Shuffled (now (v .entry)) (now (v .exit)) ⌝ }
 {
-    heap(s, hex, v);
-    unheap(s, hex, v);
+    heap(s, o, v);
+    unheap(s, o, v);
 }
 
 fn in_order(s: &[u8], hex: bool, v: &[u64]) -> bool
@@ -257,7 +271,10 @@ fn crossed(s: &[u8], hex: bool, at: usize, n: u64, v: &mut [u64]) -> bool
     requires { ⌜ (at ≤ length (now s)) × (whole (formC hex recC) n (now s) at ≡ true) × (length (now s) < 4294967296) × (n < 4294967296) ⌝ }
     ensures { λ r. ⌜ Looked hex (now (s .entry)) (listAt (formC hex recC) n (now (s .entry)) at) (now (v .entry)) r (now (v .exit)) ⌝ }
 {
-    order_rows(s, hex, v);
+    if v.len() == 0 {
+        return false;
+    }
+    order_rows(s, Order::Ids(hex), v);
     let o = in_order(s, hex, v);
     pass(s, hex, at, n, v, o)
 }

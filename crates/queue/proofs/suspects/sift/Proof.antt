@@ -11,14 +11,14 @@ use Rattle.queue.proofs.suspects.sift.Tie as tie
 use Rattle.queue.proofs.suspects.sift.Reads as reads
 use Rattle.queue.proofs.suspects.sift.Lts as lts
 use Rattle.queue.proofs.suspects.child.Reads as child-reads
+use Rattle.queue.proofs.suspects.leads.Reads as leads-reads
 use Rattle.queue.proofs.suspects.swap.Reads as swap-reads
-use Rattle.queue.proofs.suspects.up_to.Reads as up-to-reads
 
 abbrev Inv-loop : tie.InvT-loop
-Inv-loop s hex v₀ from n i₀ v i = Shuffled v₀ v × (length v ≡ length v₀)
+Inv-loop s o v₀ from n i₀ v i = Shuffled v₀ v × (length v ≡ length v₀)
 
 abbrev μ-loop : tie.MeasureT-loop
-μ-loop s hex v₀ from n i₀ v i = n - i
+μ-loop s o v₀ from n i₀ v i = n - i
 
 loop-holds : tie.Need-loop-holds Inv-loop μ-loop
 loop-holds c = (shuffled-self _, refl)
@@ -26,20 +26,20 @@ loop-holds c = (shuffled-self _, refl)
 child-requires : tie.Need-child-requires Inv-loop μ-loop
 child-requires c κs = search needs
 
-mul-up-to : tie.Need-mul-up-to Inv-loop μ-loop
-mul-up-to c = search needs
+mul-leads : tie.Need-mul-leads Inv-loop μ-loop
+mul-leads c = search needs
 
-slice-read-up-to : tie.Need-slice-read-up-to Inv-loop μ-loop
-slice-read-up-to c = search needs
+slice-read-leads : tie.Need-slice-read-leads Inv-loop μ-loop
+slice-read-leads c = search needs
 
-mul-up-to-2 : tie.Need-mul-up-to-2 Inv-loop μ-loop
-mul-up-to-2 c = search needs
+mul-leads-2 : tie.Need-mul-leads-2 Inv-loop μ-loop
+mul-leads-2 c = search needs
 
-slice-read-up-to-2 : tie.Need-slice-read-up-to-2 Inv-loop μ-loop
-slice-read-up-to-2 c = search needs
+slice-read-leads-2 : tie.Need-slice-read-leads-2 Inv-loop μ-loop
+slice-read-leads-2 c = search needs
 
-up-to-requires : tie.Need-up-to-requires Inv-loop μ-loop
-up-to-requires c κs = search needs
+leads-requires : tie.Need-leads-requires Inv-loop μ-loop
+leads-requires c κs = search needs
 
 same-length : tie.Need-same-length Inv-loop μ-loop
 same-length c = search needs
@@ -70,11 +70,11 @@ sift-spec =
     μ-loop
     loop-holds
     child-requires
-    mul-up-to
-    slice-read-up-to
-    mul-up-to-2
-    slice-read-up-to-2
-    up-to-requires
+    mul-leads
+    slice-read-leads
+    mul-leads-2
+    slice-read-leads-2
+    leads-requires
     same-length
     returns
     swap-requires

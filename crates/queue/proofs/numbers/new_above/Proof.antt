@@ -5,10 +5,10 @@ use Prim.Native.Nat.{ℕ, _≤_, _+_, _-_, _*_, _<_}
 use borrow.Author.Tests.{lt-ltb, le-ltb}
 use Rattle.queue.specs.Finishing.{newAbove}
 use borrow.Author.Needs.{needs}
-use Rattle.queue.proofs.finish.new_above.Statement.{statement}
-use Rattle.queue.proofs.finish.new_above.Tie as tie
-use Rattle.queue.proofs.finish.new_above.Reads as reads
-use Rattle.queue.proofs.finish.new_above.Lts as lts
+use Rattle.queue.proofs.numbers.new_above.Statement.{statement}
+use Rattle.queue.proofs.numbers.new_above.Tie as tie
+use Rattle.queue.proofs.numbers.new_above.Reads as reads
+use Rattle.queue.proofs.numbers.new_above.Lts as lts
 
 returns : tie.Need-returns
 unfolding newAbove
