@@ -49,14 +49,14 @@ row-no p h = digits-mod p h
 
 -- ---- the order of ids
 module _ (hex : Bool) (s : Bytes) (x : ℕ) where
-  id-short : length (view hex s (x / 4294967296)) < 32 → idR hex s x ≡ []
+  pub id-short : length (view hex s (x / 4294967296)) < 32 → idR hex s x ≡ []
   unfolding idR
   id-short h = rw (lt-leb 32 _ h)
     where
       lt-leb : (a b : ℕ) → b < a → leb a b ≡ false
       lt-leb a b h = cases (leb a b) (λ t. let k = leb-true a b t in absurd (let z : ⊥ = omega arith in z)) (λ t. t)
 
-  id-long : 32 ≤ length (view hex s (x / 4294967296)) → idR hex s x ≡ part 32 (view hex s (x / 4294967296)) 0
+  pub id-long : 32 ≤ length (view hex s (x / 4294967296)) → idR hex s x ≡ part 32 (view hex s (x / 4294967296)) 0
   unfolding idR
   id-long h = rw (le-leb 32 _ h)
 
@@ -83,7 +83,7 @@ module _ (hex : Bool) (s : Bytes) (x y : ℕ) {a b : ℕ} (p : a ≡ length (vie
 
 -- ---- the order of rows
 module _ (hex : Bool) (s : Bytes) where
-  up-by : {X : Type 0} (x y : ℕ) → upTo hex s x y ≡ true → (cmpL (idR hex s x) (idR hex s y) ≡ 0 → X) → (idR hex s x ≡ idR hex s y → noR x ≤ noR y → X) → X
+  pub up-by : {X : Type 0} (x y : ℕ) → upTo hex s x y ≡ true → (cmpL (idR hex s x) (idR hex s y) ≡ 0 → X) → (idR hex s x ≡ idR hex s y → noR x ≤ noR y → X) → X
   unfolding upTo
   up-by x y h f g =
       let c = cmpL (idR hex s x) (idR hex s y) in
@@ -102,7 +102,7 @@ module _ (hex : Bool) (s : Bytes) where
   up-self : (x : ℕ) → upTo hex s x x ≡ true
   up-self x = up-same x x refl (omega arith)
 
-  lower-trans : (a b c : Id) → cmpL a b ≡ 0 → cmpL b c ≡ 0 → cmpL a c ≡ 0
+  pub lower-trans : (a b c : Id) → cmpL a b ≡ 0 → cmpL b c ≡ 0 → cmpL a c ≡ 0
   lower-trans a b c h k = eqb-true (cmpL a c) 0 (below-trans a b c (eq-eqb (cmpL a b) 0 h) (eq-eqb (cmpL b c) 0 k))
 
   up-trans : (x y z : ℕ) → upTo hex s x y ≡ true → upTo hex s y z ≡ true → upTo hex s x z ≡ true
@@ -200,7 +200,7 @@ module _ (hex : Bool) (s : Bytes) (v : List ℕ) where
       let e : i + suc d ≡ (i + d) + 1 = omega arith in
       rw e (up-trans hex s (getD v i 0) (getD v (i + d) 0) (getD v (i + d + 1) 0) (apart-by o d i (omega arith)) (o .next (i + d) (omega arith)))
 
-  rising : InOrder hex s v → (i j : ℕ) → i ≤ j → j < length v → upTo hex s (getD v i 0) (getD v j 0) ≡ true
+  pub rising : InOrder hex s v → (i j : ℕ) → i ≤ j → j < length v → upTo hex s (getD v i 0) (getD v j 0) ≡ true
   rising o i j h l = let e : i + (j - i) ≡ j = omega arith in rw e at (apart-by o (j - i) i (omega arith))
 
   pub cut-start : (y : ℕ) → Cut hex s v y 0 (length v)

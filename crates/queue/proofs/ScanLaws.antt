@@ -21,7 +21,7 @@ use Rattle.queue.specs.Areas.{zero?}
 use Rattle.queue.specs.paper.Records.{Bytes, Id, Rec}
 use Rattle.queue.specs.paper.Lists.{any?, total}
 use Rattle.queue.specs.paper.Ids.{cmpL}
-use Rattle.queue.specs.paper.Sound.{rising?, among?, used?, clash?}
+use Rattle.queue.specs.paper.Sound.{rising?, among?}
 use Rattle.queue.specs.declared.frame.Seen.{Seen}
 use Rattle.queue.specs.declared.rules.Query.{Query}
 use Rattle.queue.proofs.Turns.{Scan, start, here, on, stop, end, SeenIn, ReadsRec, seen, see}
@@ -124,38 +124,6 @@ module _ (z : Id) {v : Bytes} {n at i left : ℕ} (x : Scan idC (amongF z) v n a
   pub among-end : left ≡ 0 → false ≡ among? z (listAt idC n v at)
   unfolding amongF
   among-end e = end x e
-
-unfoldable pub usedF : Id → Unit {0} → List Rec → Bool
-usedF x u l = used? x l
-
-module _ (hex : Bool) (z : Id) {s : Bytes} {n at i left : ℕ} (x : Scan (formC hex recC) (usedF z) s n at tt i left tt) where
-  pub used-go : {m j : ℕ} {ok b : Bool} {y : Seen} → 0 < left → ReadsRec hex s i ok m y → j ≡ afterIn hex s i m → b ≡ among? z (listAt idC (y .facts .ins) (view hex s i) (y .at)) → b ≡ false → Scan (formC hex recC) (usedF z) s n at tt j (left - 1) tt
-  unfolding used? usedF
-  used-go h r g e f = let t = see hex x h r g in on x tt h t (rw (← (t .is .0 .insList), ← e, f))
-
-  pub used-stop : {m : ℕ} {ok b : Bool} {y : Seen} → 0 < left → ReadsRec hex s i ok m y → b ≡ among? z (listAt idC (y .facts .ins) (view hex s i) (y .at)) → b ≡ true → true ≡ used? z (listAt (formC hex recC) n s at)
-  unfolding used? usedF
-  used-stop h r e f = let t = seen hex x h r in stop x t (rw (← (t .is .0 .insList), ← e, f))
-
-  pub used-end : left ≡ 0 → false ≡ used? z (listAt (formC hex recC) n s at)
-  unfolding used? usedF
-  used-end e = end x e
-
-unfoldable pub clashF : List Rec → Unit {0} → List Id → Bool
-clashF l u i = clash? i l
-
-module _ (l : List Rec) {v : Bytes} {n at i left : ℕ} (x : Scan idC (clashF l) v n at tt i left tt) where
-  pub clash-go : {next : ℕ} {ok b : Bool} {y : Id} → 0 < left → Reads idC v i ok next (λ w. w ≡ y) → b ≡ used? y l → b ≡ false → Scan idC (clashF l) v n at tt next (left - 1) tt
-  unfolding clash? clashF
-  clash-go h r e f = let t = here x h r in on x tt h t (rw (t .is, ← e, f))
-
-  pub clash-stop : {next : ℕ} {ok b : Bool} {y : Id} → 0 < left → Reads idC v i ok next (λ w. w ≡ y) → b ≡ used? y l → b ≡ true → true ≡ clash? (listAt idC n v at) l
-  unfolding clash? clashF
-  clash-stop h r e f = let t = here x h r in stop x t (rw (t .is, ← e, f))
-
-  pub clash-end : left ≡ 0 → false ≡ clash? (listAt idC n v at) l
-  unfolding clash? clashF
-  clash-end e = end x e
 
 -- ---- zeros
 zero-cut : (s : Bytes) (i to : ℕ) → i < to → to ≤ length s → zero? (take (to - i) (drop i s)) ≡ cond (eqb (getD s i 0) 0) (zero? (take (to - (i + 1)) (drop (i + 1) s))) false

@@ -36,6 +36,7 @@ pub mod CallsAs
 pub mod PiecesAs
 pub mod Reopens
 pub mod Admitting
+pub mod Clash
 pub mod Reserving
 pub mod Touching
 pub mod Releasing

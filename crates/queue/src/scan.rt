@@ -25,7 +25,7 @@ ghost use Rattle.queue.specs.Rules.{sum};
 ghost use Rattle.queue.specs.Filter.{hashL, heldBy, Passed};
 ghost use Rattle.queue.specs.paper.Ids.{same?};
 ghost use Rattle.queue.specs.Areas.{zero?};
-ghost use Rattle.queue.specs.paper.Sound.{rising?, among?, used?, apart?};
+ghost use Rattle.queue.specs.paper.Sound.{rising?, among?, apart?};
 
 pub struct Span {
     pub ok: bool,
@@ -109,24 +109,6 @@ pub fn has_id(s: &[u8], hex: bool, base: usize, at: usize, n: u64, id: [u8; 32])
             return true;
         }
         i = x.next;
-        left = left - 1;
-    }
-    false
-}
-
-pub fn used_in(s: &[u8], hex: bool, at: usize, n: u64, id: [u8; 32]) -> bool
-    requires { ⌜ (at ≤ length (now s)) × (whole (formC hex recC) n (now s) at ≡ true) ⌝ }
-    ensures { λ r. ⌜ r ≡ used? id (listAt (formC hex recC) n (now (s .entry)) at) ⌝ }
-{
-    let mut i = at;
-    let mut left = n;
-    while 0 < left {
-        let x = rec_at(s, hex, i);
-        let f = x.facts;
-        if has_id(s, hex, i, x.at, f.ins, id) {
-            return true;
-        }
-        i = after_in(s, hex, i, x.size);
         left = left - 1;
     }
     false

@@ -36,7 +36,7 @@ fn place(s: &[u8], hex: bool, base: usize, i: usize) -> usize
 }
 
 // The row of the id at offset i of the frame at base, which is that of record number k.
-fn row_at(s: &[u8], hex: bool, base: usize, i: usize, k: u64) -> u64
+pub fn row_at(s: &[u8], hex: bool, base: usize, i: usize, k: u64) -> u64
     requires { ⌜ (i + 32 ≤ length (view hex (now s) base)) × (length (now s) < 4294967296) × (k < 4294967296) ⌝ }
     ensures { λ r. ⌜ (idR hex (now (s .entry)) r ≡ part 32 (view hex (now (s .entry)) base) i) × (noR r ≡ k) ⌝ }
 {
@@ -155,7 +155,7 @@ pub fn order_rows(s: &[u8], o: Order, v: &mut [u64])
     unheap(s, o, v);
 }
 
-fn in_order(s: &[u8], hex: bool, v: &[u64]) -> bool
+pub fn in_order(s: &[u8], hex: bool, v: &[u64]) -> bool
     ensures { λ r. ⌜ (r ≡ true → InOrder hex (now (s .entry)) (now (v .entry))) ⌝ }
 {
     let mut i: usize = 1;
