@@ -115,7 +115,7 @@ module _ {s : Bytes} {a : Area} (w : AreaIn s a) {x : Asked} {id ins outs bytes 
   pub short-label : x .labelflag ≡ 1 → length label ≤ 200
   short-label e = let z : ltb 200 (length label) ≡ false = rw (eq-eqb (x .labelflag) 1 e) at (i .short) in ltb-false 200 (length label) z
 
-  few-ids : (length ins / 32 ≤ 128) × (length outs / 32 ≤ 128)
+  pub few-ids : (length ins / 32 ≤ 128) × (length outs / 32 ≤ 128)
   few-ids =
       let k : w .q .limits .K ≡ a .open .head .k = w .read .store .head .K in
       let f = fit (w .read) .sound .range .K-high in

@@ -19,18 +19,14 @@ use Rattle.queue.specs.Forms.{formC, afterIn}
 use Rattle.queue.specs.View.{view}
 use Rattle.queue.specs.Reads.{Reads, whole, listAt}
 use Rattle.queue.specs.ReadLaws.{turn, none-left, false-true}
-use Rattle.queue.specs.Facts.{factsOf}
-use Rattle.queue.specs.Rules.{sum, stampedF}
-use Rattle.queue.specs.Filter.{slotL, maskL, hashL, marked, markL, hasIn, heldBy, numbered, Passed}
+use Rattle.queue.specs.Filter.{slotL, maskL, hashL, marked, markL, hasIn, heldBy, Passed}
 use Rattle.queue.specs.paper.Records.{Bytes, Id, Rec}
 use Rattle.queue.specs.paper.Lists.{one, count}
 use Rattle.queue.specs.paper.Ids.{same?}
 use Rattle.queue.specs.paper.Sound.{holder?, inputs, stamped?, distinct?, among?, used?, clash?, apart?}
-use Rattle.queue.specs.declared.frame.Facts.{Facts}
 use Rattle.queue.specs.declared.frame.Seen.{Seen}
-use Rattle.queue.specs.declared.rules.Query.the-variants.{Stamped}
 use Rattle.queue.proofs.Turns.{Scan, on, end, ReadsRec, see}
-use Rattle.queue.proofs.ScanLaws.{nothingF, stamped-sum}
+use Rattle.queue.proofs.ScanLaws.{nothingF}
 
 -- ---- bits
 max-assoc : (a b c : ℕ) → max (max a b) c ≡ max a (max b c)
@@ -70,7 +66,7 @@ slot-in : (n h : ℕ) → 0 < n → slotL n h < n
 unfolding slotL
 slot-in n h p = mod-lt h p
 
-mark-size : (t : List ℕ) (h : ℕ) → length (markL t h) ≡ length t
+pub mark-size : (t : List ℕ) (h : ℕ) → length (markL t h) ≡ length t
 unfolding markL
 mark-size t h = simp length-set
 
@@ -79,7 +75,7 @@ module _ (t : List ℕ) (h : ℕ) (p : 0 < length t) where
   unfolding markL
   at-slot = getD-set-same t (slotL (length t) h) _ 0 (slot-in (length t) h p)
 
-  mark-here : marked (markL t h) h ≡ true
+  pub mark-here : marked (markL t h) h ≡ true
   unfolding marked
   mark-here = rw (mark-size t h, at-slot) (let w = getD t (slotL (length t) h) 0 in eq-eqb (bitOr (bitOr w (maskL h)) (maskL h)) (bitOr w (maskL h)) (or-keep w (maskL h)))
 
@@ -87,7 +83,7 @@ module _ (t : List ℕ) (h : ℕ) (p : 0 < length t) where
   unfolding markL
   other g k = getD-set-other t (slotL (length t) h) (slotL (length t) g) _ 0 k
 
-  mark-old : (g : ℕ) → marked t g ≡ true → marked (markL t h) g ≡ true
+  pub mark-old : (g : ℕ) → marked t g ≡ true → marked (markL t h) g ≡ true
   unfolding marked
   mark-old g e =
       let w = getD t (slotL (length t) g) 0 in
@@ -220,13 +216,13 @@ clash-some l x (y ∷ i) e u = cases (same? x y)
     (λ t. let q = same-is x y t in rw (← q, u))
     (λ t. cases (used? y l) (λ v. rw v) (λ v. rw v (clash-some l x i (rw t at e) u)))
 
-apart-yes : (l : List Rec) → ((x : Id) → count (hasIn x) l ≤ 1) → true ≡ apart? l
+pub apart-yes : (l : List Rec) → ((x : Id) → count (hasIn x) l ≤ 1) → true ≡ apart? l
 unfolding apart?
 apart-yes [] k = refl
 apart-yes (r ∷ l) k = rw (clash-none l (inputs (r .body)) (λ x h. used-none x l (let q = rw h at (k x) in omega arith)))
     (apart-yes l (λ x. let q = k x in omega arith))
 
-apart-no : (l : List Rec) (x : Id) → 2 ≤ count (hasIn x) l → false ≡ apart? l
+pub apart-no : (l : List Rec) (x : Id) → 2 ≤ count (hasIn x) l → false ≡ apart? l
 unfolding apart?
 apart-no [] x e = absurd (let z : ⊥ = omega arith in z)
 apart-no (r ∷ l) x e = cases (hasIn x r)
@@ -234,7 +230,7 @@ apart-no (r ∷ l) x e = cases (hasIn x r)
     (λ t. let f = rw t at e in cases (clash? (inputs (r .body)) l) (λ v. rw v) (λ v. rw v (apart-no l x (omega arith))))
 
 -- ---- finish numbers by counts
-distinct-yes : (l : List Rec) → ((m : ℕ) → count (stamped? m) l ≤ 1) → true ≡ distinct? l
+pub distinct-yes : (l : List Rec) → ((m : ℕ) → count (stamped? m) l ≤ 1) → true ≡ distinct? l
 unfolding distinct?
 distinct-yes [] k = refl
 distinct-yes (r ∷ l) k =
@@ -246,7 +242,7 @@ distinct-yes (r ∷ l) k =
     let z : count (stamped? (r .finish)) l ≡ 0 = omega arith in
     rw (t, eq-eqb (count (stamped? (r .finish)) l) 0 z) i)
 
-distinct-no : (l : List Rec) (m : ℕ) → 2 ≤ count (stamped? m) l → false ≡ distinct? l
+pub distinct-no : (l : List Rec) (m : ℕ) → 2 ≤ count (stamped? m) l → false ≡ distinct? l
 unfolding distinct?
 distinct-no [] m e = absurd (let z : ⊥ = omega arith in z)
 distinct-no (r ∷ l) m e = cases (stamped? m r)
@@ -302,35 +298,6 @@ module _ (hex : Bool) {s : Bytes} {n at i left : ℕ} {t : List ℕ} (x : Scan (
 
   pub apart-end : left ≡ 0 → true ≡ apart? (listAt (formC hex recC) n s at)
   apart-end e = apart-yes (listAt (formC hex recC) n s at) (walk-end (rw (none-left (formC hex recC) s left i e .0) at w))
-
-module _ (hex : Bool) {s : Bytes} {n at i left : ℕ} {t : List ℕ} (x : Scan (formC hex recC) nothingF s n at tt i left tt) (w : Walk stamped? (λ k. k) (listAt (formC hex recC) n s at) (listAt (formC hex recC) left s i) t) where
-  module _ {m : ℕ} {ok b : Bool} {y : Seen} {t′ : List ℕ} (p : 0 < left) (r : ReadsRec hex s i ok m y)
-      (g : Passed (λ k. stampedF k (y .facts)) (λ k. k) (numbered (listAt (formC hex recC) n s at)) t b t′) where
-    pub distinct-go : {j : ℕ} → j ≡ afterIn hex s i m → b ≡ false → Scan (formC hex recC) nothingF s n at tt j (left - 1) tt × Walk stamped? (λ k. k) (listAt (formC hex recC) n s at) (listAt (formC hex recC) (left - 1) s j) t′
-    unfolding nothingF numbered stampedF factsOf
-    distinct-go {j} e f =
-        let u = see hex x p r e in
-        (on x tt p u refl, walk-go stamped? (λ k. k) (listAt (formC hex recC) n s at) (u .item) (listAt (formC hex recC) (left - 1) s j) (rw (u .list) at w) (pass-own (λ k. stamped? k (u .item)) (λ k. ap (stampedF k) (u .is .0 .facts)) g) f)
-
-    pub distinct-stop : b ≡ true → false ≡ distinct? (listAt (formC hex recC) n s at)
-    unfolding numbered
-    distinct-stop f = let u = g .two f in distinct-no (listAt (formC hex recC) n s at) (u .0) (u .1)
-
-  pub distinct-end : left ≡ 0 → true ≡ distinct? (listAt (formC hex recC) n s at)
-  distinct-end e = distinct-yes (listAt (formC hex recC) n s at) (walk-end (rw (none-left (formC hex recC) s left i e .0) at w))
-
--- ---- a tombstone's number
-pub stamp-none : (f : Facts) → f .holder ≡ true → (k : ℕ) → stampedF k f ≡ false
-unfolding stampedF
-stamp-none f e k = rw e
-
-pub stamp-only : (f : Facts) (k : ℕ) → stampedF k f ≡ true → f .finish .0 ≡ k
-unfolding stampedF
-stamp-only f k e = eqb-true (f .finish .0) k (and-true (not (f .holder)) (eqb (f .finish .0) k) e .1)
-
-pub numbered-is : (m c : ℕ) (l : List Rec) → c ≡ sum (Stamped (record { 0 = m })) l → c ≡ numbered l m
-unfolding numbered
-numbered-is m c l e = e ∙ stamped-sum m l
 
 -- ---- an id's bytes
 pub id-room : (x : Id) (at : ℕ) → length x ≡ 32 → at ≤ 24 → (8 ≤ 8) × (at + 8 ≤ length (view false x 0))

@@ -32,7 +32,7 @@ use Rattle.queue.specs.paper.Changing.{named?, due?, reached?, finished,
 use Rattle.queue.specs.Finishing.{picked, pickedS, fateOf, stepL, stepCount, one?, walkL, finBytes, stepBytes, Floors, newAbove, above}
 use Rattle.queue.specs.declared.frame.Seen.{Seen}
 use Rattle.queue.specs.declared.frame.Finish.{Finish}
-use Rattle.queue.specs.declared.rules.Query.the-variants.{Above, Tombstones}
+use Rattle.queue.specs.declared.rules.Query.the-variants.{Tombstones}
 use Rattle.queue.specs.declared.finish.Change.{Change}
 use Rattle.queue.specs.declared.finish.Change.the-variants.{Named, Due}
 use Rattle.queue.specs.declared.finish.Fate.{Fate}
@@ -175,82 +175,6 @@ pub floors : (p : Rec → Bool) (state reason n t floor : ℕ) (l : List Rec) �
     → Floors t floor (finishThose p state reason n l)
 floors p state reason n t floor l h =
     floors-of n (count p l) t floor l (finishThose p state reason n l) (tombs-finished p state reason n l h) (λ x. above-finished p state reason n l x h)
-
--- ---- the search for the floor
-sum-falls : (a b : ℕ) (l : List Rec) → a ≤ b → sum (Above (record { 0 = b })) l ≤ sum (Above (record { 0 = a })) l
-unfolding sum weight aboveF
-sum-falls a b [] h = omega arith
-sum-falls a b (r ∷ l) h = let i = sum-falls a b l h in cases (factsOf r .holder)
-    (λ t. rw t (omega arith))
-    (λ t. cases (ltb b (factsOf r .finish .0))
-    (λ u. let k = ltb-true b (factsOf r .finish .0) u in rw (t, u, lt-ltb a (factsOf r .finish .0) (omega arith)) (omega arith))
-    (λ u. rw (t, u) (omega arith)))
-
-new-falls : (num m a b : ℕ) → a ≤ b → newAbove num m b ≤ newAbove num m a
-unfolding newAbove
-new-falls num m a b h = cases (ltb a num)
-    (λ t. cases (ltb b num) (λ u. rw (t, u) (omega arith)) (λ u. let k = ltb-false b num u in cases (ltb b (num + m)) (λ w. rw (t, u, w) (omega arith)) (λ w. rw (t, u, w) (omega arith))))
-    (λ t. let x = ltb-false a num t in let y = le-ltb b num (omega arith) in cases (ltb a (num + m))
-    (λ u. cases (ltb b (num + m)) (λ w. rw (t, y, u, w) (omega arith)) (λ w. rw (t, y, u, w) (omega arith)))
-    (λ u. let z = ltb-false a (num + m) u in rw (t, y, u, le-ltb b (num + m) (omega arith)) (omega arith)))
-
-pub above-falls : (num m : ℕ) (l : List Rec) (a b : ℕ) → a ≤ b → above num m l b ≤ above num m l a
-unfolding above
-above-falls num m l a b h = let i = sum-falls a b l h in let j = new-falls num m a b h in omega arith
-
--- all numbers from hi on have fewer than t above them, none below lo has
-pub record Between (num m t : ℕ) (l : List Rec) (lo hi : ℕ) : Type 0 where
-  pub order : lo ≤ hi
-  pub most : hi ≤ num + m
-  pub high : (x : ℕ) → hi ≤ x → above num m l x < t
-  pub low : (x : ℕ) → x < lo → t ≤ above num m l x
-
-sum-top : (k : ℕ) (l : List Rec) → All (λ r. holder? r ≡ false → r .finish ≤ k) l → sum (Above (record { 0 = k })) l ≡ 0
-unfolding sum weight aboveF factsOf
-sum-top k [] h = refl
-sum-top k (r ∷ l) h = let i = sum-top k l (h .1) in cases (holder? r)
-    (λ t. rw t (omega arith))
-    (λ t. let g = h .0 t in rw (t, le-ltb k (r .finish) g) (omega arith))
-
-new-top : (num m x : ℕ) → num + m ≤ x → newAbove num m x ≡ 0
-unfolding newAbove
-new-top num m x h = cases (ltb x num)
-    (λ t. let k = ltb-true x num t in let z : m ≡ 0 = omega arith in rw (t, z))
-    (λ t. rw (t, le-ltb x (num + m) h))
-
-pub search-start : (num m t : ℕ) (l : List Rec) → 0 < t → All (λ r. holder? r ≡ false → r .finish ≤ num) l → Between num m t l 0 (num + m)
-unfolding above
-search-start num m t l h g = record {
-  order = omega arith;
-  most = omega arith;
-  high = λ x k.
-      let a = sum-top x l (all-to l (λ r f b. let y = f b in omega arith) g) in
-      let b = new-top num m x k in omega arith;
-  low = λ x k. absurd (let y : ⊥ = omega arith in y);
-}
-
-pub search-high : {num m t : ℕ} {l : List Rec} {lo hi : ℕ} (mid a b : ℕ) → Between num m t l lo hi → lo ≤ mid → mid < hi → a ≡ sum (Above (record { 0 = mid })) l → b ≡ newAbove num m mid → a + b < t → Between num m t l lo mid
-unfolding above
-search-high {num} {m} {t} {l} mid a b x h k e f g = record {
-  order = h;
-  most = omega (arith, x .most);
-  high = λ y z. let i = above-falls num m l mid y z in omega arith;
-  low = x .low;
-}
-
-pub search-low : {num m t : ℕ} {l : List Rec} {lo hi : ℕ} (mid a b : ℕ) → Between num m t l lo hi → mid < hi → a ≡ sum (Above (record { 0 = mid })) l → b ≡ newAbove num m mid → t ≤ a + b → Between num m t l (mid + 1) hi
-unfolding above
-search-low {num} {m} {t} {l} mid a b x k e f g = record {
-  order = omega arith;
-  most = x .most;
-  high = x .high;
-  low = λ y z. let i = above-falls num m l y mid (omega arith) in omega arith;
-}
-
-pub search-end : {num m t : ℕ} {l : List Rec} {lo hi : ℕ} → Between num m t l lo hi → hi ≤ lo → (x : ℕ) → ltb (above num m l x) t ≡ leb hi x
-search-end {num} {m} {t} {l} {lo} {hi} w h x = cases (leb hi x)
-    (λ u. lt-ltb _ _ (w .high x (leb-true hi x u)) ∙ sym u)
-    (λ u. le-ltb _ _ (w .low x (let k = leb-false hi x u in omega (arith, w .order))) ∙ sym u)
 
 -- ---- counting those picked
 unfoldable pub hitsFrom : Change → Id → ℕ → List Rec → ℕ

@@ -4,6 +4,10 @@ pub mod PutLaws
 pub mod Turns
 pub mod ScanLaws
 pub mod FilterLaws
+pub mod RowLaws
+pub mod SuspectLaws
+pub mod NumberLaws
+pub mod ClashLaws
 pub mod OpenLaws
 pub mod ByteLaws
 pub mod FinishLaws

@@ -109,10 +109,26 @@ pub sound-out : (m : Limits) (c : ℕ) (l : List Rec) → inRange m ≡ false �
 unfolding soundL
 sound-out m c l e = rw e
 
-pub sound-in : (p b t k : ℕ) (c : Finish) (l : List Rec) {x y z : Bool} {n : ℕ} → inRange (limits p b t k) ≡ true → x ≡ (heldOk p b t l && minedOk p b t l) → n ≡ sum (Wrong k c) l → y ≡ rising? l → z ≡ (distinct? l && apart? l)
-    → (x && (eqb n 0 && (y && z))) ≡ soundL (limits p b t k) (c .0) l
+pub sound-many : (p b t k c : ℕ) (l : List Rec) {x : Bool} → x ≡ (heldOk p b t l && minedOk p b t l) → x ≡ false → false ≡ soundL (limits p b t k) c l
 unfolding soundL counts? heldOk minedOk
-sound-in p b t k c l r e f g h = rw (r, e, f, right-sum k c l, g, h)
+sound-many p b t k c l e f = rw (sym e ∙ f) (never (inRange (limits p b t k)))
+  where
+    never : (a : Bool) → false ≡ (a && false)
+    never true = refl
+    never false = refl
+
+pub few-tombs : (p b t k : ℕ) (l : List Rec) {x : Bool} → inRange (limits p b t k) ≡ true → x ≡ (heldOk p b t l && minedOk p b t l) → x ≡ true → tombstones l ≤ 1024
+unfolding minedOk
+few-tombs p b t k l r e f =
+    let u = and-true (heldOk p b t l) (minedOk p b t l) (sym e ∙ f) in
+    let h = leb-true (tombstones l) t (and-true (leb (minedHolders l) p && leb (minedBytes l) b) (leb (tombstones l) t) (u .1) .1) in
+    let g = ranged (limits p b t k) r in
+    omega (arith, g .t2)
+
+pub sound-in : (p b t k : ℕ) (c : Finish) (l : List Rec) {x y z : Bool} {n : ℕ} → inRange (limits p b t k) ≡ true → x ≡ (heldOk p b t l && minedOk p b t l) → x ≡ true → n ≡ sum (Wrong k c) l → y ≡ rising? l → z ≡ (distinct? l && apart? l)
+    → (eqb n 0 && (y && z)) ≡ soundL (limits p b t k) (c .0) l
+unfolding soundL counts? heldOk minedOk
+sound-in p b t k c l r e d f g h = rw (r, sym e ∙ d, f, right-sum k c l, g, h)
 
 pub sound-range : (m : Limits) (c : ℕ) (l : List Rec) → soundL m c l ≡ true → inRange m ≡ true
 unfolding soundL

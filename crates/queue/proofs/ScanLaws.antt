@@ -16,15 +16,14 @@ use Rattle.queue.specs.View.{view}
 use Rattle.queue.specs.Reads.{Reads, whole, listAt, behind}
 use Rattle.queue.specs.ReadLaws.{Turn, turn, none-left, whole-step, whole-bad, false-true}
 use Rattle.queue.specs.Facts.{factsOf, SeenAs}
-use Rattle.queue.specs.Rules.{weight, sum, stampedF}
+use Rattle.queue.specs.Rules.{weight, sum}
 use Rattle.queue.specs.Areas.{zero?}
 use Rattle.queue.specs.paper.Records.{Bytes, Id, Rec}
-use Rattle.queue.specs.paper.Lists.{any?, total, count}
+use Rattle.queue.specs.paper.Lists.{any?, total}
 use Rattle.queue.specs.paper.Ids.{cmpL}
-use Rattle.queue.specs.paper.Sound.{rising?, stamped?, among?, used?, clash?}
+use Rattle.queue.specs.paper.Sound.{rising?, among?}
 use Rattle.queue.specs.declared.frame.Seen.{Seen}
 use Rattle.queue.specs.declared.rules.Query.{Query}
-use Rattle.queue.specs.declared.rules.Query.the-variants.{Stamped}
 use Rattle.queue.proofs.Turns.{Scan, start, here, on, stop, end, SeenIn, ReadsRec, seen, see}
 
 -- ---- counts
@@ -126,54 +125,23 @@ module _ (z : Id) {v : Bytes} {n at i left : ℕ} (x : Scan idC (amongF z) v n a
   unfolding amongF
   among-end e = end x e
 
-unfoldable pub usedF : Id → Unit {0} → List Rec → Bool
-usedF x u l = used? x l
-
-module _ (hex : Bool) (z : Id) {s : Bytes} {n at i left : ℕ} (x : Scan (formC hex recC) (usedF z) s n at tt i left tt) where
-  pub used-go : {m j : ℕ} {ok b : Bool} {y : Seen} → 0 < left → ReadsRec hex s i ok m y → j ≡ afterIn hex s i m → b ≡ among? z (listAt idC (y .facts .ins) (view hex s i) (y .at)) → b ≡ false → Scan (formC hex recC) (usedF z) s n at tt j (left - 1) tt
-  unfolding used? usedF
-  used-go h r g e f = let t = see hex x h r g in on x tt h t (rw (← (t .is .0 .insList), ← e, f))
-
-  pub used-stop : {m : ℕ} {ok b : Bool} {y : Seen} → 0 < left → ReadsRec hex s i ok m y → b ≡ among? z (listAt idC (y .facts .ins) (view hex s i) (y .at)) → b ≡ true → true ≡ used? z (listAt (formC hex recC) n s at)
-  unfolding used? usedF
-  used-stop h r e f = let t = seen hex x h r in stop x t (rw (← (t .is .0 .insList), ← e, f))
-
-  pub used-end : left ≡ 0 → false ≡ used? z (listAt (formC hex recC) n s at)
-  unfolding used? usedF
-  used-end e = end x e
-
-unfoldable pub clashF : List Rec → Unit {0} → List Id → Bool
-clashF l u i = clash? i l
-
-module _ (l : List Rec) {v : Bytes} {n at i left : ℕ} (x : Scan idC (clashF l) v n at tt i left tt) where
-  pub clash-go : {next : ℕ} {ok b : Bool} {y : Id} → 0 < left → Reads idC v i ok next (λ w. w ≡ y) → b ≡ used? y l → b ≡ false → Scan idC (clashF l) v n at tt next (left - 1) tt
-  unfolding clash? clashF
-  clash-go h r e f = let t = here x h r in on x tt h t (rw (t .is, ← e, f))
-
-  pub clash-stop : {next : ℕ} {ok b : Bool} {y : Id} → 0 < left → Reads idC v i ok next (λ w. w ≡ y) → b ≡ used? y l → b ≡ true → true ≡ clash? (listAt idC n v at) l
-  unfolding clash? clashF
-  clash-stop h r e f = let t = here x h r in stop x t (rw (t .is, ← e, f))
-
-  pub clash-end : left ≡ 0 → false ≡ clash? (listAt idC n v at) l
-  unfolding clash? clashF
-  clash-end e = end x e
-
--- ---- tombstones with a finish number
-pub stamped-sum : (n : ℕ) (l : List Rec) → sum (Stamped (record { 0 = n })) l ≡ count (stamped? n) l
-unfolding sum weight factsOf stampedF
-stamped-sum n l = refl
-
 -- ---- zeros
 zero-cut : (s : Bytes) (i to : ℕ) → i < to → to ≤ length s → zero? (take (to - i) (drop i s)) ≡ cond (eqb (getD s i 0) 0) (zero? (take (to - (i + 1)) (drop (i + 1) s))) false
 unfolding zero?
 zero-cut s i to h k = let e : to - i ≡ suc (to - (i + 1)) = omega arith in rw (drop-cons s i 0 (omega arith), e, add-one)
 
-pub zero-go : (s : Bytes) (i to : ℕ) {b : Bool} → i < to → to ≤ length s → getD s i 0 ≡ 0 → zero? (take (to - i) (drop i s)) ≡ b → zero? (take (to - (i + 1)) (drop (i + 1) s)) ≡ b
-zero-go s i to h k z e = sym (zero-cut s i to h k ∙ rw (eq-eqb _ _ z)) ∙ e
+and-zero : (a b z : Bool) → (a && cond b z false) ≡ ((a && b) && z)
+and-zero true true z = refl
+and-zero true false z = refl
+and-zero false b z = refl
 
-pub zero-stop : (s : Bytes) (i to : ℕ) {b : Bool} → i < to → to ≤ length s → (getD s i 0 ≡ 0 → ⊥) → zero? (take (to - i) (drop i s)) ≡ b → false ≡ b
-zero-stop s i to h k z e = sym (zero-cut s i to h k ∙ rw (ne-eqb _ _ z)) ∙ e
+pub zero-turn : (s : Bytes) (i to : ℕ) (ok : Bool) → i < to → to ≤ length s → (ok && zero? (take (to - i) (drop i s))) ≡ ((ok && eqb (getD s i 0) 0) && zero? (take (to - (i + 1)) (drop (i + 1) s)))
+zero-turn s i to ok h k = ap (λ z. ok && z) (zero-cut s i to h k) ∙ and-zero ok _ _
 
-pub zero-end : (s : Bytes) (i to : ℕ) {b : Bool} → to ≤ i → zero? (take (to - i) (drop i s)) ≡ b → true ≡ b
+and-one : (a : Bool) → (a && true) ≡ a
+and-one true = refl
+and-one false = refl
+
+pub zero-over : (s : Bytes) (i to : ℕ) (ok : Bool) → to ≤ i → (ok && zero? (take (to - i) (drop i s))) ≡ ok
 unfolding zero?
-zero-end s i to h e = let z : to - i ≡ 0 = omega arith in rw z at e
+zero-over s i to ok h = let z : to - i ≡ 0 = omega arith in rw z (and-one ok)

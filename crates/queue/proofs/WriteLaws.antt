@@ -32,7 +32,7 @@ use Rattle.queue.specs.Writes.{HeadIn, TipIs, MovedFrom, ended, EndedFro
 use Rattle.queue.specs.Plain.{bytes-plain}
 use Rattle.queue.specs.paper.Records.{Bytes, Id, Limits, Rec, Queue}
 use Rattle.queue.specs.paper.Lists.{isSome, all?, count}
-use Rattle.queue.specs.paper.Sound.{need, holder?, right?, finishRight?, sound?, inRange}
+use Rattle.queue.specs.paper.Sound.{need, holder?, right?, finishRight?, sound?, inRange, tombstones}
 use Rattle.queue.specs.paper.Area.{areaBytes, over}
 use Rattle.queue.specs.paper.Changing.{moved, committed, finishThose, forget}
 use Rattle.queue.specs.declared.frame.HeadR.{HeadR}
@@ -203,12 +203,12 @@ all-stamps K c (r ∷ l) h = (λ b. let e : finishRight? c false (r .finish) ≡
 
 pub floor-needs : {s : Bytes} {a : Area} {q : Queue} → AreaAs s a q → (g : ℕ) → g ≤ a .open .head .count → a .open .head .counter .0 + g < 18446744073709551616
     → (a .open .start ≤ length s) × (whole (formC false recC) (a .open .head .count) s (a .open .start) ≡ true) × (a .open .head .count < 4294967296) × (g ≤ a .open .head .count) × (a .open .head .counter .0 + g < 18446744073709551616) × (0 < a .open .head .t) × (a .open .head .t < 4294967296)
-    × All (λ r. holder? r ≡ false → r .finish ≤ a .open .head .counter .0) (listAt (formC false recC) (a .open .head .count) s (a .open .start))
+    × All (λ r. holder? r ≡ false → r .finish ≤ a .open .head .counter .0) (listAt (formC false recC) (a .open .head .count) s (a .open .start)) × (tombstones (listAt (formC false recC) (a .open .head .count) s (a .open .start)) ≤ 1024)
 floor-needs {s} {a} {q} w g h k =
     let st = w .store in
     let f = fit w in
     let t = st .head .T in
-    (omega (arith, st .up, st .ends), st .all, st .head .countSmall, h, k, omega (arith, f .sound .range .T-low), st .head .tSmall, rw (st .list, ← (st .head .counter)) (all-stamps _ _ (q .recs) (f .sound .right)))
+    (omega (arith, st .up, st .ends), st .all, st .head .countSmall, h, k, omega (arith, f .sound .range .T-low), st .head .tSmall, rw (st .list, ← (st .head .counter)) (all-stamps _ _ (q .recs) (f .sound .right)), rw (st .list) (omega (arith, f .sound .fewTombs, f .sound .range .T-high)))
 
 -- ---- finished and forgotten
 module _ {s : Bytes} {a : Area} {c : Change} {id : Id} {state reason m : ℕ} (w : EndedFrom s a c id state reason m) where
@@ -216,7 +216,7 @@ module _ {s : Bytes} {a : Area} {c : Change} {id : Id} {state reason m : ℕ} (w
   list = listAt (formC false recC) (a .open .head .count) s (a .open .start)
 
   pub floor-asks : (a .open .start ≤ length s) × (whole (formC false recC) (a .open .head .count) s (a .open .start) ≡ true) × (a .open .head .count < 4294967296) × (m ≤ a .open .head .count) × (a .open .head .counter .0 + m < 18446744073709551616) × (0 < a .open .head .t) × (a .open .head .t < 4294967296)
-      × All (λ r. holder? r ≡ false → r .finish ≤ a .open .head .counter .0) (listAt (formC false recC) (a .open .head .count) s (a .open .start))
+      × All (λ r. holder? r ≡ false → r .finish ≤ a .open .head .counter .0) (listAt (formC false recC) (a .open .head .count) s (a .open .start)) × (tombstones (listAt (formC false recC) (a .open .head .count) s (a .open .start)) ≤ 1024)
   floor-asks = floor-needs (w .read) m (w .few) (w .room)
 
   abbrev pub Limit : Limits

@@ -10,7 +10,7 @@ use Rattle.queue.specs.View.{view}
 use Rattle.queue.specs.ReadLaws.{beAt}
 use Rattle.queue.specs.paper.Records.{Id, Rec}
 use Rattle.queue.specs.paper.Lists.{count}
-use Rattle.queue.specs.paper.Sound.{inputs, among?, stamped?}
+use Rattle.queue.specs.paper.Sound.{inputs, among?}
 
 -- any place in the table, any bits and any number of an id serve: only speed depends on them
 unfoldable pub slotL : ℕ → ℕ → ℕ
@@ -28,15 +28,12 @@ marked t h = eqb (bitOr (getD t (slotL (length t) h) 0) (maskL h)) (getD t (slot
 unfoldable pub markL : List ℕ → ℕ → List ℕ
 markL t h = set t (slotL (length t) h) (bitOr (getD t (slotL (length t) h) 0) (maskL h))
 
--- how many records have x among their inputs, and how many tombstones have the number m
+-- how many records have x among their inputs
 abbrev pub hasIn : Id → Rec → Bool
 hasIn x r = among? x (inputs (r .body))
 
 unfoldable pub heldBy : List Rec → Id → ℕ
 heldBy l x = count (hasIn x) l
-
-unfoldable pub numbered : List Rec → ℕ → ℕ
-numbered l m = count (stamped? m) l
 
 -- own keys passed: b, and some key counts twice; or every own key is marked now, and counts at most once if it was marked before
 pub record Passed {K : Type 0} (own : K → Bool) (hash H : K → ℕ) (t : List ℕ) (b : Bool) (t′ : List ℕ) : Type 0 where

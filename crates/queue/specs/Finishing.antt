@@ -8,14 +8,15 @@ use lib.Dec.{ltb, leb, eqb}
 use lib.ListN.{length, take, drop}
 use Rattle.queue.specs.Splice.{be}
 use Rattle.queue.specs.Codec.{All}
-use Rattle.queue.specs.Rules.{dueF, sum}
+use Rattle.queue.specs.Facts.{factsOf}
+use Rattle.queue.specs.Rules.{dueF, aboveF}
 use Rattle.queue.specs.paper.Records.{Bytes, Id, Rec}
+use Rattle.queue.specs.paper.Lists.{count}
 use Rattle.queue.specs.paper.Ids.{cmpL}
 use Rattle.queue.specs.paper.Sound.{holder?}
 use Rattle.queue.specs.paper.Changing.{named?, due?, finished, higher}
 use Rattle.queue.specs.declared.frame.Seen.{Seen}
 use Rattle.queue.specs.declared.frame.Facts.{Facts}
-use Rattle.queue.specs.declared.rules.Query.the-variants.{Above}
 use Rattle.queue.specs.declared.finish.Change.{Change}
 use Rattle.queue.specs.declared.finish.Change.the-variants.{Named, Due}
 use Rattle.queue.specs.declared.finish.Fate.{Fate}
@@ -73,4 +74,4 @@ newAbove num m x = cond (ltb x num) m (cond (ltb x (num + m)) (num + m - x) 0)
 
 -- how many tombstones have a number above x, once m more are finished
 unfoldable pub above : ℕ → ℕ → List Rec → ℕ → ℕ
-above num m l x = sum (Above (record { 0 = x })) l + newAbove num m x
+above num m l x = count (λ r. aboveF x (factsOf r)) l + newAbove num m x

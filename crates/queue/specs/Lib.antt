@@ -13,6 +13,8 @@ pub mod Areas
 pub mod Facts
 pub mod Rules
 pub mod Filter
+pub mod Suspects
+pub mod Numbers
 pub mod Opens
 pub mod Plain
 pub mod Order
@@ -36,6 +38,7 @@ pub mod CallsAs
 pub mod PiecesAs
 pub mod Reopens
 pub mod Admitting
+pub mod Clash
 pub mod Reserving
 pub mod Touching
 pub mod Releasing

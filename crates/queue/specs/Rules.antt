@@ -8,12 +8,12 @@ use lib.Dec.{ltb, leb, eqb}
 use lib.ListN.{length}
 use Rattle.queue.specs.paper.Records.{Rec}
 use Rattle.queue.specs.paper.Lists.{one, total}
-use Rattle.queue.specs.paper.Sound.{pending?, heldRight?, reasonRight?, placeRight?, markRight?, finishRight?, sizesRight?, right?, holders, holderBytes, minedHolders, minedBytes, tombstones, stamped?}
+use Rattle.queue.specs.paper.Sound.{pending?, heldRight?, reasonRight?, placeRight?, markRight?, finishRight?, sizesRight?, right?, holders, holderBytes, minedHolders, minedBytes, tombstones}
 use Rattle.queue.specs.paper.Changing.{reached?, due?, higher}
 use Rattle.queue.specs.Facts.{factsOf}
 use Rattle.queue.specs.declared.frame.Facts.{Facts}
 use Rattle.queue.specs.declared.rules.Query.{Query}
-use Rattle.queue.specs.declared.rules.Query.the-variants.{Holders, HeldBytes, MinedHolders, MinedBytes, Tombstones, Wrong, Stamped, Above, Due}
+use Rattle.queue.specs.declared.rules.Query.the-variants.{Holders, HeldBytes, MinedHolders, MinedBytes, Tombstones, Wrong, Due}
 
 unfoldable pub rightF : ℕ → ℕ → Facts → Bool
 rightF k c f =
@@ -23,9 +23,6 @@ rightF k c f =
 
 unfoldable pub dueF : ℕ → ℕ → Facts → Bool
 dueF now height f = pending? (f .state) && ((f .timed && leb (f .due .0) now) || (f .heighted && leb (f .dueheight .0) height))
-
-unfoldable pub stampedF : ℕ → Facts → Bool
-stampedF n f = not (f .holder) && eqb (f .finish .0) n
 
 unfoldable pub aboveF : ℕ → Facts → Bool
 aboveF n f = not (f .holder) && ltb n (f .finish .0)
@@ -38,8 +35,6 @@ weight MinedHolders f = one (eqb (f .state) 2 && f .holder)
 weight MinedBytes f = cond (eqb (f .state) 2) (f .bytes) 0
 weight Tombstones f = one (not (f .holder))
 weight (Wrong k c) f = one (not (rightF k (c .0) f))
-weight (Stamped n) f = one (stampedF (n .0) f)
-weight (Above n) f = one (aboveF (n .0) f)
 weight (Due t h) f = one (dueF (t .0) (h .0) f)
 
 unfoldable pub sum : Query → List Rec → ℕ

@@ -3,12 +3,12 @@ use super::Answer;
 use super::Kind;
 use super::area::Area;
 use super::area::area_at;
+use super::clash::ids_clash;
 use super::finish::Change;
 use super::finish::hits;
 use super::frame::HeadR;
 use super::frame::Height;
 use super::frame::Time;
-use super::frame::id_read;
 use super::frame::rec_at;
 use super::head::Marks;
 use super::head::put_front;
@@ -29,7 +29,6 @@ use super::rules::height_reached;
 use super::rules::pending;
 use super::rules::time_reached;
 use super::scan::tally;
-use super::scan::used_in;
 use super::view::cmp_id;
 use super::view::id_at;
 use super::view::size;
@@ -50,8 +49,7 @@ ghost use Rattle.queue.specs.Fronts.{tipOf};
 ghost use Rattle.queue.specs.Admitting.{newOf, optLen, labelSize, termsLen, heldLen, newLen, newTerms, heldOf, TermsFit, HeldFit, putF, recIf, keepBytes, WithFrom, WithTo, RoomIs, entryNewLen, argsOf, NumbersFit, LentIn, AskedIn, FreeOf, TipFor, NewTold, FoundTold, AdmitTold, ListsAre, FlagsAre};
 ghost use Rattle.queue.specs.CallsAs.{AreaIn, FoundIn};
 ghost use Rattle.queue.specs.Writes.{HeadIn};
-ghost use Rattle.queue.specs.Reopens.{IdsIn, idsAt};
-ghost use Rattle.queue.specs.paper.Sound.{clash?, labelLen};
+ghost use Rattle.queue.specs.paper.Sound.{labelLen};
 ghost use Rattle.queue.specs.paper.Area.{flagged, termsBytes, heldBytes};
 ghost use Rattle.queue.specs.Checked.{outcome, admitOf};
 ghost use Rattle.queue.specs.paper.Calls.{given, entryBytes, givenId?, admitArgs};
@@ -287,25 +285,6 @@ fn room_for(s: &[u8], a: Area, n: u64) -> u64
         return 11;
     }
     0
-}
-
-// Is one of m lent ids an input of one of the n records at `at`?
-fn ids_clash(ids: &[u8], m: u64, s: &[u8], at: usize, n: u64) -> bool
-    requires { ⌜ IdsIn (now ids) m × (at ≤ length (now s)) × (whole (formC false recC) n (now s) at ≡ true) ⌝ }
-    ensures { λ r. ⌜ r ≡ clash? (idsAt (now (ids .entry)) m) (listAt (formC false recC) n (now (s .entry)) at) ⌝ }
-{
-    let mut i: usize = 0;
-    let mut left = m;
-    while 0 < left {
-        let x = id_read(ids, false, 0, i);
-        let id = x.id;
-        if used_in(s, false, at, n, id) {
-            return true;
-        }
-        i = x.next;
-        left = left - 1;
-    }
-    false
 }
 
 // The entry of the new record.

@@ -8,10 +8,10 @@ use super::frame::head_at;
 use super::frame::num;
 use super::limits::Limits;
 use super::logic::both;
+use super::numbers::distinct;
 use super::rules::Query;
 use super::scan::Span;
 use super::scan::apart;
-use super::scan::distinct;
 use super::scan::frames;
 use super::scan::rising;
 use super::scan::tally;
@@ -131,10 +131,13 @@ pub fn sound_at(
         held_ok(s, hex, at, n, p, b, t),
         mined_ok(s, hex, at, n, p, b, t),
     );
+    if !x {
+        return false;
+    }
     let w = tally(s, hex, at, n, Query::Wrong(k, counter));
     let y = rising(s, hex, at, n);
     let z = both(distinct(s, hex, at, n), apart(s, hex, at, n));
-    both(x, both(w == 0, both(y, z)))
+    both(w == 0, both(y, z))
 }
 
 // A lent area: its persisted height and its queue; ok says that it is sound.

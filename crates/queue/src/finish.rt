@@ -8,13 +8,14 @@ use super::frame::rec_at;
 use super::logic::both;
 use super::logic::either;
 use super::logic::one_if;
+use super::numbers::floor_in;
+use super::numbers::gather;
 use super::put::copy_part;
 use super::put::put_be;
 use super::put::put_id;
 use super::put::put_u8;
 use super::rules::Query;
 use super::rules::due;
-use super::scan::tally;
 use super::view::cmp_id;
 ghost use mathlib.Core.Path.{_≡_};
 ghost use mathlib.Core.Bool.{true, false, _||_, _&&_};
@@ -28,11 +29,11 @@ ghost use Rattle.queue.specs.Reads.{whole, listAt};
 ghost use Rattle.queue.specs.Splice.{Put};
 ghost use Rattle.queue.specs.Forms.{formC};
 ghost use Rattle.queue.specs.paper.Lists.{count};
-ghost use Rattle.queue.specs.paper.Sound.{holder?};
+ghost use Rattle.queue.specs.paper.Sound.{holder?, tombstones};
 ghost use Rattle.queue.specs.paper.Changing.{finishThose};
 ghost use mathlib.Core.Logic.{_⊎_};
 ghost use Rattle.queue.specs.Rules.{sum};
-ghost use Rattle.queue.specs.Finishing.{pickedS, picked, fateOf, finBytes, stepBytes, stepCount, walkL, Floors, newAbove, above};
+ghost use Rattle.queue.specs.Finishing.{pickedS, picked, fateOf, finBytes, stepBytes, stepCount, walkL, above};
 
 // Which records a call finishes: the one of an id, or those that are due.
 pub enum Change {
@@ -146,40 +147,17 @@ pub fn hits(s: &[u8], at: usize, n: u64, c: Change, id: [u8; 32]) -> u64
     total
 }
 
-// Of the m numbers after num, how many are above x.
-fn new_above(num: u64, m: u64, x: u64) -> u64
-    requires { ⌜ num + m < 18446744073709551616 ⌝ }
-    ensures { λ r. ⌜ (r ≡ newAbove num m x) × (r ≤ m) ⌝ }
-{
-    if x < num {
-        return m;
-    }
-    if x < num + m {
-        return num + m - x;
-    }
-    0
-}
-
 // The lowest finish number that stays once m records are finished after num: those below it are beyond t.
 pub fn floor(s: &[u8], at: usize, n: u64, num: u64, m: u64, t: u64) -> u64
-    requires { ⌜ (at ≤ length (now s)) × (whole (formC false recC) n (now s) at ≡ true) × (n < 4294967296) × (m ≤ n) × (num + m < 18446744073709551616) × (0 < t) × (t < 4294967296) × All (λ y. holder? y ≡ false → y .finish ≤ num) (listAt (formC false recC) n (now s) at) ⌝ }
+    requires { ⌜ (at ≤ length (now s)) × (whole (formC false recC) n (now s) at ≡ true) × (n < 4294967296) × (m ≤ n) × (num + m < 18446744073709551616) × (0 < t) × (t < 4294967296) × All (λ y. holder? y ≡ false → y .finish ≤ num) (listAt (formC false recC) n (now s) at) × (tombstones (listAt (formC false recC) n (now s) at) ≤ 1024) ⌝ }
     ensures { λ r. ⌜ ((sum Query.Tombstones (listAt (formC false recC) n (now (s .entry)) at) + m ≤ t) × (r ≡ 0)) ⊎ ((x : ℕ) → ltb (above num m (listAt (formC false recC) n (now (s .entry)) at) x) t ≡ leb r x) ⌝ }
 {
-    if tally(s, false, at, n, Query::Tombstones) + m <= t {
+    let mut v = [0u64; 1024];
+    let k = gather(s, false, at, n, &mut v);
+    if k as u64 + m <= t {
         return 0;
     }
-    let mut lo: u64 = 0;
-    let mut hi = num + m;
-    while lo < hi {
-        let mid = lo + (hi - lo) / 2;
-        let a = tally(s, false, at, n, Query::Above(Finish(mid)));
-        if a + new_above(num, m, mid) < t {
-            hi = mid;
-        } else {
-            lo = mid + 1;
-        }
-    }
-    hi
+    floor_in(&v[..k], num, m, t)
 }
 
 // n records from `at` of src, those picked finished with the numbers after num, those forgotten left out, to place `to` of dst.

@@ -11,7 +11,7 @@ ghost use Prim.Native.Nat.{_≤_, _<_};
 ghost use Rattle.queue.specs.paper.Sound.{pending?, heldRight?, reasonRight?, placeRight?, markRight?, finishRight?, sizesRight?};
 ghost use mathlib.Core.Bool.{_&&_};
 ghost use lib.Dec.{leb};
-ghost use Rattle.queue.specs.Rules.{rightF, dueF, stampedF, aboveF, weight};
+ghost use Rattle.queue.specs.Rules.{rightF, dueF, weight};
 
 // What to count.
 pub enum Query {
@@ -21,8 +21,6 @@ pub enum Query {
     MinedBytes,
     Tombstones,
     Wrong(u64, Finish),
-    Stamped(Finish),
-    Above(Finish),
     Due(Time, Height),
 }
 
@@ -129,20 +127,6 @@ pub fn due(now: Time, height: Height, f: Facts) -> bool
     )
 }
 
-fn stamped(n: Finish, f: Facts) -> bool
-    ensures { λ r. ⌜ r ≡ stampedF (n .0) f ⌝ }
-{
-    let m = f.finish;
-    both(!f.holder, m.0 == n.0)
-}
-
-fn above(n: Finish, f: Facts) -> bool
-    ensures { λ r. ⌜ r ≡ aboveF (n .0) f ⌝ }
-{
-    let m = f.finish;
-    both(!f.holder, n.0 < m.0)
-}
-
 pub fn weigh(q: Query, f: Facts) -> u64
     requires { ⌜ f .bytes < 4294967296 ⌝ }
     ensures { λ r. ⌜ (r ≡ weight q f) × (r < 4294967296) ⌝ }
@@ -154,8 +138,6 @@ pub fn weigh(q: Query, f: Facts) -> u64
         Query::MinedBytes => { if f.state == 2 { f.bytes } else { 0 } }
         Query::Tombstones => one_if(!f.holder),
         Query::Wrong(k, c) => one_if(!right(k, c, f)),
-        Query::Stamped(n) => one_if(stamped(n, f)),
-        Query::Above(n) => one_if(above(n, f)),
         Query::Due(t, h) => one_if(due(t, h, f)),
     }
 }

@@ -4,12 +4,14 @@ use super::filter::mark;
 use super::filter::seen;
 use super::forms::after_in;
 use super::forms::ends_line;
-use super::frame::Facts;
 use super::frame::id_read;
 use super::frame::rec_at;
+use super::logic::both;
 use super::logic::one_if;
 use super::rules::Query;
 use super::rules::weigh;
+use super::suspects::apart_few;
+use super::suspects::apart_many;
 use super::view::cmp_id;
 ghost use mathlib.Core.Path.{_≡_};
 ghost use mathlib.Core.Bool.{true, false};
@@ -19,11 +21,11 @@ ghost use Rattle.queue.specs.Frames.{recC, idC};
 ghost use Rattle.queue.specs.Forms.{formC, Many};
 ghost use Rattle.queue.specs.View.{view};
 ghost use Rattle.queue.specs.Reads.{whole, listAt};
-ghost use Rattle.queue.specs.Rules.{sum, stampedF};
-ghost use Rattle.queue.specs.Filter.{hashL, heldBy, numbered, Passed};
+ghost use Rattle.queue.specs.Rules.{sum};
+ghost use Rattle.queue.specs.Filter.{hashL, heldBy, Passed};
 ghost use Rattle.queue.specs.paper.Ids.{same?};
 ghost use Rattle.queue.specs.Areas.{zero?};
-ghost use Rattle.queue.specs.paper.Sound.{rising?, distinct?, among?, used?, apart?};
+ghost use Rattle.queue.specs.paper.Sound.{rising?, among?, apart?};
 
 pub struct Span {
     pub ok: bool,
@@ -93,51 +95,6 @@ pub fn rising(s: &[u8], hex: bool, at: usize, n: u64) -> bool
     true
 }
 
-// Is the finish number of a tombstone one of two or more? Only a number that the filter has is counted; another is marked.
-fn repeated(s: &[u8], hex: bool, at: usize, n: u64, f: Facts, t: &mut [u64]) -> bool
-    requires { ⌜ (at ≤ length (now s)) × (whole (formC hex recC) n (now s) at ≡ true) × (n < 4294967296) × (0 < length (now t)) ⌝ }
-    ensures { λ r. ⌜ Passed (λ k. stampedF k f) (λ k. k) (numbered (listAt (formC hex recC) n (now (s .entry)) at)) (now (t .entry)) r (now (t .exit)) ⌝ }
-{
-    if f.holder {
-        return false;
-    }
-    let m = f.finish;
-    let h = m.0;
-    if seen(t, h) {
-        let c = tally(s, hex, at, n, Query::Stamped(m));
-        return 1 < c;
-    }
-    mark(t, h);
-    false
-}
-
-// Whatever t holds: what it holds too much only costs time.
-fn distinct_by(s: &[u8], hex: bool, at: usize, n: u64, t: &mut [u64]) -> bool
-    requires { ⌜ (at ≤ length (now s)) × (whole (formC hex recC) n (now s) at ≡ true) × (n < 4294967296) × (0 < length (now t)) ⌝ }
-    ensures { λ r. ⌜ r ≡ distinct? (listAt (formC hex recC) n (now (s .entry)) at) ⌝ }
-{
-    let mut i = at;
-    let mut left = n;
-    while 0 < left {
-        let x = rec_at(s, hex, i);
-        let f = x.facts;
-        if repeated(s, hex, at, n, f, t) {
-            return false;
-        }
-        i = after_in(s, hex, i, x.size);
-        left = left - 1;
-    }
-    true
-}
-
-pub fn distinct(s: &[u8], hex: bool, at: usize, n: u64) -> bool
-    requires { ⌜ (at ≤ length (now s)) × (whole (formC hex recC) n (now s) at ≡ true) × (n < 4294967296) ⌝ }
-    ensures { λ r. ⌜ r ≡ distinct? (listAt (formC hex recC) n (now (s .entry)) at) ⌝ }
-{
-    let mut t = [0u64; 2048];
-    distinct_by(s, hex, at, n, &mut t)
-}
-
 // Is the id one of the n ids at offset `at` of the frame at base?
 pub fn has_id(s: &[u8], hex: bool, base: usize, at: usize, n: u64, id: [u8; 32]) -> bool
     requires { ⌜ (at ≤ length (view hex (now s) base)) × (whole idC n (view hex (now s) base) at ≡ true) ⌝ }
@@ -152,24 +109,6 @@ pub fn has_id(s: &[u8], hex: bool, base: usize, at: usize, n: u64, id: [u8; 32])
             return true;
         }
         i = x.next;
-        left = left - 1;
-    }
-    false
-}
-
-pub fn used_in(s: &[u8], hex: bool, at: usize, n: u64, id: [u8; 32]) -> bool
-    requires { ⌜ (at ≤ length (now s)) × (whole (formC hex recC) n (now s) at ≡ true) ⌝ }
-    ensures { λ r. ⌜ r ≡ used? id (listAt (formC hex recC) n (now (s .entry)) at) ⌝ }
-{
-    let mut i = at;
-    let mut left = n;
-    while 0 < left {
-        let x = rec_at(s, hex, i);
-        let f = x.facts;
-        if has_id(s, hex, i, x.at, f.ins, id) {
-            return true;
-        }
-        i = after_in(s, hex, i, x.size);
         left = left - 1;
     }
     false
@@ -255,7 +194,8 @@ fn apart_by(s: &[u8], hex: bool, at: usize, n: u64, t: &mut [u64]) -> bool
     true
 }
 
-pub fn apart(s: &[u8], hex: bool, at: usize, n: u64) -> bool
+// A pass for each id that the filter has: slow where these are many, but for an area of any size.
+fn apart_passes(s: &[u8], hex: bool, at: usize, n: u64) -> bool
     requires { ⌜ (at ≤ length (now s)) × (whole (formC hex recC) n (now s) at ≡ true) ⌝ }
     ensures { λ r. ⌜ r ≡ apart? (listAt (formC hex recC) n (now (s .entry)) at) ⌝ }
 {
@@ -263,16 +203,46 @@ pub fn apart(s: &[u8], hex: bool, at: usize, n: u64) -> bool
     apart_by(s, hex, at, n, &mut t)
 }
 
+// Where room for few suspects is not enough: with `room` rows for them.
+fn apart_long(s: &[u8], hex: bool, at: usize, n: u64, room: usize) -> bool
+    requires { ⌜ (at ≤ length (now s)) × (whole (formC hex recC) n (now s) at ≡ true) × (0 < room) × (room ≤ 65536) ⌝ }
+    ensures { λ r. ⌜ r ≡ apart? (listAt (formC hex recC) n (now (s .entry)) at) ⌝ }
+{
+    if both(s.len() < 4294967296, n < 4294967296) {
+        return apart_many(s, hex, at, n, room) == 1;
+    }
+    apart_passes(s, hex, at, n)
+}
+
+// The long way is called at two places that differ in two numbers: the compiler then makes no single call of them, which it
+// would take in here together with the large tables.
+pub fn apart(s: &[u8], hex: bool, at: usize, n: u64) -> bool
+    requires { ⌜ (at ≤ length (now s)) × (whole (formC hex recC) n (now s) at ≡ true) ⌝ }
+    ensures { λ r. ⌜ r ≡ apart? (listAt (formC hex recC) n (now (s .entry)) at) ⌝ }
+{
+    let r = apart_few(s, hex, at, n);
+    if r == 1 {
+        return true;
+    }
+    if r == 0 {
+        return false;
+    }
+    if hex {
+        return apart_long(s, true, at, n, 32768);
+    }
+    apart_long(s, false, at, n, 65536)
+}
+
+// No early way out, so that the loop can be done many bytes at a time.
 pub fn zeros(s: &[u8], from: usize, to: usize) -> bool
     requires { ⌜ (from ≤ to) × (to ≤ length (now s)) ⌝ }
     ensures { λ r. ⌜ r ≡ zero? (take (to - from) (drop from (now (s .entry)))) ⌝ }
 {
+    let mut ok = true;
     let mut i = from;
     while i < to {
-        if s[i] != 0 {
-            return false;
-        }
+        ok = both(ok, s[i] == 0);
         i += 1;
     }
-    true
+    ok
 }

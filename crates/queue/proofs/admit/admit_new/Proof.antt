@@ -5,15 +5,12 @@ use Prim.Native.Nat.{ℕ, _≤_, _+_, _-_, _*_, _/_, _<_}
 use lib.Dec.{eqb}
 use borrow.Author.Tests.{not-true, not-false}
 use Rattle.queue.proofs.AdmitLaws.{tally-asks}
-use Rattle.queue.proofs.AdmissionLaws.{ids-lent, new-room, new-12, free-of, no-refusal}
+use Rattle.queue.proofs.AdmissionLaws.{ids-lent, few-ids, few-bytes, new-room, new-12, free-of, no-refusal}
 use borrow.Author.Needs.{needs}
 use Rattle.queue.proofs.admit.admit_new.Statement.{statement}
 use Rattle.queue.proofs.admit.admit_new.Tie as tie
 use Rattle.queue.proofs.admit.admit_new.Reads as reads
 use Rattle.queue.proofs.admit.admit_new.Lts as lts
-use Rattle.queue.proofs.admit.admit_free.Reads as admit-free-reads
-use Rattle.queue.proofs.admit.ids_clash.Reads as ids-clash-reads
-use Rattle.queue.proofs.admit.room_for.Reads as room-for-reads
 
 room-for-requires : tie.Need-room-for-requires
 room-for-requires c κs = c .before .before .before .before .before .before .before .before .pre .0
@@ -22,7 +19,7 @@ returns : tie.Need-returns
 returns c = new-room (c .before .before .before .before .before .before .before .before .before .before .pre .0) (c .before .before .before .before .before .before .before .before .before .before .pre .1) _ _ (c .before .room-for .ensures) (c .if1 .taken)
 
 ids-clash-requires : tie.Need-ids-clash-requires
-ids-clash-requires c κs = (ids-lent (c .before .before .before .before .before .before .before .before .before .before .before .before .pre .0) (c .before .before .before .before .before .before .before .before .before .before .before .before .pre .1), tally-asks (c .before .before .before .before .before .before .before .before .before .before .before .before .pre .0) .0, tally-asks (c .before .before .before .before .before .before .before .before .before .before .before .before .pre .0) .1)
+ids-clash-requires c κs = (ids-lent (c .before .before .before .before .before .before .before .before .before .before .before .before .pre .0) (c .before .before .before .before .before .before .before .before .before .before .before .before .pre .1), tally-asks (c .before .before .before .before .before .before .before .before .before .before .before .before .pre .0) .0, tally-asks (c .before .before .before .before .before .before .before .before .before .before .before .before .pre .0) .1, few-ids (c .before .before .before .before .before .before .before .before .before .before .before .before .pre .0) (c .before .before .before .before .before .before .before .before .before .before .before .before .pre .1) .0, few-bytes (c .before .before .before .before .before .before .before .before .before .before .before .before .pre .0) (c .before .before .before .before .before .before .before .before .before .before .before .before .pre .1))
 
 returns-2 : tie.Need-returns-2
 returns-2 c = new-12 (c .before .before .before .before .before .before .before .before .before .before .before .before .before .before .pre .0) (c .before .before .before .before .before .before .before .before .before .before .before .before .before .before .pre .1) (no-refusal (c .before .before .before .before .before .before .before .before .before .before .before .before .before .before .args .cur .now) _ (c .before .before .before .before .before .room-for .ensures) (c .before .before .before .before .if1 .left)) _ _ (c .before .ids-clash .ensures) (c .if2 .taken)

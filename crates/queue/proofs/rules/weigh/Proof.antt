@@ -11,10 +11,8 @@ use Rattle.queue.proofs.rules.weigh.Reads as reads
 use Rattle.queue.proofs.rules.weigh.Lts as lts
 use Rattle.queue.proofs.logic.both.Reads as both-reads
 use Rattle.queue.proofs.logic.one_if.Reads as one-if-reads
-use Rattle.queue.proofs.rules.above.Reads as above-reads
 use Rattle.queue.proofs.rules.due.Reads as due-reads
 use Rattle.queue.proofs.rules.right.Reads as right-reads
-use Rattle.queue.proofs.rules.stamped.Reads as stamped-reads
 
 enum-told : tie.Need-enum-told
 enum-told c = search needs
@@ -55,29 +53,11 @@ one-if-requires-4 c κs = search needs
 enum-known-q-2 : tie.Need-enum-known-q-2
 enum-known-q-2 c = search needs
 
-stamped-requires : tie.Need-stamped-requires
-stamped-requires c κs = search needs
-
-one-if-requires-5 : tie.Need-one-if-requires-5
-one-if-requires-5 c κs = search needs
-
-enum-known-q-3 : tie.Need-enum-known-q-3
-enum-known-q-3 c = search needs
-
-above-requires : tie.Need-above-requires
-above-requires c κs = search needs
-
-one-if-requires-6 : tie.Need-one-if-requires-6
-one-if-requires-6 c κs = search needs
-
-enum-known-q-4 : tie.Need-enum-known-q-4
-enum-known-q-4 c = search needs
-
 due-requires : tie.Need-due-requires
 due-requires c κs = search needs
 
-one-if-requires-7 : tie.Need-one-if-requires-7
-one-if-requires-7 c κs = search needs
+one-if-requires-5 : tie.Need-one-if-requires-5
+one-if-requires-5 c κs = search needs
 
 returns : tie.Need-returns
 unfolding weight
@@ -109,15 +89,7 @@ returns-7 c = (rw (c .before .before .before .q .given .1) (c .one-if4 .ensures 
 
 returns-8 : tie.Need-returns-8
 unfolding weight
-returns-8 c = (rw (c .before .before .before .q2 .given .1) (c .one-if5 .ensures .0 ∙ ap one (c .before .stamped .ensures)), omega arith)
-
-returns-9 : tie.Need-returns-9
-unfolding weight
-returns-9 c = (rw (c .before .before .before .q3 .given .1) (c .one-if6 .ensures .0 ∙ ap one (c .before .above .ensures)), omega arith)
-
-returns-10 : tie.Need-returns-10
-unfolding weight
-returns-10 c = (rw (c .before .before .before .q4 .given .1) (c .one-if7 .ensures .0 ∙ ap one (c .before .due .ensures)), omega arith)
+returns-8 c = (rw (c .before .before .before .q2 .given .1) (c .one-if5 .ensures .0 ∙ ap one (c .before .due .ensures)), omega arith)
 
 pub weigh-spec : {M : Type 1} → statement M
 weigh-spec =
@@ -136,14 +108,8 @@ weigh-spec =
     right-requires
     one-if-requires-4
     enum-known-q-2
-    stamped-requires
-    one-if-requires-5
-    enum-known-q-3
-    above-requires
-    one-if-requires-6
-    enum-known-q-4
     due-requires
-    one-if-requires-7
+    one-if-requires-5
     returns
     returns-2
     returns-3
@@ -151,6 +117,4 @@ weigh-spec =
     returns-5
     returns-6
     returns-7
-    returns-8
-    returns-9
-    returns-10)
+    returns-8)

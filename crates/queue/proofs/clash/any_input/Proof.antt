@@ -1,0 +1,64 @@
+use mathlib.Core.Path.{_≡_, refl, sym, ap, _∙_}
+use native.Mathlib.Omega.{arith}
+use mathlib.Core.Bool.{Bool, true, false, _&&_, _||_}
+use Prim.Native.Nat.{ℕ, _≤_, _+_, _-_, _*_, _/_, _%_, _<_}
+use lib.ListN.{length, take, drop, getD}
+use Rattle.queue.specs.Frames.{recC}
+use Rattle.queue.specs.Forms.{formC}
+use Rattle.queue.specs.Reopens.{idsAt}
+use Rattle.queue.proofs.Turns.{Scan, start, seen}
+use Rattle.queue.proofs.ClashLaws.{meetF, meet-go, meet-stop, meet-end}
+use borrow.Author.Needs.{needs}
+use Rattle.queue.proofs.clash.any_input.Statement.{statement}
+use Rattle.queue.proofs.clash.any_input.Tie as tie
+use Rattle.queue.proofs.clash.any_input.Reads as reads
+use Rattle.queue.proofs.clash.any_input.Lts as lts
+
+abbrev Inv-loop : tie.InvT-loop
+Inv-loop s at n ids m v ordered i₀ left₀ i left = Scan (formC false recC) (meetF (idsAt ids m)) s n at tt i left tt
+
+abbrev μ-loop : tie.MeasureT-loop
+μ-loop s at n ids m v ordered i₀ left₀ i left = left
+
+loop-holds : tie.Need-loop-holds Inv-loop μ-loop
+loop-holds c = start (formC false recC) _ _ _ _ _ (c .before .before .before .pre .0) (c .before .before .before .pre .1)
+
+rec-at-requires : tie.Need-rec-at-requires Inv-loop μ-loop
+rec-at-requires c κs = search needs
+
+any-lent-requires : tie.Need-any-lent-requires Inv-loop μ-loop
+any-lent-requires c κs = let t = seen false (c .before .before .before .loop .inv) (c .before .before .loop-test .taken) (c .before .rec-at .ensures) in (t .is .0 .insIn, t .is .0 .insAll, c .before .before .before .before .before .before .before .pre .2, c .before .before .before .before .before .before .before .pre .3, c .before .before .before .before .before .before .before .pre .4)
+
+returns : tie.Need-returns Inv-loop μ-loop
+returns c = meet-stop _ (c .before .before .before .before .before .loop .inv) (c .before .before .before .before .loop-test .taken) (c .before .before .before .rec-at .ensures) (c .before .any-lent .ensures) (c .if1 .taken)
+
+after-in-requires : tie.Need-after-in-requires Inv-loop μ-loop
+after-in-requires c κs = seen false (c .before .before .before .before .before .loop .inv) (c .before .before .before .before .loop-test .taken) (c .before .before .before .rec-at .ensures) .is .1 .within
+
+sub-left : tie.Need-sub-left Inv-loop μ-loop
+sub-left c = search needs
+
+loop-less : tie.Need-loop-less Inv-loop μ-loop
+loop-less c = search needs
+
+loop-again : tie.Need-loop-again Inv-loop μ-loop
+loop-again c = meet-go _ (c .before .before .before .before .before .before .loop .inv) (c .before .before .before .before .before .loop-test .taken) (c .before .before .before .before .rec-at .ensures) (c .before .before .any-lent .ensures) (c .after-in .ensures) (c .before .if1 .left)
+
+returns-2 : tie.Need-returns-2 Inv-loop μ-loop
+returns-2 c = meet-end _ (c .before .loop .inv) (omega arith)
+
+pub any-input-spec : {M : Type 1} → statement M
+any-input-spec =
+    tie.close
+    (tie.spec
+    Inv-loop
+    μ-loop
+    loop-holds
+    rec-at-requires
+    any-lent-requires
+    returns
+    after-in-requires
+    sub-left
+    loop-less
+    loop-again
+    returns-2)

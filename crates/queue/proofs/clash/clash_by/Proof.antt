@@ -1,0 +1,36 @@
+use mathlib.Core.Path.{_≡_, refl, sym, ap, _∙_}
+use native.Mathlib.Omega.{arith}
+use mathlib.Core.Bool.{Bool, true, false, _&&_, _||_}
+use Prim.Native.Nat.{ℕ, _≤_, _+_, _-_, _*_, _/_, _%_, _<_}
+use lib.ListN.{length, take, drop, getD}
+use Rattle.queue.proofs.ClashLaws.{rows-moved, meets-clash}
+use borrow.Author.Needs.{needs}
+use Rattle.queue.proofs.clash.clash_by.Statement.{statement}
+use Rattle.queue.proofs.clash.clash_by.Tie as tie
+use Rattle.queue.proofs.clash.clash_by.Reads as reads
+use Rattle.queue.proofs.clash.clash_by.Lts as lts
+
+order-rows-requires : tie.Need-order-rows-requires
+order-rows-requires c κs = search needs
+
+in-order-requires : tie.Need-in-order-requires
+in-order-requires c κs = search needs
+
+any-input-requires : tie.Need-any-input-requires
+any-input-requires c κs = (c .before .before .before .before .before .before .before .before .before .before .pre .0, c .before .before .before .before .before .before .before .before .before .before .pre .1, c .before .before .before .before .before .before .before .before .before .before .pre .2, rows-moved (c .before .before .before .before .before .order-rows .ensures) (c .before .before .before .before .before .before .before .before .before .before .pre .3), c .before .in-order .ensures)
+
+same-length : tie.Need-same-length
+same-length c = search needs
+
+returns : tie.Need-returns
+returns c = c .any-input .ensures ∙ meets-clash _ _
+
+pub clash-by-spec : {M : Type 1} → statement M
+clash-by-spec =
+    tie.close
+    (tie.spec
+    order-rows-requires
+    in-order-requires
+    any-input-requires
+    same-length
+    returns)

@@ -1,0 +1,43 @@
+use mathlib.Core.Path.{_≡_, refl, sym, ap, _∙_}
+use native.Mathlib.Omega.{arith}
+use mathlib.Core.Bool.{Bool, true, false, _&&_, _||_}
+use Prim.Native.Nat.{ℕ, _≤_, _+_, _-_, _*_, _/_, _%_, _<_}
+use lib.ListN.{length, take, drop, getD}
+use lib.Seq.{length-take-le}
+use Rattle.queue.proofs.NumberLaws.{distinct-is}
+use borrow.Author.Needs.{needs}
+use Rattle.queue.proofs.numbers.distinct.Statement.{statement}
+use Rattle.queue.proofs.numbers.distinct.Tie as tie
+use Rattle.queue.proofs.numbers.distinct.Reads as reads
+use Rattle.queue.proofs.numbers.distinct.Lts as lts
+use Rattle.queue.proofs.numbers.differ.Reads as differ-reads
+use Rattle.queue.proofs.numbers.gather.Reads as gather-reads
+
+slice-aggregate-gather : tie.Need-slice-aggregate-gather
+slice-aggregate-gather c = search needs
+
+gather-requires : tie.Need-gather-requires
+gather-requires c κs = (c .before .before .pre .0, c .before .before .pre .1, c .before .before .pre .2)
+
+array-borrow-prefix-v : tie.Need-array-borrow-prefix-v
+array-borrow-prefix-v c = search needs
+
+slice-aggregate-differ : tie.Need-slice-aggregate-differ
+slice-aggregate-differ c = sym (length-take-le _ _ (omega (arith, c .before .before .gather .ensures .1, c .before .before .gather .ensures .2)))
+
+differ-requires : tie.Need-differ-requires
+differ-requires c κs = search needs
+
+returns : tie.Need-returns
+returns c = distinct-is _ (rw (c .before .before .before .before .gather .ensures .0) at (c .before .differ .ensures))
+
+pub distinct-spec : {M : Type 1} → statement M
+distinct-spec =
+    tie.close
+    (tie.spec
+    slice-aggregate-gather
+    gather-requires
+    array-borrow-prefix-v
+    slice-aggregate-differ
+    differ-requires
+    returns)

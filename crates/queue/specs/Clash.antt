@@ -1,0 +1,33 @@
+-- Lent ids in a table of rows: is an id one of them, and is one an input of a record?
+use mathlib.Core.Path.{_≡_}
+use mathlib.Core.Bool.{Bool, false}
+use mathlib.Core.List.{List}
+use Prim.Native.Nat.{ℕ, _≤_, _<_}
+use lib.ListN.{length, getD}
+use Rattle.queue.specs.Suspects.{idR}
+use Rattle.queue.specs.Reopens.{idsAt}
+use Rattle.queue.specs.paper.Records.{Bytes, Id, Rec}
+use Rattle.queue.specs.paper.Ids.{cmpL, same?}
+use Rattle.queue.specs.paper.Lists.{any?}
+use Rattle.queue.specs.paper.Sound.{inputs, among?}
+
+unfoldable pub rowHas : Bytes → Id → ℕ → Bool
+rowHas t z x = same? z (idR false t x)
+
+-- the rows are those of the k ids in t
+pub record RowsOf (t : Bytes) (k : ℕ) (v : List ℕ) : Type 0 where
+  pub has : (z : Id) → any? (rowHas t z) v ≡ among? z (idsAt t k)
+
+-- the rows before lo have lower ids than z, those from hi on have not
+pub record CutId (t : Bytes) (v : List ℕ) (z : Id) (lo hi : ℕ) : Type 0 where
+  pub up : lo ≤ hi
+  pub within : hi ≤ length v
+  pub low : (i : ℕ) → i < lo → cmpL (idR false t (getD v i 0)) z ≡ 0
+  pub high : (i : ℕ) → hi ≤ i → i < length v → cmpL (idR false t (getD v i 0)) z ≡ 0 → ⊥
+
+-- one of these ids is one of those; one of the records' inputs is
+unfoldable pub anyOf : List Id → List Id → Bool
+anyOf ids l = any? (λ z. among? z ids) l
+
+unfoldable pub meetsIds : List Id → List Rec → Bool
+meetsIds ids l = any? (λ r. anyOf ids (inputs (r .body))) l

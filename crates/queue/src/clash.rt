@@ -1,0 +1,164 @@
+// Is one of the lent ids an input of a record? The ids are put in order, and one pass over the records bisects each input.
+use super::forms::after_in;
+use super::frame::id_read;
+use super::frame::rec_at;
+use super::scan::has_id;
+use super::suspects::Order;
+use super::suspects::in_order;
+use super::suspects::order_rows;
+use super::suspects::row_at;
+use super::view::cmp_id;
+use super::view::id_at;
+use super::view::size;
+ghost use mathlib.Core.Path.{_≡_};
+ghost use mathlib.Core.Bool.{true, false};
+ghost use Prim.Native.Nat.{_+_, _≤_, _<_};
+ghost use lib.ListN.{length, take};
+ghost use Rattle.queue.specs.Frames.{recC, idC};
+ghost use Rattle.queue.specs.Forms.{formC};
+ghost use Rattle.queue.specs.View.{view};
+ghost use Rattle.queue.specs.Reads.{whole, listAt};
+ghost use Rattle.queue.specs.Reopens.{IdsIn, idsAt};
+ghost use Rattle.queue.specs.Suspects.{idR, InOrder};
+ghost use Rattle.queue.specs.Clash.{rowHas, RowsOf, CutId, anyOf, meetsIds};
+ghost use Rattle.queue.specs.paper.Ids.{cmpL};
+ghost use Rattle.queue.specs.paper.Lists.{any?};
+ghost use Rattle.queue.specs.paper.Sound.{among?, clash?};
+
+// The order of a row's id and an id. 0: the row's is lower; 1: the same; 2: higher.
+fn cmp_row(ids: &[u8], x: u64, id: [u8; 32]) -> u8
+    ensures { λ r. ⌜ r ≡ cmpL (idR false (now (ids .entry)) x) id ⌝ }
+{
+    let p = (x / 4294967296) as usize;
+    if size(ids, false, p) < 32 {
+        return 0;
+    }
+    let y = id_at(ids, false, p, 0);
+    cmp_id(y, id)
+}
+
+// A row for each of the m ids.
+fn place_rows(ids: &[u8], m: u64, v: &mut [u64]) -> usize
+    requires { ⌜ IdsIn (now ids) m × (m ≤ length (now v)) × (length (now ids) < 4294967296) ⌝ }
+    ensures { λ r. ⌜ RowsOf (now (ids .entry)) m (take r (now (v .exit))) × (r ≤ length (now (v .entry))) × (length (now (v .exit)) ≡ length (now (v .entry))) ⌝ }
+{
+    let mut i: usize = 0;
+    let mut left = m;
+    let mut k: usize = 0;
+    while 0 < left {
+        let x = id_read(ids, false, 0, i);
+        v[k] = row_at(ids, false, 0, i, 0);
+        k = k + 1;
+        i = x.next;
+        left = left - 1;
+    }
+    k
+}
+
+// How many rows have a lower id.
+fn bisect_id(ids: &[u8], v: &[u64], id: [u8; 32]) -> usize
+    requires { ⌜ InOrder false (now ids) (now v) ⌝ }
+    ensures { λ r. ⌜ CutId (now (ids .entry)) (now (v .entry)) id r r ⌝ }
+{
+    let mut lo: usize = 0;
+    let mut hi = v.len();
+    while lo < hi {
+        let m = lo + (hi - lo) / 2;
+        if cmp_row(ids, v[m], id) == 0 {
+            lo = m + 1;
+        } else {
+            hi = m;
+        }
+    }
+    lo
+}
+
+// Has a row the id?
+fn has_row(ids: &[u8], v: &[u64], id: [u8; 32]) -> bool
+    requires { ⌜ InOrder false (now ids) (now v) ⌝ }
+    ensures { λ r. ⌜ r ≡ any? (rowHas (now (ids .entry)) id) (now (v .entry)) ⌝ }
+{
+    let b = bisect_id(ids, v, id);
+    if v.len() <= b {
+        return false;
+    }
+    cmp_row(ids, v[b], id) == 1
+}
+
+// Is the id one of the m lent ones? Without an order, which there never is, each is compared.
+fn is_lent(ids: &[u8], m: u64, v: &[u64], ordered: bool, id: [u8; 32]) -> bool
+    requires { ⌜ IdsIn (now ids) m × RowsOf (now ids) m (now v) × (ordered ≡ true → InOrder false (now ids) (now v)) ⌝ }
+    ensures { λ r. ⌜ r ≡ among? id (idsAt (now (ids .entry)) m) ⌝ }
+{
+    if ordered {
+        return has_row(ids, v, id);
+    }
+    has_id(ids, false, 0, 0, m, id)
+}
+
+// Is one of the c ids at offset `at` of the frame at base one of the m lent ones?
+fn any_lent(
+    s: &[u8],
+    base: usize,
+    at: usize,
+    c: u64,
+    ids: &[u8],
+    m: u64,
+    v: &[u64],
+    ordered: bool,
+) -> bool
+    requires { ⌜ (at ≤ length (view false (now s) base)) × (whole idC c (view false (now s) base) at ≡ true) × IdsIn (now ids) m × RowsOf (now ids) m (now v) × (ordered ≡ true → InOrder false (now ids) (now v)) ⌝ }
+    ensures { λ r. ⌜ r ≡ anyOf (idsAt (now (ids .entry)) m) (listAt idC c (view false (now (s .entry)) base) at) ⌝ }
+{
+    let mut i = at;
+    let mut left = c;
+    while 0 < left {
+        let x = id_read(s, false, base, i);
+        let id = x.id;
+        if is_lent(ids, m, v, ordered, id) {
+            return true;
+        }
+        i = x.next;
+        left = left - 1;
+    }
+    false
+}
+
+// Is an input of one of the n records at `at` one of the m lent ids?
+fn any_input(s: &[u8], at: usize, n: u64, ids: &[u8], m: u64, v: &[u64], ordered: bool) -> bool
+    requires { ⌜ (at ≤ length (now s)) × (whole (formC false recC) n (now s) at ≡ true) × IdsIn (now ids) m × RowsOf (now ids) m (now v) × (ordered ≡ true → InOrder false (now ids) (now v)) ⌝ }
+    ensures { λ r. ⌜ r ≡ meetsIds (idsAt (now (ids .entry)) m) (listAt (formC false recC) n (now (s .entry)) at) ⌝ }
+{
+    let mut i = at;
+    let mut left = n;
+    while 0 < left {
+        let x = rec_at(s, false, i);
+        let f = x.facts;
+        if any_lent(s, i, x.at, f.ins, ids, m, v, ordered) {
+            return true;
+        }
+        i = after_in(s, false, i, x.size);
+        left = left - 1;
+    }
+    false
+}
+
+// The rows of v are put in order first.
+fn clash_by(ids: &[u8], m: u64, s: &[u8], at: usize, n: u64, v: &mut [u64]) -> bool
+    requires { ⌜ (at ≤ length (now s)) × (whole (formC false recC) n (now s) at ≡ true) × IdsIn (now ids) m × RowsOf (now ids) m (now v) ⌝ }
+    ensures { λ r. ⌜ r ≡ clash? (idsAt (now (ids .entry)) m) (listAt (formC false recC) n (now (s .entry)) at) ⌝ }
+{
+    order_rows(ids, Order::Ids(false), v);
+    let o = in_order(ids, false, v);
+    any_input(s, at, n, ids, m, v, o)
+}
+
+// Is one of m lent ids an input of one of the n records at `at`?
+pub fn ids_clash(ids: &[u8], m: u64, s: &[u8], at: usize, n: u64) -> bool
+    requires { ⌜ IdsIn (now ids) m × (at ≤ length (now s)) × (whole (formC false recC) n (now s) at ≡ true) × (m ≤ 128) × (length (now ids) < 4294967296) ⌝ }
+    ensures { λ r. ⌜ r ≡ clash? (idsAt (now (ids .entry)) m) (listAt (formC false recC) n (now (s .entry)) at) ⌝ }
+{
+    let mut v = [0u64; 128];
+    let k = place_rows(ids, m, &mut v);
+    clash_by(ids, m, s, at, n, &mut v[..k])
+}
