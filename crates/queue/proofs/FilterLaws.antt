@@ -70,7 +70,7 @@ slot-in : (n h : ℕ) → 0 < n → slotL n h < n
 unfolding slotL
 slot-in n h p = mod-lt h p
 
-mark-size : (t : List ℕ) (h : ℕ) → length (markL t h) ≡ length t
+pub mark-size : (t : List ℕ) (h : ℕ) → length (markL t h) ≡ length t
 unfolding markL
 mark-size t h = simp length-set
 
@@ -79,7 +79,7 @@ module _ (t : List ℕ) (h : ℕ) (p : 0 < length t) where
   unfolding markL
   at-slot = getD-set-same t (slotL (length t) h) _ 0 (slot-in (length t) h p)
 
-  mark-here : marked (markL t h) h ≡ true
+  pub mark-here : marked (markL t h) h ≡ true
   unfolding marked
   mark-here = rw (mark-size t h, at-slot) (let w = getD t (slotL (length t) h) 0 in eq-eqb (bitOr (bitOr w (maskL h)) (maskL h)) (bitOr w (maskL h)) (or-keep w (maskL h)))
 
@@ -87,7 +87,7 @@ module _ (t : List ℕ) (h : ℕ) (p : 0 < length t) where
   unfolding markL
   other g k = getD-set-other t (slotL (length t) h) (slotL (length t) g) _ 0 k
 
-  mark-old : (g : ℕ) → marked t g ≡ true → marked (markL t h) g ≡ true
+  pub mark-old : (g : ℕ) → marked t g ≡ true → marked (markL t h) g ≡ true
   unfolding marked
   mark-old g e =
       let w = getD t (slotL (length t) g) 0 in
@@ -220,13 +220,13 @@ clash-some l x (y ∷ i) e u = cases (same? x y)
     (λ t. let q = same-is x y t in rw (← q, u))
     (λ t. cases (used? y l) (λ v. rw v) (λ v. rw v (clash-some l x i (rw t at e) u)))
 
-apart-yes : (l : List Rec) → ((x : Id) → count (hasIn x) l ≤ 1) → true ≡ apart? l
+pub apart-yes : (l : List Rec) → ((x : Id) → count (hasIn x) l ≤ 1) → true ≡ apart? l
 unfolding apart?
 apart-yes [] k = refl
 apart-yes (r ∷ l) k = rw (clash-none l (inputs (r .body)) (λ x h. used-none x l (let q = rw h at (k x) in omega arith)))
     (apart-yes l (λ x. let q = k x in omega arith))
 
-apart-no : (l : List Rec) (x : Id) → 2 ≤ count (hasIn x) l → false ≡ apart? l
+pub apart-no : (l : List Rec) (x : Id) → 2 ≤ count (hasIn x) l → false ≡ apart? l
 unfolding apart?
 apart-no [] x e = absurd (let z : ⊥ = omega arith in z)
 apart-no (r ∷ l) x e = cases (hasIn x r)

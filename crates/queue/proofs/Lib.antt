@@ -4,6 +4,8 @@ pub mod PutLaws
 pub mod Turns
 pub mod ScanLaws
 pub mod FilterLaws
+pub mod RowLaws
+pub mod SuspectLaws
 pub mod OpenLaws
 pub mod ByteLaws
 pub mod FinishLaws

@@ -13,6 +13,7 @@ pub mod Areas
 pub mod Facts
 pub mod Rules
 pub mod Filter
+pub mod Suspects
 pub mod Opens
 pub mod Plain
 pub mod Order

@@ -22,6 +22,7 @@ pub mod reserved;
 pub mod rules;
 pub mod scan;
 pub mod select;
+pub mod suspects;
 pub mod touch;
 pub mod view;
 pub mod write;

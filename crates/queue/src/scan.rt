@@ -7,9 +7,12 @@ use super::forms::ends_line;
 use super::frame::Facts;
 use super::frame::id_read;
 use super::frame::rec_at;
+use super::logic::both;
 use super::logic::one_if;
 use super::rules::Query;
 use super::rules::weigh;
+use super::suspects::apart_few;
+use super::suspects::apart_many;
 use super::view::cmp_id;
 ghost use mathlib.Core.Path.{_≡_};
 ghost use mathlib.Core.Bool.{true, false};
@@ -255,12 +258,43 @@ fn apart_by(s: &[u8], hex: bool, at: usize, n: u64, t: &mut [u64]) -> bool
     true
 }
 
-pub fn apart(s: &[u8], hex: bool, at: usize, n: u64) -> bool
+// A pass for each id that the filter has: slow where these are many, but for an area of any size.
+fn apart_passes(s: &[u8], hex: bool, at: usize, n: u64) -> bool
     requires { ⌜ (at ≤ length (now s)) × (whole (formC hex recC) n (now s) at ≡ true) ⌝ }
     ensures { λ r. ⌜ r ≡ apart? (listAt (formC hex recC) n (now (s .entry)) at) ⌝ }
 {
     let mut t = [0u64; 2048];
     apart_by(s, hex, at, n, &mut t)
+}
+
+// Where room for few suspects is not enough: with `room` rows for them.
+fn apart_long(s: &[u8], hex: bool, at: usize, n: u64, room: usize) -> bool
+    requires { ⌜ (at ≤ length (now s)) × (whole (formC hex recC) n (now s) at ≡ true) × (0 < room) × (room ≤ 65536) ⌝ }
+    ensures { λ r. ⌜ r ≡ apart? (listAt (formC hex recC) n (now (s .entry)) at) ⌝ }
+{
+    if both(s.len() < 4294967296, n < 4294967296) {
+        return apart_many(s, hex, at, n, room) == 1;
+    }
+    apart_passes(s, hex, at, n)
+}
+
+// The long way is called at two places that differ in two numbers: the compiler then makes no single call of them, which it
+// would take in here together with the large tables.
+pub fn apart(s: &[u8], hex: bool, at: usize, n: u64) -> bool
+    requires { ⌜ (at ≤ length (now s)) × (whole (formC hex recC) n (now s) at ≡ true) ⌝ }
+    ensures { λ r. ⌜ r ≡ apart? (listAt (formC hex recC) n (now (s .entry)) at) ⌝ }
+{
+    let r = apart_few(s, hex, at, n);
+    if r == 1 {
+        return true;
+    }
+    if r == 0 {
+        return false;
+    }
+    if hex {
+        return apart_long(s, true, at, n, 32768);
+    }
+    apart_long(s, false, at, n, 65536)
 }
 
 pub fn zeros(s: &[u8], from: usize, to: usize) -> bool

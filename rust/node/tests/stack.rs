@@ -13,7 +13,7 @@ use model::random::{self, Rng};
 use model::{area, calls, image, Limits, Queue, State};
 use pokerbox::raw;
 
-/// 120 KiB are enough, 112 KiB are not.
+/// 132 KiB are enough, 128 KiB are not. An area with more than 2,048 suspects needs more (docs/DECISIONS.md).
 const STACK: usize = 160 * 1024;
 
 fn stack() -> usize {

@@ -1,24 +1,45 @@
-use native.Mathlib.Nat.{zero-lt-suc}
+use mathlib.Core.Path.{_≡_, refl, sym, ap, _∙_}
+use native.Mathlib.Omega.{arith}
+use mathlib.Core.Bool.{Bool, true, false, _&&_, _||_}
+use Prim.Native.Nat.{ℕ, _≤_, _+_, _-_, _*_, _/_, _%_, _<_}
+use lib.ListN.{length, take, drop, getD, length-drop}
 use borrow.Author.Needs.{needs}
 use Rattle.queue.proofs.scan.apart.Statement.{statement}
 use Rattle.queue.proofs.scan.apart.Tie as tie
 use Rattle.queue.proofs.scan.apart.Reads as reads
 use Rattle.queue.proofs.scan.apart.Lts as lts
-use Rattle.queue.proofs.scan.apart_by.Reads as apart-by-reads
+use Rattle.queue.proofs.scan.apart_long.Reads as apart-long-reads
+use Rattle.queue.proofs.suspects.apart_few.Reads as apart-few-reads
 
-slice-aggregate-apart-by : tie.Need-slice-aggregate-apart-by
-slice-aggregate-apart-by c = search needs
-
-apart-by-requires : tie.Need-apart-by-requires
-apart-by-requires c κs = (c .before .before .pre .0, c .before .before .pre .1, zero-lt-suc _)
+apart-few-requires : tie.Need-apart-few-requires
+apart-few-requires c κs = search needs
 
 returns : tie.Need-returns
-returns c = search needs
+returns c = c .before .apart-few .ensures .yes (c .if1 .taken)
+
+returns-2 : tie.Need-returns-2
+returns-2 c = c .before .before .apart-few .ensures .no (c .if2 .taken)
+
+apart-long-requires : tie.Need-apart-long-requires
+apart-long-requires c κs = (c .before .before .before .before .before .pre .0, rw (c .if3 .taken) at (c .before .before .before .before .before .pre .1), omega arith, omega arith)
+
+returns-3 : tie.Need-returns-3
+returns-3 c = rw (c .before .if3 .taken) (c .apart-long .ensures)
+
+apart-long-requires-2 : tie.Need-apart-long-requires-2
+apart-long-requires-2 c κs = (c .before .before .before .before .before .pre .0, rw (c .if3 .left) at (c .before .before .before .before .before .pre .1), omega arith, omega arith)
+
+returns-4 : tie.Need-returns-4
+returns-4 c = rw (c .before .if3 .left) (c .apart-long2 .ensures)
 
 pub apart-spec : {M : Type 1} → statement M
 apart-spec =
     tie.close
     (tie.spec
-    slice-aggregate-apart-by
-    apart-by-requires
-    returns)
+    apart-few-requires
+    returns
+    returns-2
+    apart-long-requires
+    returns-3
+    apart-long-requires-2
+    returns-4)

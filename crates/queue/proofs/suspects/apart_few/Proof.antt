@@ -1,0 +1,45 @@
+use mathlib.Core.Path.{_≡_, refl, sym, ap, _∙_}
+use native.Mathlib.Omega.{arith}
+use mathlib.Core.Bool.{Bool, true, false, _&&_, _||_}
+use Prim.Native.Nat.{ℕ, _≤_, _+_, _-_, _*_, _/_, _%_, _<_}
+use lib.ListN.{length, take, drop, getD, length-drop}
+use native.Mathlib.Nat.{zero-lt-suc}
+use borrow.Author.Tests.{not-false, ltb-true}
+use Rattle.queue.specs.Lists.{and-true}
+use Rattle.queue.proofs.SuspectLaws.{said-out}
+use borrow.Author.Needs.{needs}
+use Rattle.queue.proofs.suspects.apart_few.Statement.{statement}
+use Rattle.queue.proofs.suspects.apart_few.Tie as tie
+use Rattle.queue.proofs.suspects.apart_few.Reads as reads
+use Rattle.queue.proofs.suspects.apart_few.Lts as lts
+use Rattle.queue.proofs.logic.both.Reads as both-reads
+use Rattle.queue.proofs.suspects.apart_by.Reads as apart-by-reads
+
+both-requires : tie.Need-both-requires
+both-requires c κs = search needs
+
+returns : tie.Need-returns
+returns c = said-out refl
+
+slice-aggregate-apart-by : tie.Need-slice-aggregate-apart-by
+slice-aggregate-apart-by c = search needs
+
+slice-aggregate-apart-by-2 : tie.Need-slice-aggregate-apart-by-2
+slice-aggregate-apart-by-2 c = search needs
+
+apart-by-requires : tie.Need-apart-by-requires
+apart-by-requires c κs = let u = and-true _ _ (sym (c .before .before .before .both .ensures) ∙ not-false _ (c .before .before .if1 .left)) in (c .before .before .before .before .before .pre .0, c .before .before .before .before .before .pre .1, ltb-true _ _ (u .0), ltb-true _ _ (u .1), zero-lt-suc _, zero-lt-suc _)
+
+returns-2 : tie.Need-returns-2
+returns-2 c = search needs
+
+pub apart-few-spec : {M : Type 1} → statement M
+apart-few-spec =
+    tie.close
+    (tie.spec
+    both-requires
+    returns
+    slice-aggregate-apart-by
+    slice-aggregate-apart-by-2
+    apart-by-requires
+    returns-2)

@@ -1,0 +1,33 @@
+use mathlib.Core.Path.{_≡_, refl, sym, ap, _∙_}
+use native.Mathlib.Omega.{arith}
+use mathlib.Core.Bool.{Bool, true, false, _&&_, _||_}
+use Prim.Native.Nat.{ℕ, _≤_, _+_, _-_, _*_, _/_, _%_, _<_}
+use lib.ListN.{length, take, drop, getD, length-drop}
+use Rattle.queue.proofs.SuspectLaws.{looked}
+use borrow.Author.Needs.{needs}
+use Rattle.queue.proofs.suspects.crossed.Statement.{statement}
+use Rattle.queue.proofs.suspects.crossed.Tie as tie
+use Rattle.queue.proofs.suspects.crossed.Reads as reads
+use Rattle.queue.proofs.suspects.crossed.Lts as lts
+use Rattle.queue.proofs.suspects.in_order.Reads as in-order-reads
+use Rattle.queue.proofs.suspects.order_rows.Reads as order-rows-reads
+use Rattle.queue.proofs.suspects.pass.Reads as pass-reads
+
+order-rows-requires : tie.Need-order-rows-requires
+order-rows-requires c κs = search needs
+
+in-order-requires : tie.Need-in-order-requires
+in-order-requires c κs = search needs
+
+pass-requires : tie.Need-pass-requires
+pass-requires c κs = (c .before .before .before .before .before .before .before .before .before .pre .0, c .before .before .before .before .before .before .before .before .before .pre .1, c .before .before .before .before .before .before .before .before .before .pre .2, c .before .before .before .before .before .before .before .before .before .pre .3, c .before .in-order .ensures)
+
+same-length : tie.Need-same-length
+same-length c = search needs
+
+returns : tie.Need-returns
+returns c = looked (c .before .before .before .before .before .before .order-rows .ensures) (c .pass .ensures)
+
+pub crossed-spec : {M : Type 1} → statement M
+crossed-spec =
+    tie.close (tie.spec order-rows-requires in-order-requires pass-requires same-length returns)

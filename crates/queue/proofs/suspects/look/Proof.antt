@@ -1,0 +1,51 @@
+use mathlib.Core.Path.{_≡_, refl, sym, ap, _∙_}
+use native.Mathlib.Omega.{arith}
+use mathlib.Core.Bool.{Bool, true, false, _&&_, _||_}
+use Prim.Native.Nat.{ℕ, _≤_, _+_, _-_, _*_, _/_, _%_, _<_}
+use lib.ListN.{length, take, drop, getD, length-drop}
+use Rattle.queue.proofs.RowLaws.{look-none, look-here}
+use borrow.Author.Needs.{needs}
+use Rattle.queue.proofs.suspects.look.Statement.{statement}
+use Rattle.queue.proofs.suspects.look.Tie as tie
+use Rattle.queue.proofs.suspects.look.Reads as reads
+use Rattle.queue.proofs.suspects.look.Lts as lts
+use Rattle.queue.proofs.suspects.bisect.Reads as bisect-reads
+use Rattle.queue.proofs.suspects.cmp_rows.Reads as cmp-rows-reads
+use Rattle.queue.proofs.suspects.look_all.Reads as look-all-reads
+
+bisect-requires : tie.Need-bisect-requires
+bisect-requires c κs = c .before .before .before .pre (c .if1 .taken)
+
+returns : tie.Need-returns
+returns c = look-none (c .before .before .before .before .before .args .hex) (c .before .before .before .before .before .args .s .now) (c .before .before .before .before .before .args .v .now) (c .before .before .before .before .before .pre (c .before .before .if1 .taken)) (c .before .bisect .ensures) (c .if2 .taken)
+
+mul-cmp-rows : tie.Need-mul-cmp-rows
+mul-cmp-rows c = search needs
+
+shared-slice-read-cmp-rows : tie.Need-shared-slice-read-cmp-rows
+shared-slice-read-cmp-rows c = search needs
+
+cmp-rows-requires : tie.Need-cmp-rows-requires
+cmp-rows-requires c κs = search needs
+
+returns-2 : tie.Need-returns-2
+returns-2 c = look-here (c .before .before .before .before .before .before .before .args .hex) (c .before .before .before .before .before .before .before .args .s .now) (c .before .before .before .before .before .before .before .args .v .now) (c .before .before .before .before .before .before .before .pre (c .before .before .before .before .if1 .taken)) (c .before .before .before .bisect .ensures) (omega (arith, c .before .before .if2 .left)) (c .cmp-rows .ensures)
+
+look-all-requires : tie.Need-look-all-requires
+look-all-requires c κs = search needs
+
+returns-3 : tie.Need-returns-3
+returns-3 c = c .look-all .ensures
+
+pub look-spec : {M : Type 1} → statement M
+look-spec =
+    tie.close
+    (tie.spec
+    bisect-requires
+    returns
+    mul-cmp-rows
+    shared-slice-read-cmp-rows
+    cmp-rows-requires
+    returns-2
+    look-all-requires
+    returns-3)

@@ -1,0 +1,71 @@
+use mathlib.Core.Path.{_≡_, refl, sym, ap, _∙_}
+use native.Mathlib.Omega.{arith}
+use mathlib.Core.Bool.{Bool, true, false, _&&_, _||_}
+use Prim.Native.Nat.{ℕ, _≤_, _+_, _-_, _*_, _/_, _%_, _<_}
+use lib.ListN.{length, take, drop, getD, length-drop}
+use Rattle.queue.specs.Frames.{recC}
+use Rattle.queue.specs.Forms.{formC}
+use Rattle.queue.specs.Suspects.{crosses}
+use Rattle.queue.proofs.Turns.{Scan, start, seen}
+use Rattle.queue.proofs.SuspectLaws.{crosses-go, crosses-stop, crosses-end}
+use borrow.Author.Needs.{needs}
+use Rattle.queue.proofs.suspects.pass.Statement.{statement}
+use Rattle.queue.proofs.suspects.pass.Tie as tie
+use Rattle.queue.proofs.suspects.pass.Reads as reads
+use Rattle.queue.proofs.suspects.pass.Lts as lts
+use Rattle.queue.proofs.forms.after_in.Reads as after-in-reads
+use Rattle.queue.proofs.frame.rec_at.Reads as rec-at-reads
+use Rattle.queue.proofs.suspects.pass_ids.Reads as pass-ids-reads
+
+abbrev Inv-loop : tie.InvT-loop
+Inv-loop s hex at n v ordered i₀ left₀ k₀ i left k = Scan (formC hex recC) (crosses hex s v) s n at 0 i left k × (k + left ≡ n)
+
+abbrev μ-loop : tie.MeasureT-loop
+μ-loop s hex at n v ordered i₀ left₀ k₀ i left k = left
+
+loop-holds : tie.Need-loop-holds Inv-loop μ-loop
+loop-holds c = (start (formC (c .before .before .args .hex) recC) _ _ _ _ _ (c .before .before .pre .0) (c .before .before .pre .1), omega arith)
+
+rec-at-requires : tie.Need-rec-at-requires Inv-loop μ-loop
+rec-at-requires c κs = search needs
+
+pass-ids-requires : tie.Need-pass-ids-requires Inv-loop μ-loop
+pass-ids-requires c κs = let t = seen (c .before .before .before .before .before .before .args .hex) (c .before .before .before .loop .inv .0) (c .before .before .loop-test .taken) (c .before .rec-at .ensures) in (t .is .0 .insIn, t .is .0 .insAll, c .before .before .before .before .before .before .pre .2, omega (arith, c .before .before .before .before .before .before .pre .3, c .before .before .before .loop .inv .1, c .before .before .loop-test .taken), c .before .before .before .before .before .before .pre .4)
+
+returns : tie.Need-returns Inv-loop μ-loop
+returns c = crosses-stop (c .before .before .before .before .before .before .before .before .args .hex) (c .before .before .before .before .before .before .before .before .args .v .now) (c .before .before .before .before .before .loop .inv .0) (c .before .before .before .before .loop-test .taken) (c .before .before .before .rec-at .ensures) (c .before .pass-ids .ensures) (c .if1 .taken)
+
+after-in-requires : tie.Need-after-in-requires Inv-loop μ-loop
+after-in-requires c κs = seen (c .before .before .before .before .before .before .before .before .args .hex) (c .before .before .before .before .before .loop .inv .0) (c .before .before .before .before .loop-test .taken) (c .before .before .before .rec-at .ensures) .is .1 .within
+
+sub-left : tie.Need-sub-left Inv-loop μ-loop
+sub-left c = search needs
+
+add-k : tie.Need-add-k Inv-loop μ-loop
+add-k c = omega (arith, c .before .before .before .before .before .before .before .before .before .pre .3, c .before .before .before .before .before .before .loop .inv .1, c .before .before .before .before .before .loop-test .taken)
+
+loop-less : tie.Need-loop-less Inv-loop μ-loop
+loop-less c = search needs
+
+loop-again : tie.Need-loop-again Inv-loop μ-loop
+loop-again c = (crosses-go (c .before .before .before .before .before .before .before .before .before .args .hex) (c .before .before .before .before .before .before .before .before .before .args .v .now) (c .before .before .before .before .before .before .loop .inv .0) (c .before .before .before .before .before .loop-test .taken) (c .before .before .before .before .rec-at .ensures) (c .before .before .pass-ids .ensures) (c .after-in .ensures) (c .before .if1 .left), omega (arith, c .before .before .before .before .before .before .loop .inv .1, c .before .before .before .before .before .loop-test .taken))
+
+returns-2 : tie.Need-returns-2 Inv-loop μ-loop
+returns-2 c = crosses-end (c .before .before .before .before .args .hex) (c .before .before .before .before .args .v .now) (c .before .loop .inv .0) (omega arith)
+
+pub pass-spec : {M : Type 1} → statement M
+pass-spec =
+    tie.close
+    (tie.spec
+    Inv-loop
+    μ-loop
+    loop-holds
+    rec-at-requires
+    pass-ids-requires
+    returns
+    after-in-requires
+    sub-left
+    add-k
+    loop-less
+    loop-again
+    returns-2)

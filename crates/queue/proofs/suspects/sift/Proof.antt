@@ -1,0 +1,84 @@
+use mathlib.Core.Path.{_≡_, refl, sym, ap, _∙_}
+use native.Mathlib.Omega.{arith}
+use mathlib.Core.Bool.{Bool, true, false, _&&_, _||_}
+use Prim.Native.Nat.{ℕ, _≤_, _+_, _-_, _*_, _/_, _%_, _<_}
+use lib.ListN.{length, take, drop, getD, length-drop}
+use Rattle.queue.specs.Suspects.{Shuffled}
+use Rattle.queue.proofs.RowLaws.{shuffled-self, shuffled-on}
+use borrow.Author.Needs.{needs}
+use Rattle.queue.proofs.suspects.sift.Statement.{statement}
+use Rattle.queue.proofs.suspects.sift.Tie as tie
+use Rattle.queue.proofs.suspects.sift.Reads as reads
+use Rattle.queue.proofs.suspects.sift.Lts as lts
+use Rattle.queue.proofs.suspects.child.Reads as child-reads
+use Rattle.queue.proofs.suspects.swap.Reads as swap-reads
+use Rattle.queue.proofs.suspects.up_to.Reads as up-to-reads
+
+abbrev Inv-loop : tie.InvT-loop
+Inv-loop s hex v₀ from n i₀ v i = Shuffled v₀ v × (length v ≡ length v₀)
+
+abbrev μ-loop : tie.MeasureT-loop
+μ-loop s hex v₀ from n i₀ v i = n - i
+
+loop-holds : tie.Need-loop-holds Inv-loop μ-loop
+loop-holds c = (shuffled-self _, refl)
+
+child-requires : tie.Need-child-requires Inv-loop μ-loop
+child-requires c κs = search needs
+
+mul-up-to : tie.Need-mul-up-to Inv-loop μ-loop
+mul-up-to c = search needs
+
+slice-read-up-to : tie.Need-slice-read-up-to Inv-loop μ-loop
+slice-read-up-to c = search needs
+
+mul-up-to-2 : tie.Need-mul-up-to-2 Inv-loop μ-loop
+mul-up-to-2 c = search needs
+
+slice-read-up-to-2 : tie.Need-slice-read-up-to-2 Inv-loop μ-loop
+slice-read-up-to-2 c = search needs
+
+up-to-requires : tie.Need-up-to-requires Inv-loop μ-loop
+up-to-requires c κs = search needs
+
+same-length : tie.Need-same-length Inv-loop μ-loop
+same-length c = search needs
+
+returns : tie.Need-returns Inv-loop μ-loop
+returns c = c .before .before .before .before .before .before .before .loop .inv .0
+
+swap-requires : tie.Need-swap-requires Inv-loop μ-loop
+swap-requires c κs = search needs
+
+loop-less : tie.Need-loop-less Inv-loop μ-loop
+loop-less c = search needs
+
+loop-again : tie.Need-loop-again Inv-loop μ-loop
+loop-again c = (shuffled-on (c .before .before .before .before .before .before .before .before .before .before .before .loop .inv .0) (c .before .before .swap .ensures), omega arith)
+
+same-length-2 : tie.Need-same-length-2 Inv-loop μ-loop
+same-length-2 c = search needs
+
+returns-2 : tie.Need-returns-2 Inv-loop μ-loop
+returns-2 c = c .before .loop .inv .0
+
+pub sift-spec : {M : Type 1} → statement M
+sift-spec =
+    tie.close
+    (tie.spec
+    Inv-loop
+    μ-loop
+    loop-holds
+    child-requires
+    mul-up-to
+    slice-read-up-to
+    mul-up-to-2
+    slice-read-up-to-2
+    up-to-requires
+    same-length
+    returns
+    swap-requires
+    loop-less
+    loop-again
+    same-length-2
+    returns-2)

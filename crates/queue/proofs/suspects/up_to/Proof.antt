@@ -1,0 +1,30 @@
+use mathlib.Core.Path.{_≡_, refl, sym, ap, _∙_}
+use native.Mathlib.Omega.{arith}
+use mathlib.Core.Bool.{Bool, true, false, _&&_, _||_}
+use Prim.Native.Nat.{ℕ, _≤_, _+_, _-_, _*_, _/_, _%_, _<_}
+use lib.ListN.{length, take, drop, getD, length-drop}
+use Rattle.queue.specs.Suspects.{upTo, noR}
+use borrow.Author.Needs.{needs}
+use Rattle.queue.proofs.suspects.up_to.Statement.{statement}
+use Rattle.queue.proofs.suspects.up_to.Tie as tie
+use Rattle.queue.proofs.suspects.up_to.Reads as reads
+use Rattle.queue.proofs.suspects.up_to.Lts as lts
+use Rattle.queue.proofs.logic.both.Reads as both-reads
+use Rattle.queue.proofs.logic.either.Reads as either-reads
+use Rattle.queue.proofs.suspects.cmp_rows.Reads as cmp-rows-reads
+
+cmp-rows-requires : tie.Need-cmp-rows-requires
+cmp-rows-requires c κs = search needs
+
+both-requires : tie.Need-both-requires
+both-requires c κs = search needs
+
+either-requires : tie.Need-either-requires
+either-requires c κs = search needs
+
+returns : tie.Need-returns
+unfolding upTo noR
+returns c = c .either .ensures ∙ simp (c .before .both .ensures, c .before .before .cmp-rows .ensures)
+
+pub up-to-spec : {M : Type 1} → statement M
+up-to-spec = tie.close (tie.spec cmp-rows-requires both-requires either-requires returns)
