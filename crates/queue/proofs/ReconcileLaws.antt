@@ -436,7 +436,7 @@ module _ (cur next out : Bytes) {a : Area} (i : AreaIs cur a) (ok : a .ok ≡ tr
       pub lent-to : height < 4294967296 → LentTo height j t (length t / 68) (eqb flag 1) ids (length ids / 32) window
       lent-to l = record {
         ok = rw asked-is (reconciling-ok Given (record { height = l; tip = A .smallTip; applied = A .smallApplied }) (shape-is ∙ n));
-        entries = A .good n .whole;
+        entries = A .good n .entries;
         rise = A .good n .rise;
         small = A .smallApplied;
         long = ap length tip-key ∙ A .good n .long;

@@ -6,7 +6,7 @@ use mathlib.Core.List.{List, [], _∷_, _++_, append-assoc}
 use Prim.Native.Nat.{ℕ, zero, suc, _+_, _-_, _*_, _^_, _≤_, _<_}
 use native.Mathlib.Omega.{arith}
 use native.Mathlib.Numerals.{add-one}
-use native.Mathlib.Nat.{pow-succ', mul-assoc, mul-comm, zero-add, suc-add}
+use native.Mathlib.Nat.{pow-succ', mul-assoc, mul-comm, zero-add, suc-add, le-of-suc-le-suc}
 use lib.Dec.{eqb}
 use lib.ListN.{length, take, drop, getD, length-append, length-drop}
 use lib.Seq.{take-take, take-suc, drop-drop, getD-drop, drop-append-seam, take-append-seam}
@@ -22,20 +22,22 @@ use Rattle.queue.specs.Forms.{formC, afterIn}
 use Rattle.queue.specs.Facts.{factsOf, placeHeight, SeenAs}
 use Rattle.queue.specs.Plain.{place-plain}
 use Rattle.queue.specs.Sounds.{fields-of}
-use Rattle.queue.specs.Touching.{entryIn, appliedIn, EntryAs, SeenOf, SeenHere, ConfirmedIs, ownIds, judgeF, asTouched, TouchIs, changes?}
+use Rattle.queue.specs.Touching.{entryIn, appliedIn, entryIds, EntriesRise, EntryAs, SeenOf, SeenHere, ConfirmedIs, ownIds, judgeF, asTouched, TouchIs, changes?}
 use Rattle.queue.specs.paper.Records.{Bytes, Id, Rec, queued, conflicted}
 use Rattle.queue.specs.paper.Lists.{isSome, any?, all?, find, map, concat}
 use Rattle.queue.specs.paper.Ids.{cmpL, same?}
 use Rattle.queue.specs.paper.Sound.{pending?, mined?, among?, inputs, outputs}
 use Rattle.queue.specs.paper.Area.{beVal, placeBytes}
 use Rattle.queue.specs.paper.Changing.{Applied, confirmed?, confirm, judge, judged, queuedOutputs, touchFound}
-use Rattle.queue.specs.paper.Calls.{pieces, appliedOf}
+use Rattle.queue.specs.paper.Calls.{pieces, appliedOf, rise?}
 use Rattle.queue.specs.declared.frame.Seen.{Seen}
 use Rattle.queue.specs.declared.frame.Facts.{Facts}
 use Rattle.queue.specs.declared.reading.Found.{Found}
 use Rattle.queue.specs.declared.touch.Verdict.{Verdict}
 use Rattle.queue.proofs.Turns.{Scan, start, here, on, stop, end, SeenIn, ReadsRec, seen, see}
+use Rattle.queue.specs.Order.{cmp-flip, same-sym, below-not-same, or-false}
 use Rattle.queue.proofs.ByteLaws.{between}
+use Rattle.queue.proofs.FindLaws.{Finding, finding, find-end, at-low, at-high, rest-rises, rising-at}
 
 -- ---- numbers and parts of an applied entry
 val-snoc : (l : Bytes) (b : ℕ) → beVal (l ++ (b ∷ [])) ≡ beVal l * 256 + b
@@ -79,29 +81,60 @@ module _ (t : Bytes) (p : ℕ) where
   unfolding part view
   entry-block = drop-take 36 32 (drop p t) ∙ ap (take 32) (drop-drop 36 p t)
 
--- ---- the entry of an id
-pub record Looking (t : Bytes) (k : ℕ) (id : Id) (i left : ℕ) : Type 0 where
-  pub within : i + left * 68 ≡ length t
-  pub same : find (λ a. same? id (a .id)) (appliedIn (drop i t) left) ≡ find (λ a. same? id (a .id)) (appliedIn t k)
+-- ---- the entry of an id: by place, and looked for among the ids
+pub entries-many : (k : ℕ) (t : Bytes) → length (entryIds t k) ≡ k
+entries-many zero t = refl
+entries-many (suc k) t = ap suc (entries-many k (drop 68 t))
 
-pub look-start : (t : Bytes) (k : ℕ) (id : Id) → length t ≡ k * 68 → Looking t k id 0 k
-look-start t k id e = record { within = omega arith; same = refl }
+behind : (m : ℕ) (t : Bytes) → drop (68 * m) (drop 68 t) ≡ drop (68 * suc m) t
+behind m t = let e : 68 + 68 * m ≡ 68 * suc m = omega arith in drop-drop (68 * m) 68 t ∙ ap (λ n. drop n t) e
 
-module _ {t : Bytes} {k : ℕ} {id : Id} {i left : ℕ} (x : Looking t k id i left) (h : 0 < left) {y : Id} (e : y ≡ part 32 (view false t 0) i) where
-  cut : appliedIn (drop i t) left ≡ entryIn t i ∷ appliedIn (drop (i + 68) t) (left - 1)
-  cut = let n : left ≡ suc (left - 1) = omega arith in ap (appliedIn (drop i t)) n ∙ ap (λ (l : Bytes). entryIn t i ∷ appliedIn l (left - 1)) (drop-drop 68 i t)
+entry-at : (k m : ℕ) (t : Bytes) → m < k → getD (entryIds t k) m [] ≡ part 32 (view false t 0) (68 * m)
+unfolding part view
+entry-at zero m t h = absurd (let y : ⊥ = omega arith in y)
+entry-at (suc k) zero t h = take-take 32 68 t (omega arith)
+entry-at (suc k) (suc m) t h = entry-at k m (drop 68 t) (le-of-suc-le-suc h) ∙ ap (take 32) (behind m t)
 
-  entry-same : same? id (entryIn t i .id) ≡ eqb (cmpL id y) 1
-  entry-same = ap (λ v. eqb (cmpL id v) 1) (entry-id t i ∙ sym e)
+no-entry : (z : Id) (k : ℕ) (t : Bytes) → false ≡ among? z (entryIds t k) → find (λ a. same? z (a .id)) (appliedIn t k) ≡ none
+no-entry z zero t e = refl
+no-entry z (suc k) t e =
+    let u = or-false (same? z (take 32 (take 68 t))) (among? z (entryIds (drop 68 t) k)) (sym e) in
+    rw (u .0) (no-entry z k (drop 68 t) (sym (u .1)))
 
-  pub look-go : (cmpL id y ≡ 1 → ⊥) → Looking t k id (i + 68) (left - 1)
-  look-go n = record { within = omega (arith, x .within); same = sym (ap (find (λ a. same? id (a .id))) cut ∙ rw (entry-same ∙ ne-eqb (cmpL id y) 1 n)) ∙ x .same }
+this-entry : (z : Id) (k m : ℕ) (t : Bytes) → rise? (entryIds t k) ≡ true → m < k → cmpL z (getD (entryIds t k) m []) ≡ 1 → find (λ a. same? z (a .id)) (appliedIn t k) ≡ some (entryIn t (68 * m))
+this-entry z zero m t r h e = absurd (let y : ⊥ = omega arith in y)
+this-entry z (suc k) zero t r h e = rw (eq-eqb (cmpL z (take 32 (take 68 t))) 1 e)
+this-entry z (suc k) (suc m) t r h e =
+    let i = take 32 (take 68 t) in
+    let l = entryIds (drop 68 t) k in
+    let n : m < length l = omega (arith, entries-many k (drop 68 t)) in
+    let b = rising-at (i ∷ l) 0 (suc m) r (omega arith) (omega arith) in
+    let q : z ≡ getD l m [] = cmp-flip z (getD l m []) .1 e in
+    let o : same? z i ≡ false = same-sym z i ∙ below-not-same i z (rw q b) in
+    rw o (this-entry z k m (drop 68 t) (rest-rises i l r) (le-of-suc-le-suc h) e ∙ ap (λ s. some (appliedOf (take 68 s))) (behind m t))
 
-  pub look-stop : cmpL id y ≡ 1 → EntryAs t k id (record { found = true; at = i })
-  look-stop n = record { good = λ _. (omega (arith, x .within), sym (x .same) ∙ ap (find (λ a. same? id (a .id))) cut ∙ rw (entry-same ∙ eq-eqb (cmpL id y) 1 n)); bad = λ f. false-true (sym f) }
+pub entry-end : (t : Bytes) (k : ℕ) {z : Id} {lo hi : ℕ} → Finding z (entryIds t k) lo hi → hi ≤ lo → EntryAs t k z (record { found = false; at = 0 })
+entry-end t k {z} g h = record { good = λ f. false-true f; bad = λ _. no-entry z k t (find-end g h) }
 
-pub look-end : {t : Bytes} {k : ℕ} {id : Id} {i left : ℕ} → Looking t k id i left → left ≡ 0 → EntryAs t k id (record { found = false; at = 0 })
-look-end {t} {k} {id} {i} {left} x e = record { good = λ f. false-true f; bad = λ _. sym (x .same) ∙ ap (λ (n : ℕ). find (λ a. same? id (a .id)) (appliedIn (drop i t) n)) e }
+module _ (t : Bytes) (k : ℕ) (w : EntriesRise t k) {z : Id} {lo hi : ℕ} (g : Finding z (entryIds t k) lo hi) (m : ℕ) (h : m < hi) where
+  pub entry-room : 68 * m + 68 ≤ length t
+  entry-room = omega (arith, g .within, entries-many k t, w .all)
+
+  module _ {y : Id} (q : y ≡ part 32 (view false t 0) (68 * m)) where
+    few : m < k
+    few = omega (arith, g .within, entries-many k t)
+
+    it : y ≡ getD (entryIds t k) m []
+    it = q ∙ sym (entry-at k m t few)
+
+    pub entry-here : cmpL z y ≡ 1 → EntryAs t k z (record { found = true; at = m })
+    entry-here e = record { good = λ _. (entry-room, this-entry z k m t (w .rise) few (ap (cmpL z) (sym it) ∙ e)); bad = λ f. false-true (sym f) }
+
+    pub entry-low : cmpL z y ≡ 0 → Finding z (entryIds t k) lo m
+    entry-low = at-low g (w .rise) m it h
+
+    pub entry-high : (cmpL z y ≡ 0 → ⊥) → (cmpL z y ≡ 1 → ⊥) → Finding z (entryIds t k) (m + 1) hi
+    entry-high = at-high g (w .rise) m it h
 
 -- ---- is it confirmed there already
 module _ (s : Bytes) (base : ℕ) (x : Seen) (t : Bytes) (p : ℕ) where
@@ -263,15 +296,15 @@ module _ (s : Bytes) (at n base : ℕ) (x : Seen) (t : Bytes) (k : ℕ) (caught 
   by-id : (r : Rec) → SeenOf s base x r → find (λ a. same? (r .id) (a .id)) (appliedIn t k) ≡ find (λ a. same? (x .id) (a .id)) (appliedIn t k)
   by-id r w = ap (λ i. find (λ a. same? i (a .id)) (appliedIn t k)) (sym (w .0 .id))
 
-  module _ (g : f .found ≡ true) {b : Bool} (c : ConfirmedIs s base x t (f .at) b) where
-    found-is : (r : Rec) → SeenOf s base x r → touchFound caught own r (find (λ a. same? (r .id) (a .id)) (appliedIn t k)) ≡ cond b none (some (confirm (entryIn t (f .at)) r))
-    found-is r w = ap (touchFound caught own r) (by-id r w ∙ e .good g .1) ∙ ap (λ v. cond v none (some (confirm (entryIn t (f .at)) r))) (sym (c r w))
+  module _ (g : f .found ≡ true) {b : Bool} (c : ConfirmedIs s base x t (68 * f .at) b) where
+    found-is : (r : Rec) → SeenOf s base x r → touchFound caught own r (find (λ a. same? (r .id) (a .id)) (appliedIn t k)) ≡ cond b none (some (confirm (entryIn t (68 * f .at)) r))
+    found-is r w = ap (touchFound caught own r) (by-id r w ∙ e .good g .1) ∙ ap (λ v. cond v none (some (confirm (entryIn t (68 * f .at)) r))) (sym (c r w))
 
     pub verdict-same : b ≡ true → TouchIs s at n base x t k caught ids (record { what = 0; at = 0 })
     unfolding asTouched
     verdict-same y = record { is = λ r w. found-is r w ∙ rw y; within = λ z. absurd (let u : ⊥ = omega arith in u) }
 
-    pub verdict-confirm : b ≡ false → TouchIs s at n base x t k caught ids (record { what = 1; at = f .at })
+    pub verdict-confirm : b ≡ false → TouchIs s at n base x t k caught ids (record { what = 1; at = 68 * f .at })
     unfolding asTouched
     verdict-confirm y = record { is = λ r w. found-is r w ∙ rw y; within = λ z. e .good g .0 }
 

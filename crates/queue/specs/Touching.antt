@@ -3,7 +3,7 @@ use mathlib.Core.Path.{_≡_}
 use mathlib.Core.Bool.{Bool, true, false, cond, _&&_}
 use mathlib.Core.Option.{Option, none, some}
 use mathlib.Core.List.{List, [], _∷_, _++_}
-use Prim.Native.Nat.{ℕ, _+_, _≤_}
+use Prim.Native.Nat.{ℕ, _+_, _*_, _≤_}
 use lib.Dec.{eqb}
 use lib.ListN.{length, take, drop}
 use Rattle.queue.specs.Frames.{recC}
@@ -16,7 +16,7 @@ use Rattle.queue.specs.paper.Lists.{isSome, find, map}
 use Rattle.queue.specs.paper.Ids.{same?}
 use Rattle.queue.specs.paper.Sound.{mined?}
 use Rattle.queue.specs.paper.Changing.{Applied, confirmed?, confirm, judged, queuedOutputs, touchFound}
-use Rattle.queue.specs.paper.Calls.{pieces, appliedOf}
+use Rattle.queue.specs.paper.Calls.{pieces, appliedOf, rise?}
 use Rattle.queue.specs.declared.frame.Seen.{Seen}
 use Rattle.queue.specs.declared.frame.Facts.{Facts}
 use Rattle.queue.specs.declared.reading.Found.{Found}
@@ -29,8 +29,17 @@ entryIn t p = appliedOf (take 68 (drop p t))
 abbrev pub appliedIn : Bytes → ℕ → List Applied
 appliedIn t k = map appliedOf (pieces 68 k t)
 
+-- their ids; they stand in t, and rise
+abbrev pub entryIds : Bytes → ℕ → List Id
+entryIds t k = map (take 32) (pieces 68 k t)
+
+pub record EntriesRise (t : Bytes) (k : ℕ) : Type 0 where
+  pub all : length t ≡ k * 68
+  pub rise : rise? (entryIds t k) ≡ true
+
+-- the number of an id's entry
 pub record EntryAs (t : Bytes) (k : ℕ) (id : Id) (f : Found) : Type 0 where
-  pub good : f .found ≡ true → (f .at + 68 ≤ length t) × (find (λ a. same? id (a .id)) (appliedIn t k) ≡ some (entryIn t (f .at)))
+  pub good : f .found ≡ true → (68 * f .at + 68 ≤ length t) × (find (λ a. same? id (a .id)) (appliedIn t k) ≡ some (entryIn t (68 * f .at)))
   pub bad : f .found ≡ false → find (λ a. same? id (a .id)) (appliedIn t k) ≡ none
 
 -- x was read at base, and says of r

@@ -17,7 +17,7 @@ use super::view::cmp_id;
 use super::view::id_at;
 ghost use mathlib.Core.Path.{_≡_};
 ghost use mathlib.Core.Bool.{true, false};
-ghost use Prim.Native.Nat.{_+_, _*_, _≤_, _<_};
+ghost use Prim.Native.Nat.{_+_, _≤_, _<_};
 ghost use lib.ListN.{length, take};
 ghost use Rattle.queue.specs.Codec.{All, encs};
 ghost use Rattle.queue.specs.Arguments.{Small};
@@ -27,6 +27,7 @@ ghost use Rattle.queue.specs.Reads.{whole};
 ghost use Rattle.queue.specs.Forms.{formC};
 ghost use Rattle.queue.specs.Reopens.{IdsRise, idsAt, PartsIn};
 ghost use Rattle.queue.specs.SelectAs.{idAt};
+ghost use Rattle.queue.specs.Touching.{EntriesRise};
 ghost use Rattle.queue.specs.Rebuilding.{stateN, reasonN, markN, placeN, placeLen, tailN, tailLen, nextBytes, nextLen, stayF, stepN, numberN, keptL};
 ghost use Rattle.queue.specs.paper.Lists.{map};
 ghost use Rattle.queue.specs.paper.Changing.{placeIn};
@@ -210,7 +211,7 @@ pub fn put_all(
     dst: &mut [u8],
     to: usize,
 ) -> Done
-    requires { ⌜ (at ≤ length (now src)) × (whole (formC false recC) n (now src) at ≡ true) × ((length (now t) ≡ k * 68) × IdsRise (now ids) m × Small (now t)) × (All (λ p. p + 33 ≤ length (now src)) (now gone) × (length (now gone) ≤ 2048)) × (counter .0 + length (now gone) < 18446744073709551616) × (n < 4294967296) × (to + length (encs recC (keptL (now src) at n (now t) k caught (idsAt (now ids) m) (now gone) (counter .0) (floor .0))) ≤ length (now dst)) ⌝ }
+    requires { ⌜ (at ≤ length (now src)) × (whole (formC false recC) n (now src) at ≡ true) × (EntriesRise (now t) k × IdsRise (now ids) m × Small (now t)) × (All (λ p. p + 33 ≤ length (now src)) (now gone) × (length (now gone) ≤ 2048)) × (counter .0 + length (now gone) < 18446744073709551616) × (n < 4294967296) × (to + length (encs recC (keptL (now src) at n (now t) k caught (idsAt (now ids) m) (now gone) (counter .0) (floor .0))) ≤ length (now dst)) ⌝ }
     ensures { λ r. ⌜ Put (now (dst .entry)) to (encs recC (keptL (now (src .entry)) at n (now (t .entry)) k caught (idsAt (now (ids .entry)) m) (now (gone .entry)) (counter .0) (floor .0))) (length (encs recC (keptL (now (src .entry)) at n (now (t .entry)) k caught (idsAt (now (ids .entry)) m) (now (gone .entry)) (counter .0) (floor .0)))) (r .at) (now (dst .exit)) × (r .kept ≡ length (keptL (now (src .entry)) at n (now (t .entry)) k caught (idsAt (now (ids .entry)) m) (now (gone .entry)) (counter .0) (floor .0))) ⌝ }
 {
     let mut i = at;

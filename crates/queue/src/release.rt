@@ -11,7 +11,7 @@ use super::touch::touched;
 use super::view::be;
 ghost use mathlib.Core.Path.{_≡_};
 ghost use mathlib.Core.Bool.{true, false, _||_};
-ghost use Prim.Native.Nat.{_+_, _-_, _*_, _≤_, _<_};
+ghost use Prim.Native.Nat.{_+_, _-_, _≤_, _<_};
 ghost use lib.Dec.{ltb, leb};
 ghost use lib.ListN.{length, take};
 ghost use Rattle.queue.specs.Codec.{All};
@@ -20,6 +20,7 @@ ghost use Rattle.queue.specs.Reads.{whole};
 ghost use Rattle.queue.specs.Forms.{formC};
 ghost use Rattle.queue.specs.Opens.{limits};
 ghost use Rattle.queue.specs.Reopens.{IdsRise, idsAt};
+ghost use Rattle.queue.specs.Touching.{EntriesRise};
 ghost use Rattle.queue.specs.SelectAs.{Even};
 ghost use Rattle.queue.specs.Releasing.{minedF, heightF, minedOf, MinedGathered, Stands, bytesAt, PlaceAdded, walkC};
 
@@ -56,7 +57,7 @@ pub fn gather_mined(
     times: &mut [u64],
     places: &mut [usize],
 ) -> usize
-    requires { ⌜ (at ≤ length (now s)) × (whole (formC false recC) n (now s) at ≡ true) × (length (now t) ≡ k * 68) × IdsRise (now ids) m × Even (length (now ranks)) (now ranks) (now times) (now places) × (length (minedOf (now s) at n (now t) k caught (idsAt (now ids) m)) ≤ length (now ranks)) ⌝ }
+    requires { ⌜ (at ≤ length (now s)) × (whole (formC false recC) n (now s) at ≡ true) × EntriesRise (now t) k × IdsRise (now ids) m × Even (length (now ranks)) (now ranks) (now times) (now places) × (length (minedOf (now s) at n (now t) k caught (idsAt (now ids) m)) ≤ length (now ranks)) ⌝ }
     ensures { λ r. ⌜ MinedGathered (now (s .entry)) n (minedOf (now (s .entry)) at n (now (t .entry)) k caught (idsAt (now (ids .entry)) m)) (length (now (ranks .entry))) r (now (ranks .exit)) (now (times .exit)) (now (places .exit)) ⌝ }
 {
     let mut i = at;

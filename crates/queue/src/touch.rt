@@ -14,7 +14,7 @@ use super::view::cmp_id;
 use super::view::id_at;
 ghost use mathlib.Core.Path.{_≡_};
 ghost use mathlib.Core.Bool.{true, false, _&&_};
-ghost use Prim.Native.Nat.{_+_, _*_, _≤_};
+ghost use Prim.Native.Nat.{_+_, _≤_};
 ghost use lib.Dec.{eqb};
 ghost use lib.ListN.{length};
 ghost use Rattle.queue.specs.Frames.{recC, idC};
@@ -22,25 +22,30 @@ ghost use Rattle.queue.specs.Reads.{whole, listAt};
 ghost use Rattle.queue.specs.Forms.{formC};
 ghost use Rattle.queue.specs.View.{view};
 ghost use Rattle.queue.specs.Reopens.{IdsRise, idsAt};
-ghost use Rattle.queue.specs.Touching.{appliedIn, EntryAs, SeenHere, ConfirmedIs, ownIds, judgeF, TouchIs, changes?};
+ghost use Rattle.queue.specs.Touching.{appliedIn, EntriesRise, EntryAs, SeenHere, ConfirmedIs, ownIds, judgeF, TouchIs, changes?};
 ghost use Rattle.queue.specs.paper.Lists.{any?, all?};
 ghost use Rattle.queue.specs.paper.Sound.{among?};
 ghost use Rattle.queue.specs.paper.Changing.{queuedOutputs};
 
-// The applied entry of an id, of k entries.
+// The number of the applied entry of an id, of k entries, which rise. Those before lo are lower, those from hi on are higher.
 fn find_entry(t: &[u8], k: u64, id: [u8; 32]) -> Found
-    requires { ⌜ length (now t) ≡ k * 68 ⌝ }
+    requires { ⌜ EntriesRise (now t) k ⌝ }
     ensures { λ r. ⌜ EntryAs (now (t .entry)) k id r ⌝ }
 {
-    let mut i: usize = 0;
-    let mut left = k;
-    while 0 < left {
-        let y = id_at(t, false, 0, i);
-        if cmp_id(id, y) == 1 {
-            return Found { found: true, at: i };
+    let mut lo: usize = 0;
+    let mut hi = k as usize;
+    while lo < hi {
+        let m = lo + (hi - lo) / 2;
+        let y = id_at(t, false, 0, 68 * m);
+        let c = cmp_id(id, y);
+        if c == 1 {
+            return Found { found: true, at: m };
         }
-        i = i + 68;
-        left = left - 1;
+        if c == 0 {
+            hi = m;
+        } else {
+            lo = m + 1;
+        }
     }
     Found {
         found: false,
@@ -162,17 +167,18 @@ pub fn touched(
     ids: &[u8],
     m: u64,
 ) -> Verdict
-    requires { ⌜ (at ≤ length (now s)) × (whole (formC false recC) n (now s) at ≡ true) × SeenHere (now s) base x × (length (now t) ≡ k * 68) × IdsRise (now ids) m ⌝ }
+    requires { ⌜ (at ≤ length (now s)) × (whole (formC false recC) n (now s) at ≡ true) × SeenHere (now s) base x × EntriesRise (now t) k × IdsRise (now ids) m ⌝ }
     ensures { λ r. ⌜ TouchIs (now (s .entry)) at n base x (now (t .entry)) k caught (idsAt (now (ids .entry)) m) r ⌝ }
 {
     let id = x.id;
     let f = x.facts;
     let e = find_entry(t, k, id);
     if e.found {
-        if confirmed(s, base, x, t, e.at) {
+        let p = 68 * e.at;
+        if confirmed(s, base, x, t, p) {
             return Verdict { what: 0, at: 0 };
         }
-        return Verdict { what: 1, at: e.at };
+        return Verdict { what: 1, at: p };
     }
     if !both(caught, pending(f.state)) {
         return Verdict { what: 0, at: 0 };
@@ -195,7 +201,7 @@ pub fn any_touched(
     ids: &[u8],
     m: u64,
 ) -> bool
-    requires { ⌜ (at ≤ length (now s)) × (whole (formC false recC) n (now s) at ≡ true) × (length (now t) ≡ k * 68) × IdsRise (now ids) m ⌝ }
+    requires { ⌜ (at ≤ length (now s)) × (whole (formC false recC) n (now s) at ≡ true) × EntriesRise (now t) k × IdsRise (now ids) m ⌝ }
     ensures { λ r. ⌜ r ≡ any? (changes? caught (ownIds (idsAt (now (ids .entry)) m) (listAt (formC false recC) n (now (s .entry)) at)) (appliedIn (now (t .entry)) k)) (listAt (formC false recC) n (now (s .entry)) at) ⌝ }
 {
     let mut i = at;
