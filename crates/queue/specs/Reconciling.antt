@@ -20,7 +20,7 @@ use Rattle.queue.specs.Reopens.{IdsRise, idsAt}
 use Rattle.queue.specs.Arguments.{Small}
 use Rattle.queue.specs.Reconciles.{Reconcilable}
 use Rattle.queue.specs.SelectAs.{idAt}
-use Rattle.queue.specs.Touching.{appliedIn, EntriesRise}
+use Rattle.queue.specs.Touching.{appliedIn, EntriesRise, ownIds, Judged}
 use Rattle.queue.specs.paper.Records.{Bytes, Id, Rec, Queue}
 use Rattle.queue.specs.paper.Lists.{isSome, one, any?, map, concat}
 use Rattle.queue.specs.paper.Area.{areaBytes, over}
@@ -43,6 +43,10 @@ pub record LentTo (height : ℕ) (tip : Id) (t : Bytes) (k : ℕ) (caught : Bool
   pub rise : IdsRise ids m
   pub small : Small t
   pub long : length tip ≡ 32
+
+-- a verdict on each record
+pub record JudgedIn (s : Bytes) (a : Area) (t : Bytes) (k : ℕ) (caught : Bool) (ids : Bytes) (m : ℕ) (v : List ℕ) : Type 0 where
+  pub all : Judged t caught (ownIds (idsAt ids m) (listAt (formC false recC) (a .open .head .count) s (a .open .start))) (appliedIn t k) (listAt (formC false recC) (a .open .head .count) s (a .open .start)) v
 
 -- the records after the verdicts, the ids released, and whether a verdict changed one
 abbrev pub ownOf : Reconciling → Queue → List Id

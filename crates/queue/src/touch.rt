@@ -16,13 +16,13 @@ ghost use mathlib.Core.Path.{_≡_};
 ghost use mathlib.Core.Bool.{true, false, _&&_};
 ghost use Prim.Native.Nat.{_+_, _≤_};
 ghost use lib.Dec.{eqb};
-ghost use lib.ListN.{length};
+ghost use lib.ListN.{length, take};
 ghost use Rattle.queue.specs.Frames.{recC, idC};
 ghost use Rattle.queue.specs.Reads.{whole, listAt};
 ghost use Rattle.queue.specs.Forms.{formC};
 ghost use Rattle.queue.specs.View.{view};
 ghost use Rattle.queue.specs.Reopens.{IdsRise, idsAt};
-ghost use Rattle.queue.specs.Touching.{appliedIn, EntriesRise, EntryAs, SeenHere, ConfirmedIs, ownIds, judgeF, TouchIs, changes?};
+ghost use Rattle.queue.specs.Touching.{appliedIn, EntriesRise, EntryAs, SeenHere, ConfirmedIs, ownIds, judgeF, verdictOf, InEntry, TouchIs, Judged, changed?};
 ghost use Rattle.queue.specs.paper.Lists.{any?, all?};
 ghost use Rattle.queue.specs.paper.Sound.{among?};
 ghost use Rattle.queue.specs.paper.Changing.{queuedOutputs};
@@ -155,7 +155,8 @@ fn judge(fine: bool, f: Facts) -> u64
 }
 
 // The verdict on the record read at base, of the n records at `at`; t has k applied entries, ids m available ids.
-pub fn touched(
+// In one number: what, and four times the number of the applied entry.
+fn touched(
     s: &[u8],
     at: usize,
     n: u64,
@@ -166,7 +167,7 @@ pub fn touched(
     caught: bool,
     ids: &[u8],
     m: u64,
-) -> Verdict
+) -> u64
     requires { ⌜ (at ≤ length (now s)) × (whole (formC false recC) n (now s) at ≡ true) × SeenHere (now s) base x × EntriesRise (now t) k × IdsRise (now ids) m ⌝ }
     ensures { λ r. ⌜ TouchIs (now (s .entry)) at n base x (now (t .entry)) k caught (idsAt (now (ids .entry)) m) r ⌝ }
 {
@@ -174,24 +175,35 @@ pub fn touched(
     let f = x.facts;
     let e = find_entry(t, k, id);
     if e.found {
-        let p = 68 * e.at;
-        if confirmed(s, base, x, t, p) {
-            return Verdict { what: 0, at: 0 };
+        if confirmed(s, base, x, t, 68 * e.at) {
+            return 0;
         }
-        return Verdict { what: 1, at: p };
+        return e.at as u64 * 4 + 1;
     }
     if !both(caught, pending(f.state)) {
-        return Verdict { what: 0, at: 0 };
+        return 0;
     }
     let a = fine(s, at, n, base, x, ids, m);
-    Verdict {
-        what: judge(a, f),
-        at: 0,
-    }
+    judge(a, f)
 }
 
-// Does one of the n records at `at` change?
-pub fn any_touched(
+// A verdict from its number.
+pub fn verdict_of(t: &[u8], c: u64) -> Verdict
+    requires { ⌜ InEntry (now t) c ⌝ }
+    ensures { λ r. ⌜ r ≡ verdictOf c ⌝ }
+{
+    let what = c % 4;
+    if what == 1 {
+        return Verdict {
+            what: what,
+            at: 68 * (c / 4) as usize,
+        };
+    }
+    Verdict { what: what, at: 0 }
+}
+
+// The verdicts on the n records at `at`, to the front of vs.
+pub fn judge_all(
     s: &[u8],
     at: usize,
     n: u64,
@@ -200,20 +212,33 @@ pub fn any_touched(
     caught: bool,
     ids: &[u8],
     m: u64,
-) -> bool
-    requires { ⌜ (at ≤ length (now s)) × (whole (formC false recC) n (now s) at ≡ true) × EntriesRise (now t) k × IdsRise (now ids) m ⌝ }
-    ensures { λ r. ⌜ r ≡ any? (changes? caught (ownIds (idsAt (now (ids .entry)) m) (listAt (formC false recC) n (now (s .entry)) at)) (appliedIn (now (t .entry)) k)) (listAt (formC false recC) n (now (s .entry)) at) ⌝ }
+    vs: &mut [u64],
+)
+    requires { ⌜ (at ≤ length (now s)) × (whole (formC false recC) n (now s) at ≡ true) × EntriesRise (now t) k × IdsRise (now ids) m × (n ≤ length (now vs)) ⌝ }
+    ensures { λ _. ⌜ Judged (now (t .entry)) caught (ownIds (idsAt (now (ids .entry)) m) (listAt (formC false recC) n (now (s .entry)) at)) (appliedIn (now (t .entry)) k) (listAt (formC false recC) n (now (s .entry)) at) (take n (now (vs .exit))) ⌝ }
 {
     let mut i = at;
     let mut left = n;
+    let mut j: usize = 0;
     while 0 < left {
         let x = rec_at(s, false, i);
-        let v = touched(s, at, n, i, x, t, k, caught, ids, m);
-        if v.what != 0 {
-            return true;
-        }
+        vs[j] = touched(s, at, n, i, x, t, k, caught, ids, m);
         i = after_in(s, false, i, x.size);
         left = left - 1;
+        j += 1;
+    }
+}
+
+// Does a verdict change its record?
+pub fn any_touched(vs: &[u64]) -> bool
+    ensures { λ r. ⌜ r ≡ any? changed? (now (vs .entry)) ⌝ }
+{
+    let mut j: usize = 0;
+    while j < vs.len() {
+        if vs[j] % 4 != 0 {
+            return true;
+        }
+        j += 1;
     }
     false
 }
