@@ -15,7 +15,8 @@ use Rattle.queue.specs.View.{view}
 use Rattle.queue.specs.ReadLaws as readlaws
 use Rattle.queue.specs.ReadLaws.{false-true}
 use Rattle.queue.specs.Reopens.{idsAt}
-use Rattle.queue.specs.Lent.{entryIds, EntriesAre, IdsAre, ReconcileAsked}
+use Rattle.queue.specs.Touching.{entryIds}
+use Rattle.queue.specs.Lent.{EntriesAre, IdsAre, ReconcileAsked}
 use Rattle.queue.specs.paper.Records.{Bytes, Id}
 use Rattle.queue.specs.paper.Lists.{map}
 use Rattle.queue.specs.paper.Ids.{cmpL, below?}
@@ -124,5 +125,5 @@ asked tip flag t ids {n} {r} {u} {a} {b} {c} e f g l h i j =
           let o = j .good (q .1) in
           let d = div-add-mod' (length t) 68 in
           let z = eqb-true (length t % 68) 0 (w .0) in
-          record { long = eqb-true (length tip) 32 (v .0); whole = omega arith; applied = refl; rise = o .0; available = o .1 };
+          record { long = eqb-true (length tip) 32 (v .0); entries = record { all = omega arith; rise = w .1 }; applied = refl; rise = o .0; available = o .1 };
     }

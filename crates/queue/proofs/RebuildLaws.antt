@@ -26,8 +26,8 @@ use Rattle.queue.specs.Plain.{place-plain, rec-plain}
 use Rattle.queue.specs.Arguments.{Small}
 use Rattle.queue.specs.Reopens.{leadBytes, PartsIn}
 use Rattle.queue.specs.SelectAs.{idAt}
-use Rattle.queue.specs.Touching.{entryIn, appliedIn, SeenOf, ownIds, asTouched, TouchIs}
-use Rattle.queue.specs.Releasing.{nextR, nextL}
+use Rattle.queue.specs.Touching.{entryIn, SeenOf, asTouched, verdictOf, InEntry}
+use Rattle.queue.specs.Releasing.{nextV, nextL}
 use Rattle.queue.specs.Reconciles.{place-le}
 use Rattle.queue.specs.Rebuilding.{stateN, reasonN, markN, placeN, placeLen, tailN, tailLen, nextBytes, nextLen, stayF, stepN, numberN, numbered, stayR, keptOf, keptL}
 use Rattle.queue.specs.paper.Records.{Bytes, Id, Held, Rec, mined}
@@ -47,7 +47,7 @@ use Rattle.queue.proofs.FinishLaws.{encs-append, raw-after, raw-within}
 use Rattle.queue.proofs.SelectLaws.{map-length}
 use Rattle.queue.proofs.ReopenLaws.{parts-in, terms-part, tail-part}
 use Rattle.queue.proofs.TouchLaws.{be-val, drop-take}
-use Rattle.queue.proofs.ReleaseLaws.{all-at}
+use Rattle.queue.proofs.ReleaseLaws.{all-at, verdict-within}
 
 -- ---- the rank of an id
 unfoldable pub shift : ℕ → ℕ → ℕ
@@ -445,26 +445,24 @@ number-is c ids y = cases (eqb (placeIn (y .id) ids) 0)
     (λ a. let z = eqb-false (placeIn (y .id) ids) 0 a in let k : eqb (c + placeIn (y .id) ids) 0 ≡ false = ne-eqb (c + placeIn (y .id) ids) 0 (λ e. z (let u : placeIn (y .id) ids ≡ 0 = omega arith in u)) in rw (a, k))
 
 -- ---- the walk that writes
-module _ (s : Bytes) (at n : ℕ) (t : Bytes) (k : ℕ) (caught : Bool) (ids : List Id) (gone : List ℕ) (c floor to : ℕ) (d₀ : Bytes) where
-  abbrev own : List Id
-  own = ownIds ids (listAt (formC false recC) n s at)
+module _ (s : Bytes) (at n : ℕ) (t : Bytes) (vs : List ℕ) (gone : List ℕ) (c floor to : ℕ) (d₀ : Bytes) where
+  abbrev restOf : ℕ → ℕ → ℕ → List Rec
+  restOf left i j = keptOf c floor (map (idAt s) gone) (nextV t (listAt (formC false recC) left s i) (drop j vs))
 
-  abbrev restOf : ℕ → ℕ → List Rec
-  restOf left i = keptOf c floor (map (idAt s) gone) (map (nextR caught own (appliedIn t k)) (listAt (formC false recC) left s i))
-
-  pub record Rebuilding (dst : Bytes) (i left o many : ℕ) : Type 0 where
+  pub record Rebuilding (dst : Bytes) (i left j o many : ℕ) : Type 0 where
+    pub index : j + left ≡ n
     pub within : i ≤ length s
     pub all : whole (formC false recC) left s i ≡ true
     pub long : length dst ≡ length d₀
     pub few : many + left ≤ n
-    pub rest : Left d₀ to (encs recC (keptL s at n t k caught ids gone c floor)) dst o (encs recC (keptOf c floor (map (idAt s) gone) (map (nextR caught (ownIds ids (listAt (formC false recC) n s at)) (appliedIn t k)) (listAt (formC false recC) left s i))))
-    pub count : many + length (keptOf c floor (map (idAt s) gone) (map (nextR caught (ownIds ids (listAt (formC false recC) n s at)) (appliedIn t k)) (listAt (formC false recC) left s i))) ≡ length (keptL s at n t k caught ids gone c floor)
+    pub rest : Left d₀ to (encs recC (keptL s at n t vs gone c floor)) dst o (encs recC (keptOf c floor (map (idAt s) gone) (nextV t (listAt (formC false recC) left s i) (drop j vs))))
+    pub count : many + length (keptOf c floor (map (idAt s) gone) (nextV t (listAt (formC false recC) left s i) (drop j vs))) ≡ length (keptL s at n t vs gone c floor)
 
-  pub rebuild-start : at ≤ length s → whole (formC false recC) n s at ≡ true → Rebuilding d₀ at n to 0
+  pub rebuild-start : at ≤ length s → whole (formC false recC) n s at ≡ true → Rebuilding d₀ at n 0 to 0
   unfolding keptL nextL
-  rebuild-start h w = record { within = h; all = w; long = refl; few = omega arith; rest = begun _ _ _; count = omega arith }
+  rebuild-start h w = record { index = omega arith; within = h; all = w; long = refl; few = omega arith; rest = begun _ _ _; count = omega arith }
 
-  module _ {dst : Bytes} {i left o many : ℕ} (g : Rebuilding dst i left o many) where
+  module _ {dst : Bytes} {i left j o many : ℕ} (g : Rebuilding dst i left j o many) where
     module _ {ok : Bool} {x : Seen} (p : 0 < left) (rd : ReadsRec false s i ok (x .size) x) where
       pub rebuild-turn : Turn (formC false recC) s left i (i + x .size) (SeenIn false s i ok (x .size) x)
       rebuild-turn = rw (raw-after s i (x .size)) (turn-in false left (g .within) (g .all) p rd)
@@ -472,27 +470,23 @@ module _ (s : Bytes) (at n : ℕ) (t : Bytes) (k : ℕ) (caught : Bool) (ids : L
       pub rebuild-seen : SeenOf s i x (rebuild-turn .item)
       rebuild-seen = (rebuild-turn .is .0, rebuild-turn .is .1 .fine)
 
-      module _ (S : Small t) {v : Verdict} (T : TouchIs s at n i x t k caught ids v) {q m : ℕ} {stay : Bool} (e : q ≡ placeIn (x .id) (map (idAt s) gone)) (f : m ≡ numberN c q) (h : stay ≡ stayF m floor (x .facts)) where
+      module _ (S : Small t) {v : Verdict} (eV : v ≡ verdictOf (getD vs j 0)) (long : length vs ≡ n) (E : All (InEntry t) vs) {q m : ℕ} {stay : Bool} (e : q ≡ placeIn (x .id) (map (idAt s) gone)) (f : m ≡ numberN c q) (h : stay ≡ stayF m floor (x .facts)) where
         abbrev r : Rec
         r = rebuild-turn .item
 
         abbrev y : Rec
-        y = nextR caught own (appliedIn t k) r
+        y = orElse r (asTouched t v r)
 
-        y-is : y ≡ orElse r (asTouched t v r)
-        unfolding nextR
-        y-is = ap (orElse r) (T .is r rebuild-seen)
+        pub within-t : v .what ≡ 1 → v .at + 68 ≤ length t
+        within-t = verdict-within t (getD vs j 0) eV (all-at (InEntry t) vs j E (omega (arith, g .index)))
 
         y-id : y .id ≡ x .id
-        y-id = ap (λ z. z .id) y-is ∙ to-id t v r ∙ sym (rebuild-turn .is .0 .id)
+        y-id = to-id t v r ∙ sym (rebuild-turn .is .0 .id)
 
         done-is : releaseOne c (map (idAt s) gone) y ≡ numbered m (orElse r (asTouched t v r))
         done-is =
             number-is c (map (idAt s) gone) y
-            ∙ two (ap (λ z. numberN c (placeIn z (map (idAt s) gone))) y-id ∙ ap (numberN c) (sym e) ∙ sym f) y-is
-          where
-            two : {a a′ : ℕ} {b b′ : Rec} → a ≡ a′ → b ≡ b′ → numbered a b ≡ numbered a′ b′
-            two e f = cc
+            ∙ ap (λ z. numbered z y) (ap (λ z. numberN c (placeIn z (map (idAt s) gone))) y-id ∙ ap (numberN c) (sym e) ∙ sym f)
 
         stay-is : stayR floor (releaseOne c (map (idAt s) gone) y) ≡ stay
         unfolding stayF factsOf
@@ -506,33 +500,39 @@ module _ (s : Bytes) (at n : ℕ) (t : Bytes) (k : ℕ) (caught : Bool) (ids : L
             two e f = cc
 
         abbrev later : List Rec
-        later = keptOf c floor (map (idAt s) gone) (map (nextR caught own (appliedIn t k)) (listAt (formC false recC) (left - 1) s (i + x .size)))
+        later = keptOf c floor (map (idAt s) gone) (nextV t (listAt (formC false recC) (left - 1) s (i + x .size)) (drop (j + 1) vs))
 
-        cut : restOf left i ≡ cond stay (numbered m (orElse r (asTouched t v r)) ∷ later) later
-        unfolding keptOf
+        here : drop j vs ≡ getD vs j 0 ∷ drop (j + 1) vs
+        here = rw add-one (drop-cons vs j 0 (omega (arith, long, g .index)))
+
+        cut : restOf left i j ≡ cond stay (numbered m (orElse r (asTouched t v r)) ∷ later) later
+        unfolding keptOf nextV
         cut =
-            ap (λ l. keptOf c floor (map (idAt s) gone) (map (nextR caught own (appliedIn t k)) l)) (rebuild-turn .list)
+            ap (λ l. keptOf c floor (map (idAt s) gone) (nextV t l (drop j vs))) (rebuild-turn .list)
+            ∙ ap (λ z. keptOf c floor (map (idAt s) gone) (nextV t (r ∷ listAt (formC false recC) (left - 1) s (i + x .size)) z)) here
+            ∙ ap (λ z. keptOf c floor (map (idAt s) gone) (orElse r (asTouched t z r) ∷ nextV t (listAt (formC false recC) (left - 1) s (i + x .size)) (drop (j + 1) vs))) (sym eV)
             ∙ ap (λ b. cond b (releaseOne c (map (idAt s) gone) y ∷ later) later) stay-is
             ∙ ap (λ z. cond stay (z ∷ later) later) done-is
 
-        split : m < 256 ^ 8 → encs recC (restOf left i) ≡ stepN s i x t v m stay ++ encs recC later
+        split : m < 256 ^ 8 → encs recC (restOf left i j) ≡ stepN s i x t v m stay ++ encs recC later
         unfolding stepN encs
         split l = ap (encs recC) cut ∙ cases stay
-            (λ a. rw a (ap (λ (z : Bytes). z ++ encs recC later) (sym (next-is s i x t v m r rebuild-seen (T .within) S l))))
+            (λ a. rw a (ap (λ (z : Bytes). z ++ encs recC later) (sym (next-is s i x t v m r rebuild-seen within-t S l))))
             (λ a. rw a)
 
-        size : length (restOf left i) ≡ one stay + length later
+        size : length (restOf left i j) ≡ one stay + length later
         size = ap length cut ∙ cases stay (λ a. rw a (omega arith)) (λ a. rw a (omega arith))
 
-        pub rebuild-room : m < 256 ^ 8 → to + length (encs recC (keptL s at n t k caught ids gone c floor)) ≤ length d₀ → o + length (stepN s i x t v m stay) ≤ length dst
+        pub rebuild-room : m < 256 ^ 8 → to + length (encs recC (keptL s at n t vs gone c floor)) ≤ length d₀ → o + length (stepN s i x t v m stay) ≤ length dst
         rebuild-room l z = omega (arith, g .rest .pos, g .long, ap length (split l), length-append (stepN s i x t v m stay) (encs recC later))
 
-        pub rebuild-go : {dst′ : Bytes} {u w b : ℕ} → m < 256 ^ 8 → Put dst o (stepN s i x t v m stay) u w dst′ → b ≡ cond stay 1 0 → Rebuilding dst′ (i + x .size) (left - 1) w (many + b)
+        pub rebuild-go : {dst′ : Bytes} {u w b : ℕ} → m < 256 ^ 8 → Put dst o (stepN s i x t v m stay) u w dst′ → b ≡ cond stay 1 0 → Rebuilding dst′ (i + x .size) (left - 1) (j + 1) w (many + b)
         rebuild-go {dst′} {u} {w} {b} l z a =
             let T1 = rebuild-turn in
             let e1 : one stay ≡ b = cases stay (λ j. rw j (sym (a ∙ rw j))) (λ j. rw j (sym (a ∙ rw j))) in
             let e2 : one stay ≤ 1 = cases stay (λ j. rw j (omega arith)) (λ j. rw j (omega arith)) in
             record {
+              index = omega (arith, g .index);
               within = T1 .within;
               all = T1 .rest;
               long = kept z ∙ g .long;
@@ -541,8 +541,8 @@ module _ (s : Bytes) (at n : ℕ) (t : Bytes) (k : ℕ) (caught : Bool) (ids : L
               count = omega (arith, g .count, size);
             }
 
-    pub rebuild-end : left ≡ 0 → Put d₀ to (encs recC (keptL s at n t k caught ids gone c floor)) (length (encs recC (keptL s at n t k caught ids gone c floor))) o dst × (many ≡ length (keptL s at n t k caught ids gone c floor))
-    unfolding encs keptOf
+    pub rebuild-end : left ≡ 0 → Put d₀ to (encs recC (keptL s at n t vs gone c floor)) (length (encs recC (keptL s at n t vs gone c floor))) o dst × (many ≡ length (keptL s at n t vs gone c floor))
+    unfolding encs keptOf nextV
     rebuild-end z =
         let l = none-left (formC false recC) s left i z .0 in
-        (puts.done (rw l at (g .rest)), (let e = ap (λ q. length (keptOf c floor (map (idAt s) gone) (map (nextR caught own (appliedIn t k)) q))) l in let y : many ≡ length (keptL s at n t k caught ids gone c floor) = omega (arith, g .count) in y))
+        (puts.done (rw l at (g .rest)), (let e = ap (λ q. length (keptOf c floor (map (idAt s) gone) (nextV t q (drop j vs)))) l in let y : many ≡ length (keptL s at n t vs gone c floor) = omega (arith, g .count) in y))

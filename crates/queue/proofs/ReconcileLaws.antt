@@ -37,10 +37,10 @@ use Rattle.queue.specs.Arguments.{Small, reconciling-ok}
 use Rattle.queue.specs.Lent.{ReconcileAsked}
 use Rattle.queue.specs.Reopens.{IdsRise, idsAt}
 use Rattle.queue.specs.SelectAs.{Row, rows, Even, Table, ahead?, idAt}
-use Rattle.queue.specs.Touching.{appliedIn, ownIds, changes?}
-use Rattle.queue.specs.Releasing.{nextR, nextL, minedHolder?, minedOf, Stands, StandsAt, bytesAt, MinedRow, FallingRows, MinedRows, MinedGathered, walkR, walkC}
+use Rattle.queue.specs.Touching.{appliedIn, ownIds, InEntry, Judged, changed?, changes?}
+use Rattle.queue.specs.Releasing.{nextR, nextV, nextL, minedHolder?, minedOf, Stands, StandsAt, bytesAt, MinedRow, FallingRows, MinedRows, MinedGathered, walkR, walkC}
 use Rattle.queue.specs.Rebuilding.{keptOf, keptL}
-use Rattle.queue.specs.Reconciling.{asked, LentTo, ownOf, touchedL, goneIds, anyTouched, wholeQ, GoneAre, ChangedIs, cursorKind, cursorTo, CursorTold, WholeTo, FloorFor, goneBytes, ReconcileTold}
+use Rattle.queue.specs.Reconciling.{asked, LentTo, JudgedIn, ownOf, touchedL, goneIds, anyTouched, wholeQ, GoneAre, ChangedIs, cursorKind, cursorTo, CursorTold, WholeTo, FloorFor, goneBytes, ReconcileTold}
 use Rattle.queue.specs.paper.Records.{Bytes, Id, Limits, Rec, Queue}
 use Rattle.queue.specs.paper.Lists.{isSome, one, any?, count, filter, find, sort, map, concat}
 use Rattle.queue.specs.paper.Sound.{need, finishRight?, holder?, mined?, content}
@@ -62,6 +62,7 @@ use Rattle.queue.proofs.WriteLaws.{fit, one-queue, same-queue, the-limi
 use Rattle.queue.proofs.ReadingLaws.{key}
 use Rattle.queue.proofs.SelectLaws.{rows-places, rows-take, sort-all, map-length, even-to, ids-size}
 use Rattle.queue.proofs.ReleaseLaws.{sort-mined, mined-stand, mined-placed, walk-ids, walk-columns}
+use Rattle.queue.proofs.TouchLaws.{judged-any, judged-long, judged-within}
 use Rattle.queue.proofs.TrimLaws.{KeepsEach, Placed, releases-placed, trim-is}
 
 -- ---- rows in order, and walked
@@ -110,17 +111,37 @@ some-is : (x : List Id) {n : ℕ} → n ≡ length x → someReleased? x ≡ ltb
 some-is [] {n} e = sym (le-ltb 0 n (omega arith))
 some-is (i ∷ x) {n} e = sym (lt-ltb 0 n (omega arith))
 
+-- ---- records after their verdicts
+judged-next : (t : Bytes) (caught : Bool) (own : List Id) (es : List Applied) (l : List Rec) (v : List ℕ) → Judged t caught own es l v → nextV t l v ≡ map (nextR caught own es) l
+unfolding nextV nextR
+judged-next t caught own es [] [] j = refl
+judged-next t caught own es [] (c ∷ v) j = absurd j
+judged-next t caught own es (r ∷ l) [] j = absurd j
+judged-next t caught own es (r ∷ l) (c ∷ v) j = two (ap (orElse r) (sym (j .0 .is))) (judged-next t caught own es l v (j .1))
+  where
+    two : {a a′ : Rec} {b b′ : List Rec} → a ≡ a′ → b ≡ b′ → (a ∷ b) ≡ (a′ ∷ b′)
+    two e f = cc
+
+pub few-records : {s : Bytes} {a : Area} → AreaIn s a → a .open .head .count ≤ 3072
+few-records w = let g = fit (w .read) .sound in omega (arith, w .read .store .count, g .few, g .range .P-high, g .range .T-high)
+
+pub verdicts-fit : {s : Bytes} {a : Area} {t : Bytes} {k : ℕ} {caught : Bool} {ids : Bytes} {m : ℕ} {vs : List ℕ} → AreaIn s a → JudgedIn s a t k caught ids m vs → (length vs ≡ a .open .head .count) × All (InEntry t) vs
+verdicts-fit {s} {a} {t} {k} {caught} {ids} {m} {vs} w j =
+    let l = listAt (formC false recC) (a .open .head .count) s (a .open .start) in
+    let own = ownIds (idsAt ids m) l in
+    (judged-long t caught own (appliedIn t k) l vs (j .all) ∙ ap length (w .read .store .list) ∙ w .read .store .count, judged-within t caught own (appliedIn t k) l vs (j .all))
+
 -- ---- what is lent, and the area
-module _ {s : Bytes} {a : Area} (w : AreaIn s a) {height : ℕ} {tip : Id} {t : Bytes} {k : ℕ} {caught : Bool} {ids : Bytes} {m window : ℕ} (L : LentTo height tip t k caught ids m window) where
+module _ {s : Bytes} {a : Area} (w : AreaIn s a) {height : ℕ} {tip : Id} {t : Bytes} {k : ℕ} {caught : Bool} {ids : Bytes} {m window : ℕ} (L : LentTo height tip t k caught ids m window) {vs : List ℕ} (J : JudgedIn s a t k caught ids m vs) where
   abbrev C : Reconciling
   C = asked height tip t k caught ids m window
 
   abbrev f : Rec → Rec
   f r = orElse r (touch C (ownOf C (w .q)) r)
 
-  next-is : nextL s (a .open .start) (a .open .head .count) t k caught (idsAt ids m) ≡ touchedL C (w .q)
+  next-is : nextL s (a .open .start) (a .open .head .count) t vs ≡ touchedL C (w .q)
   unfolding nextL nextR touchedL touch ownIds
-  next-is = ap (λ l. map (nextR caught (ownIds (idsAt ids m) l) (appliedIn t k)) l) (w .read .store .list)
+  next-is = judged-next t caught (ownIds (idsAt ids m) (listAt (formC false recC) (a .open .head .count) s (a .open .start))) (appliedIn t k) (listAt (formC false recC) (a .open .head .count) s (a .open .start)) vs (J .all) ∙ ap (λ l. map (nextR caught (ownIds (idsAt ids m) l) (appliedIn t k)) l) (w .read .store .list)
 
   alike : (r : Rec) → Alike r (f r)
   alike r = touched-alike C (ownOf C (w .q)) (L .ok .applied) r
@@ -128,7 +149,7 @@ module _ {s : Bytes} {a : Area} (w : AreaIn s a) {height : ℕ} {tip : Id} {t : 
   keeps : (l : List Rec) → KeepsEach f l
   keeps l = all-every _ (λ r. let x = alike r in (ap isSome (x .body), x .finish, x .id)) l
 
-  mined-is : minedOf s (a .open .start) (a .open .head .count) t k caught (idsAt ids m) ≡ filter minedHolder? (touchedL C (w .q))
+  mined-is : minedOf s (a .open .start) (a .open .head .count) t vs ≡ filter minedHolder? (touchedL C (w .q))
   unfolding minedOf
   mined-is = ap (filter minedHolder?) next-is
 
@@ -141,25 +162,25 @@ module _ {s : Bytes} {a : Area} (w : AreaIn s a) {height : ℕ} {tip : Id} {t : 
       (λ x. let y : holder? r ≡ true = sym h ∙ and-true (mined? (f r)) (holder? (f r)) x .1 in rw (x, y) (omega arith))
       (λ x. rw x (omega arith))
 
-  pub few-mined : length (minedOf s (a .open .start) (a .open .head .count) t k caught (idsAt ids m)) ≤ 2048
+  pub few-mined : length (minedOf s (a .open .start) (a .open .head .count) t vs) ≤ 2048
   unfolding touchedL
   few-mined =
       let e = ap length mined-is in let i = few-mined′ (w .q .recs) in
       let g = fit (w .read) .sound in
       omega (arith, g .fewHolders, g .range .P-high)
 
-  pub before-mined : Pairwise Before (minedOf s (a .open .start) (a .open .head .count) t k caught (idsAt ids m))
+  pub before-mined : Pairwise Before (minedOf s (a .open .start) (a .open .head .count) t vs)
   unfolding touchedL
   before-mined = rw mined-is (sub-pairwise Before (filter-sub minedHolder? (map f (w .q .recs))) (alike-rising f alike (w .q .recs) (fit (w .read) .sound .rising)))
 
-  gone-is : releases (limits (a .open .head .p) (a .open .head .b) 0 0) height window 0 0 (sort newer? (minedOf s (a .open .start) (a .open .head .count) t k caught (idsAt ids m))) ≡ goneIds C (w .q)
+  gone-is : releases (limits (a .open .head .p) (a .open .head .b) 0 0) height window 0 0 (sort newer? (minedOf s (a .open .start) (a .open .head .count) t vs)) ≡ goneIds C (w .q)
   unfolding goneIds released
   gone-is =
       let h = w .read .store .head in
-      same-releases _ (w .q .limits) height window 0 0 (sort newer? (minedOf s (a .open .start) (a .open .head .count) t k caught (idsAt ids m))) (sym (h .P)) (sym (h .B))
+      same-releases _ (w .q .limits) height window 0 0 (sort newer? (minedOf s (a .open .start) (a .open .head .count) t vs)) (sym (h .P)) (sym (h .B))
       ∙ ap (λ l. releases (w .q .limits) height window 0 0 (sort newer? l)) mined-is
 
-  module _ {n c : ℕ} {ra ti pl : List ℕ} (G : MinedGathered s n (minedOf s (a .open .start) (a .open .head .count) t k caught (idsAt ids m)) 2048 c ra ti pl) where
+  module _ {n c : ℕ} {ra ti pl : List ℕ} (G : MinedGathered s n (minedOf s (a .open .start) (a .open .head .count) t vs) 2048 c ra ti pl) where
     pub mined-even : Even c (take c ra) (take c ti) (take c pl)
     mined-even = let e = G .even in let q = few-mined in record {
       ranks = length-take-le c ra (omega (arith, G .all, e .ranks));
@@ -178,7 +199,7 @@ module _ {s : Bytes} {a : Area} (w : AreaIn s a) {height : ℕ} {tip : Id} {t : 
     pub mined-stands : All (StandsAt s) (rows (take c ra) (take c ti) (take c pl))
     mined-stands = rw (rows-take c ra ti pl) (fall-stand (n + 1) (take c (rows ra ti pl)) _ (G .listed))
 
-    sorted : MinedRows s (sort ahead? (rows (take c ra) (take c ti) (take c pl))) (sort newer? (minedOf s (a .open .start) (a .open .head .count) t k caught (idsAt ids m)))
+    sorted : MinedRows s (sort ahead? (rows (take c ra) (take c ti) (take c pl))) (sort newer? (minedOf s (a .open .start) (a .open .head .count) t vs))
     sorted = rw (rows-take c ra ti pl) (sort-mined s (n + 1) (take c (rows ra ti pl)) _ (G .listed) before-mined)
 
     pub gone-are : (r : ℕ) (gone : List ℕ) → r ≤ length (take c ra) → take r gone ≡ walkR (limits (a .open .head .p) (a .open .head .b) 0 0) height window s 0 0 (sort ahead? (rows (take c ra) (take c ti) (take c pl))) → (r ≤ 2048) × GoneAre s (asked height tip t k caught ids m window) (take r gone)
@@ -187,7 +208,7 @@ module _ {s : Bytes} {a : Area} (w : AreaIn s a) {height : ℕ} {tip : Id} {t : 
           z,
           record {
             are = λ q x. ap (map (idAt s)) e ∙ walk-ids _ height window s 0 0 _ _ sorted ∙ gone-is ∙ ap (goneIds C) (one-queue s (w .is) x);
-            placed = rw e (walk-part (λ p. p + 33 ≤ length s) _ height window s 0 0 _ (mined-placed s (sort ahead? (rows (take c ra) (take c ti) (take c pl))) (sort newer? (minedOf s (a .open .start) (a .open .head .count) t k caught (idsAt ids m))) sorted));
+            placed = rw e (walk-part (λ p. p + 33 ≤ length s) _ height window s 0 0 _ (mined-placed s (sort ahead? (rows (take c ra) (take c ti) (take c pl))) (sort newer? (minedOf s (a .open .start) (a .open .head .count) t vs)) sorted));
             few = let y = length-take r gone in let x = min-le-left r (length gone) in omega arith;
           },
         )
@@ -216,7 +237,7 @@ module _ {s : Bytes} {a : Area} (w : AreaIn s a) {height : ℕ} {tip : Id} {t : 
     none-gone [] e = refl
     none-gone (i ∷ x) e = absurd (let y : ⊥ = omega arith in y)
 
-    pub kept-is : {fl : ℕ} → FloorFor s a (length gone) fl → keptL s (a .open .start) (a .open .head .count) t k caught (idsAt ids m) gone (a .open .head .counter .0) fl ≡ trimmed (w .q .limits .T) (goneIds C (w .q)) (map (releaseOne (w .q .counter) (goneIds C (w .q))) (touchedL C (w .q)))
+    pub kept-is : {fl : ℕ} → FloorFor s a (length gone) fl → keptL s (a .open .start) (a .open .head .count) t vs gone (a .open .head .counter .0) fl ≡ trimmed (w .q .limits .T) (goneIds C (w .q)) (map (releaseOne (w .q .counter) (goneIds C (w .q))) (touchedL C (w .q)))
     unfolding keptL keptOf touchedL
     kept-is {fl} F =
         let st = w .read .store in
@@ -246,7 +267,7 @@ module _ {s : Bytes} {a : Area} (w : AreaIn s a) {height : ℕ} {tip : Id} {t : 
         LimsW = limits (a .open .head .p) (a .open .head .b) (a .open .head .t) (a .open .head .k)
 
         abbrev pub recsW : ℕ → List Rec
-        recsW fl = keptL s (a .open .start) (a .open .head .count) t k caught (idsAt ids m) gone (a .open .head .counter .0) fl
+        recsW fl = keptL s (a .open .start) (a .open .head .count) t vs gone (a .open .head .counter .0) fl
 
         module _ {fl revision many : ℕ} (F : FloorFor s a (length gone) fl) (e : revision ≡ (a .open .head .revision + 1) % 2 ^ 64) (n : many ≡ length (recsW fl)) where
           abbrev pub marksW : Marks
@@ -343,9 +364,9 @@ module _ {s : Bytes} {a : Area} (w : AreaIn s a) {height : ℕ} {tip : Id} {t : 
         let z : ltb top (w .q .counter + length (goneIds C (w .q))) ≡ true = lt-ltb top (w .q .counter + length (goneIds C (w .q))) (omega (arith, many-gone, w .read .store .head .counterSmall)) in
         rw (← (one-queue s (w .is) e), z)
 
-    pub changed-is : {b c : Bool} → c ≡ any? (changes? caught (ownIds (idsAt ids m) (listAt (formC false recC) (a .open .head .count) s (a .open .start))) (appliedIn t k)) (listAt (formC false recC) (a .open .head .count) s (a .open .start)) → b ≡ (c || ltb 0 (length gone)) → ChangedIs s C b
+    pub changed-is : {b c : Bool} → c ≡ any? changed? vs → b ≡ (c || ltb 0 (length gone)) → ChangedIs s C b
     unfolding anyTouched touch ownIds
-    changed-is e f q x = f ∙ two (e ∙ ap (λ l. any? (changes? caught (ownIds (idsAt ids m) l) (appliedIn t k)) l) (w .read .store .list)) (sym (some-is (goneIds C (w .q)) many-gone)) ∙ ap (λ v. anyTouched C v || someReleased? (goneIds C v)) (one-queue s (w .is) x)
+    changed-is e f q x = f ∙ two (e ∙ judged-any t caught (ownIds (idsAt ids m) (listAt (formC false recC) (a .open .head .count) s (a .open .start))) (appliedIn t k) (listAt (formC false recC) (a .open .head .count) s (a .open .start)) vs (J .all) ∙ ap (λ l. any? (changes? caught (ownIds (idsAt ids m) l) (appliedIn t k)) l) (w .read .store .list)) (sym (some-is (goneIds C (w .q)) many-gone)) ∙ ap (λ v. anyTouched C v || someReleased? (goneIds C v)) (one-queue s (w .is) x)
       where
         two : {a a′ b b′ : Bool} → a ≡ a′ → b ≡ b′ → (a || b) ≡ (a′ || b′)
         two e f = cc
@@ -437,7 +458,7 @@ module _ (cur next out : Bytes) {a : Area} (i : AreaIs cur a) (ok : a .ok ≡ tr
       pub lent-to : height < 4294967296 → LentTo height j t (length t / 68) (eqb flag 1) ids (length ids / 32) window
       lent-to l = record {
         ok = rw asked-is (reconciling-ok Given (record { height = l; tip = A .smallTip; applied = A .smallApplied }) (shape-is ∙ n));
-        entries = A .good n .whole;
+        entries = A .good n .entries;
         rise = A .good n .rise;
         small = A .smallApplied;
         long = ap length tip-key ∙ A .good n .long;

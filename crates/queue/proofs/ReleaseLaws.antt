@@ -3,7 +3,7 @@ use mathlib.Core.Path.{_≡_, refl, ap, sym, _∙_}
 use mathlib.Core.Bool.{Bool, true, false, cond, _&&_, _||_}
 use mathlib.Core.Option.{Option, none, some}
 use mathlib.Core.List.{List, [], _∷_, _++_, append-assoc, append-nil}
-use Prim.Native.Nat.{ℕ, zero, suc, _+_, _-_, _*_, _^_, _≤_, _<_}
+use Prim.Native.Nat.{ℕ, zero, suc, _+_, _-_, _*_, _/_, _%_, _^_, _≤_, _<_}
 use native.Mathlib.Omega.{arith}
 use native.Mathlib.Numerals.{add-one}
 use native.Mathlib.Nat.{le-of-suc-le-suc}
@@ -23,13 +23,13 @@ use Rattle.queue.specs.Forms.{formC, afterIn}
 use Rattle.queue.specs.Facts.{factsOf, placeHeight}
 use Rattle.queue.specs.Sounds.{Before}
 use Rattle.queue.specs.SelectAs.{Row, rows, Even, Table, aheadOf, ahead?, Added, idAt, idOf}
-use Rattle.queue.specs.Touching.{entryIn, appliedIn, SeenOf, ownIds, asTouched, TouchIs}
-use Rattle.queue.specs.Releasing.{nextR, nextL, minedHolder?, minedOf, minedF, heightF, Stands, bytesAt, PlaceAdded, MinedRow, FallingRows, MinedRows, MinedGathered, walkR, walkC}
+use Rattle.queue.specs.Touching.{entryIn, SeenOf, asTouched, verdictOf, InEntry}
+use Rattle.queue.specs.Releasing.{nextV, nextL, minedHolder?, minedOf, minedF, heightF, Stands, bytesAt, PlaceAdded, MinedRow, FallingRows, MinedRows, MinedGathered, walkR, walkC}
 use Rattle.queue.specs.paper.Records.{Bytes, Id, Limits, Rec}
-use Rattle.queue.specs.paper.Lists.{total, filter, find, insert, sort, map}
+use Rattle.queue.specs.paper.Lists.{total, filter, insert, sort, map}
 use Rattle.queue.specs.paper.Ids.{cmpL, below?, same?}
 use Rattle.queue.specs.paper.Sound.{holder?, mined?, content}
-use Rattle.queue.specs.paper.Changing.{Applied, confirm, judged, touchFound, orElse, heightOf, minedHeight, newer?, releases}
+use Rattle.queue.specs.paper.Changing.{confirm, judged, orElse, heightOf, minedHeight, newer?, releases}
 use Rattle.queue.specs.declared.frame.Seen.{Seen}
 use Rattle.queue.specs.declared.frame.Facts.{Facts}
 use Rattle.queue.specs.declared.touch.Verdict.{Verdict}
@@ -39,14 +39,23 @@ use Rattle.queue.proofs.ReadingLaws.{id-here, one-here}
 use Rattle.queue.proofs.SelectLaws.{rows-length, sort-all}
 use Rattle.queue.proofs.TouchLaws.{entry-height}
 
--- ---- one record after its verdict
-module _ (s : Bytes) (at n base : ℕ) (x : Seen) (t : Bytes) (k : ℕ) (caught : Bool) (ids : List Id) {v : Verdict} (T : TouchIs s at n base x t k caught ids v) (r : Rec) (w : SeenOf s base x r) where
-  abbrev after : Rec
-  after = nextR caught (ownIds ids (listAt (formC false recC) n s at)) (appliedIn t k) r
+-- ---- each of a list
+pub all-at : (P : ℕ → Type 0) (l : List ℕ) (j : ℕ) → All P l → j < length l → P (getD l j 0)
+all-at P [] j h k = absurd (let y : ⊥ = omega arith in y)
+all-at P (a ∷ l) zero h k = h .0
+all-at P (a ∷ l) (suc j) h k = all-at P l j (h .1) (le-of-suc-le-suc k)
 
-  after-is : after ≡ orElse r (asTouched t v r)
-  unfolding nextR
-  after-is = ap (orElse r) (T .is r w)
+-- ---- one record after its verdict
+pub verdict-within : (t : Bytes) {v : Verdict} (c : ℕ) → v ≡ verdictOf c → InEntry t c → v .what ≡ 1 → v .at + 68 ≤ length t
+unfolding verdictOf
+verdict-within t {v} c e h w =
+    let a : c % 4 ≡ 1 = sym (ap (λ y. y .what) e) ∙ w in
+    let b : v .at ≡ 68 * (c / 4) = ap (λ y. y .at) e ∙ rw a in
+    omega (arith, h a)
+
+module _ (s : Bytes) (base : ℕ) (x : Seen) (t : Bytes) (v : Verdict) (within : v .what ≡ 1 → v .at + 68 ≤ length t) (r : Rec) (w : SeenOf s base x r) where
+  abbrev after : Rec
+  after = orElse r (asTouched t v r)
 
   state-is : x .facts .state ≡ r .state
   unfolding factsOf
@@ -66,7 +75,7 @@ module _ (s : Bytes) (at n base : ℕ) (x : Seen) (t : Bytes) (k : ℕ) (caught 
 
   pub after-mined : minedF (v .what) (x .facts) ≡ minedHolder? after
   unfolding minedF asTouched confirm judged
-  after-mined = sym (ap minedHolder? after-is ∙ cases (eqb (v .what) 0)
+  after-mined = sym (cases (eqb (v .what) 0)
       (λ a. let z = eqb-true (v .what) 0 a in rw (z, holder-is, state-is))
       (λ a. cases (eqb (v .what) 1)
       (λ b. rw (a, b, holder-is))
@@ -74,15 +83,15 @@ module _ (s : Bytes) (at n base : ℕ) (x : Seen) (t : Bytes) (k : ℕ) (caught 
 
   pub after-height : minedF (v .what) (x .facts) ≡ true → heightF t v (x .facts) ≡ minedHeight after
   unfolding minedF heightF asTouched confirm judged
-  after-height h = sym (ap minedHeight after-is ∙ cases (eqb (v .what) 0)
+  after-height h = sym (cases (eqb (v .what) 0)
       (λ a. let z = eqb-true (v .what) 0 a in rw z (sym (mined-is ∙ height-same (r .place))))
       (λ a. cases (eqb (v .what) 1)
-      (λ b. rw (a, b) (entry-height t (v .at) (T .within (eqb-true (v .what) 1 b))))
+      (λ b. rw (a, b) (entry-height t (v .at) (within (eqb-true (v .what) 1 b))))
       (λ b. let z : _≡_ {A = Bool} false true = rw (a, b) at h in false-true z)))
 
   pub after-id : after .id ≡ r .id
   unfolding asTouched confirm judged
-  after-id = ap (λ y. y .id) after-is ∙ cases (eqb (v .what) 0)
+  after-id = cases (eqb (v .what) 0)
       (λ a. rw a)
       (λ a. cases (eqb (v .what) 1)
       (λ b. rw (a, b))
@@ -90,7 +99,7 @@ module _ (s : Bytes) (at n base : ℕ) (x : Seen) (t : Bytes) (k : ℕ) (caught 
 
   pub after-body : after .body ≡ r .body
   unfolding asTouched confirm judged
-  after-body = ap (λ y. y .body) after-is ∙ cases (eqb (v .what) 0)
+  after-body = cases (eqb (v .what) 0)
       (λ a. rw a)
       (λ a. cases (eqb (v .what) 1)
       (λ b. rw (a, b))
@@ -127,47 +136,48 @@ all-snoc : (z : List Row) (w : Row) (a : ℕ) → All (λ (v : Row). a < v .1 .0
 all-snoc [] w a h k = (k, tt)
 all-snoc (v ∷ z) w a h k = (h .0, all-snoc z w a (h .1) k)
 
-pub record Mining (s : Bytes) (at n : ℕ) (t : Bytes) (k : ℕ) (caught : Bool) (ids : List Id) (room i left m : ℕ) (a b c : List ℕ) : Type 0 where
+pub record Mining (s : Bytes) (at n : ℕ) (t : Bytes) (vs : List ℕ) (room i left j m : ℕ) (a b c : List ℕ) : Type 0 where
+  pub count : j + left ≡ n
   pub scan : Scan (formC false recC) nothingF s n at tt i left tt
   pub even : Even room a b c
-  pub few : length (minedOf s at n t k caught ids) ≤ room
-  pub upto : m ≤ length (minedOf s at n t k caught ids)
-  pub rest : drop m (minedOf s at n t k caught ids) ≡ filter minedHolder? (map (nextR caught (ownIds ids (listAt (formC false recC) n s at)) (appliedIn t k)) (listAt (formC false recC) left s i))
-  pub sofar : FallingRows s (n + 1) (take m (rows a b c)) (take m (minedOf s at n t k caught ids))
+  pub few : length (minedOf s at n t vs) ≤ room
+  pub upto : m ≤ length (minedOf s at n t vs)
+  pub rest : drop m (minedOf s at n t vs) ≡ filter minedHolder? (nextV t (listAt (formC false recC) left s i) (drop j vs))
+  pub sofar : FallingRows s (n + 1) (take m (rows a b c)) (take m (minedOf s at n t vs))
   pub above : All (λ (v : Row). left < v .1 .0) (take m (rows a b c))
 
-pub mine-start : (s : Bytes) (at n : ℕ) (t : Bytes) (k : ℕ) (caught : Bool) (ids : List Id) {room : ℕ} {a b c : List ℕ} → at ≤ length s → whole (formC false recC) n s at ≡ true → Even room a b c → length (minedOf s at n t k caught ids) ≤ room → Mining s at n t k caught ids room at n 0 a b c
+pub mine-start : (s : Bytes) (at n : ℕ) (t : Bytes) (vs : List ℕ) {room : ℕ} {a b c : List ℕ} → at ≤ length s → whole (formC false recC) n s at ≡ true → Even room a b c → length (minedOf s at n t vs) ≤ room → Mining s at n t vs room at n 0 0 a b c
 unfolding minedOf nextL
-mine-start s at n t k caught ids h w e f = record { scan = start (formC false recC) nothingF s n at tt h w; even = e; few = f; upto = omega arith; rest = refl; sofar = tt; above = tt }
+mine-start s at n t vs h w e f = record { count = omega arith; scan = start (formC false recC) nothingF s n at tt h w; even = e; few = f; upto = omega arith; rest = refl; sofar = tt; above = tt }
 
-module _ {s : Bytes} {at n : ℕ} {t : Bytes} {k : ℕ} {caught : Bool} {ids : List Id} {room i left m : ℕ} {a b c : List ℕ} (g : Mining s at n t k caught ids room i left m a b c) (p : 0 < left) {z : ℕ} {ok : Bool} {y : Seen} (rd : ReadsRec false s i ok z y) where
+module _ {s : Bytes} {at n : ℕ} {t : Bytes} {vs : List ℕ} {room i left j m : ℕ} {a b c : List ℕ} (g : Mining s at n t vs room i left j m a b c) (p : 0 < left) {z : ℕ} {ok : Bool} {y : Seen} (rd : ReadsRec false s i ok z y) where
   abbrev turn : Turn (formC false recC) s left i (afterIn false s i z) (SeenIn false s i ok z y)
   turn = seen false (g .scan) p rd
 
   pub mine-seen : SeenOf s i y (seen false (g .scan) p rd .item)
   mine-seen = (turn .is .0, turn .is .1 .fine)
 
-  module _ {v : Verdict} (T : TouchIs s at n i y t k caught ids v) {sel : Bool} (e : sel ≡ minedF (v .what) (y .facts)) where
-    abbrev own : List Id
-    own = ownIds ids (listAt (formC false recC) n s at)
+  module _ {v : Verdict} (eV : v ≡ verdictOf (getD vs j 0)) (long : length vs ≡ n) (E : All (InEntry t) vs) {sel : Bool} (e : sel ≡ minedF (v .what) (y .facts)) where
+    within : v .what ≡ 1 → v .at + 68 ≤ length t
+    within = verdict-within t (getD vs j 0) eV (all-at (InEntry t) vs j E (omega (arith, g .count)))
 
     abbrev it : Rec
-    it = nextR caught own (appliedIn t k) (turn .item)
+    it = orElse (turn .item) (asTouched t v (turn .item))
 
     abbrev L : List Rec
-    L = minedOf s at n t k caught ids
+    L = minedOf s at n t vs
 
     sel-is : minedHolder? it ≡ sel
-    sel-is = sym (e ∙ after-mined s at n i y t k caught ids T (turn .item) mine-seen)
+    sel-is = sym (e ∙ after-mined s i y t v within (turn .item) mine-seen)
 
     behind : List Rec
-    behind = filter minedHolder? (map (nextR caught own (appliedIn t k)) (listAt (formC false recC) (left - 1) s (afterIn false s i z)))
+    behind = filter minedHolder? (nextV t (listAt (formC false recC) (left - 1) s (afterIn false s i z)) (drop (j + 1) vs))
 
     cut : drop m L ≡ cond sel (it ∷ behind) behind
-    unfolding behind
-    cut = g .rest ∙ ap (λ l. filter minedHolder? (map (nextR caught own (appliedIn t k)) l)) (turn .list) ∙ rw sel-is
+    unfolding behind nextV
+    cut = g .rest ∙ ap (λ l. filter minedHolder? (nextV t l (drop j vs))) (turn .list) ∙ rw (drop-cons vs j 0 (omega (arith, long, g .count)), ← (add-one j), ← eV, sel-is)
 
-    pub mine-room : sel ≡ true → m < length (minedOf s at n t k caught ids)
+    pub mine-room : sel ≡ true → m < length (minedOf s at n t vs)
     mine-room u =
         let d : drop m L ≡ it ∷ behind = cut ∙ ap (λ b. cond b (it ∷ behind) behind) u in
         let l = ap length d in
@@ -180,17 +190,17 @@ module _ {s : Bytes} {at n : ℕ} {t : Bytes} {k : ℕ} {caught : Bool} {ids : L
         let o = one-here s i (afterIn false s i z) (turn .item) (turn .here) in
         let w = mine-seen in
         record {
-          height = q ∙ after-height s at n i y t k caught ids T (turn .item) w (sym e ∙ u);
-          id = d .0 ∙ sym (after-id s at n i y t k caught ids T (turn .item) w);
+          height = q ∙ after-height s i y t v within (turn .item) w (sym e ∙ u);
+          id = d .0 ∙ sym (after-id s i y t v within (turn .item) w);
           within = omega (arith, d .1);
-          bytes = ap (λ l. total (λ r. length (content (r .body))) l) (o .1) ∙ (let f : length (content (turn .item .body)) + 0 ≡ length (content (turn .item .body)) = omega arith in f) ∙ ap (λ x. length (content x)) (sym (after-body s at n i y t k caught ids T (turn .item) w));
+          bytes = ap (λ l. total (λ r. length (content (r .body))) l) (o .1) ∙ (let f : length (content (turn .item .body)) + 0 ≡ length (content (turn .item .body)) = omega arith in f) ∙ ap (λ x. length (content x)) (sym (after-body s i y t v within (turn .item) w));
           stands = (g .scan .within, o .0);
         }
 
-    pub mine-go : {h j r : ℕ} {a′ b′ c′ : List ℕ} → h ≡ heightF t v (y .facts) → Added sel m (h, (left, i)) (rows a b c) room r a′ b′ c′ → j ≡ afterIn false s i z → Mining s at n t k caught ids room j (left - 1) r a′ b′ c′
+    pub mine-go : {h o r : ℕ} {a′ b′ c′ : List ℕ} → h ≡ heightF t v (y .facts) → Added sel m (h, (left, i)) (rows a b c) room r a′ b′ c′ → o ≡ afterIn false s i z → Mining s at n t vs room o (left - 1) (j + 1) r a′ b′ c′
     unfolding nothingF behind
-    mine-go {h} {j} {r} {a′} {b′} {c′} q w x =
-        let sc : Scan (formC false recC) nothingF s n at tt j (left - 1) tt = rw x (on (g .scan) tt p turn refl) in
+    mine-go {h} {o} {r} {a′} {b′} {c′} q w x =
+        let sc : Scan (formC false recC) nothingF s n at tt o (left - 1) tt = rw x (on (g .scan) tt p turn refl) in
         let ln = g .even in
         let rl : length (rows a b c) ≡ room = rows-length a b c (ln .times ∙ sym (ln .ranks)) (ln .places ∙ sym (ln .ranks)) ∙ ln .ranks in
         cases sel
@@ -206,6 +216,7 @@ module _ {s : Bytes} {at n : ℕ} {t : Bytes} {k : ℕ} {caught : Bool} {ids : L
         let t2 : take (suc m) (rows a′ b′ c′) ≡ take m (rows a b c) ++ ((h, (left, i)) ∷ []) = ap (take (suc m)) (y .1) ∙ take-suc-set (rows a b c) m (h, (left, i)) (omega arith) in
         let r1 : r ≡ suc m = y .0 ∙ add-one m in
         rw r1 (record {
+          count = omega (arith, g .count);
           scan = sc;
           even = w .even;
           few = g .few;
@@ -217,6 +228,7 @@ module _ {s : Bytes} {at n : ℕ} {t : Bytes} {k : ℕ} {caught : Bool} {ids : L
         (λ u.
         let y = w .no u in
         rw (y .0) (record {
+          count = omega (arith, g .count);
           scan = sc;
           even = w .even;
           few = g .few;
@@ -226,10 +238,11 @@ module _ {s : Bytes} {at n : ℕ} {t : Bytes} {k : ℕ} {caught : Bool} {ids : L
           above = rw (y .1) (all-more (take m (rows a b c)) left (left - 1) (omega arith) (g .above));
         }))
 
-pub mine-end : {s : Bytes} {at n : ℕ} {t : Bytes} {k : ℕ} {caught : Bool} {ids : List Id} {room i left m : ℕ} {a b c : List ℕ} → Mining s at n t k caught ids room i left m a b c → left ≡ 0 → MinedGathered s n (minedOf s at n t k caught ids) room m a b c
-mine-end {s} {at} {n} {t} {k} {caught} {ids} {room} {i} {left} {m} {a} {b} {c} g z =
-    let L = minedOf s at n t k caught ids in
-    let d : drop m L ≡ [] = g .rest ∙ ap (λ l. filter minedHolder? (map (nextR caught (ownIds ids (listAt (formC false recC) n s at)) (appliedIn t k)) l)) (none-left (formC false recC) s left i z .0) in
+pub mine-end : {s : Bytes} {at n : ℕ} {t : Bytes} {vs : List ℕ} {room i left j m : ℕ} {a b c : List ℕ} → Mining s at n t vs room i left j m a b c → left ≡ 0 → MinedGathered s n (minedOf s at n t vs) room m a b c
+unfolding nextV
+mine-end {s} {at} {n} {t} {vs} {room} {i} {left} {j} {m} {a} {b} {c} g z =
+    let L = minedOf s at n t vs in
+    let d : drop m L ≡ [] = g .rest ∙ ap (λ l. filter minedHolder? (nextV t l (drop j vs))) (none-left (formC false recC) s left i z .0) in
     let l = ap length d in
     let u = g .upto in
     let e : m ≡ length L = omega (arith, length-drop m L) in
@@ -311,11 +324,6 @@ place-yes t = record { yes = λ _. (refl, refl); no = λ f. false-true (sym f �
 
 pub place-no : {out : Bool} {g q : ℕ} {d : List ℕ} → out ≡ false → PlaceAdded out g q d g d
 place-no f = record { yes = λ t. false-true (sym f ∙ t); no = λ _. (refl, refl) }
-
-pub all-at : (P : ℕ → Type 0) (l : List ℕ) (j : ℕ) → All P l → j < length l → P (getD l j 0)
-all-at P [] j h k = absurd (let y : ⊥ = omega arith in y)
-all-at P (a ∷ l) zero h k = h .0
-all-at P (a ∷ l) (suc j) h k = all-at P l j (h .1) (le-of-suc-le-suc k)
 
 pub stands-at : (s : Bytes) (l : List ℕ) (j : ℕ) → All (Stands s) l → j < length l → Stands s (getD l j 0)
 stands-at s l j h k = all-at (Stands s) l j h k

@@ -2,40 +2,44 @@
 use mathlib.Core.Path.{_≡_, refl, ap, sym, _∙_}
 use mathlib.Core.Bool.{Bool, true, false, cond, not, _&&_, _||_}
 use mathlib.Core.Option.{Option, none, some}
-use mathlib.Core.List.{List, [], _∷_, _++_, append-assoc}
-use Prim.Native.Nat.{ℕ, zero, suc, _+_, _-_, _*_, _^_, _≤_, _<_}
+use mathlib.Core.List.{List, [], _∷_, _++_, append-assoc, append-nil}
+use Prim.Native.Nat.{ℕ, zero, suc, _+_, _-_, _*_, _/_, _%_, _^_, _≤_, _<_}
 use native.Mathlib.Omega.{arith}
 use native.Mathlib.Numerals.{add-one}
-use native.Mathlib.Nat.{pow-succ', mul-assoc, mul-comm, zero-add, suc-add}
+use native.Mathlib.Nat.{pow-succ', mul-assoc, mul-comm, zero-add, suc-add, le-of-suc-le-suc}
 use lib.Dec.{eqb}
-use lib.ListN.{length, take, drop, getD, length-append, length-drop}
-use lib.Seq.{take-take, take-suc, drop-drop, getD-drop, drop-append-seam, take-append-seam}
-use borrow.Author.Tests.{eq-eqb, ne-eqb}
+use lib.Arith.{digits-div, digits-mod}
+use lib.ListN.{length, take, drop, getD, set, length-append, length-drop, length-set}
+use lib.Seq.{take-take, take-suc, take-suc-set, drop-drop, getD-drop, drop-append-seam, take-append-seam}
+use borrow.Author.Tests.{eq-eqb, ne-eqb, eqb-true, eqb-false}
 use Rattle.queue.specs.Codec as codec
-use Rattle.queue.specs.Codec.{cases, be-length, optC, pairC, vecC}
+use Rattle.queue.specs.Codec.{All, cases, be-length, optC, pairC, vecC}
 use Rattle.queue.specs.Frames.{recC, idC, placeC}
 use Rattle.queue.specs.Ids.{part}
 use Rattle.queue.specs.View.{view}
 use Rattle.queue.specs.Reads.{Reads, whole, listAt}
-use Rattle.queue.specs.ReadLaws.{beAt, false-true}
+use Rattle.queue.specs.ReadLaws.{beAt, false-true, none-left}
 use Rattle.queue.specs.Forms.{formC, afterIn}
 use Rattle.queue.specs.Facts.{factsOf, placeHeight, SeenAs}
 use Rattle.queue.specs.Plain.{place-plain}
 use Rattle.queue.specs.Sounds.{fields-of}
-use Rattle.queue.specs.Touching.{entryIn, appliedIn, EntryAs, SeenOf, SeenHere, ConfirmedIs, ownIds, judgeF, asTouched, TouchIs, changes?}
+use Rattle.queue.specs.Touching.{entryIn, appliedIn, entryIds, EntriesRise, EntryAs, SeenOf, SeenHere, ConfirmedIs, ownIds, judgeF, asTouched, verdictOf, InEntry, TouchIs, VerdictOn, Judged, changed?, changes?}
 use Rattle.queue.specs.paper.Records.{Bytes, Id, Rec, queued, conflicted}
 use Rattle.queue.specs.paper.Lists.{isSome, any?, all?, find, map, concat}
 use Rattle.queue.specs.paper.Ids.{cmpL, same?}
 use Rattle.queue.specs.paper.Sound.{pending?, mined?, among?, inputs, outputs}
 use Rattle.queue.specs.paper.Area.{beVal, placeBytes}
 use Rattle.queue.specs.paper.Changing.{Applied, confirmed?, confirm, judge, judged, queuedOutputs, touchFound}
-use Rattle.queue.specs.paper.Calls.{pieces, appliedOf}
+use Rattle.queue.specs.paper.Calls.{pieces, appliedOf, rise?}
 use Rattle.queue.specs.declared.frame.Seen.{Seen}
 use Rattle.queue.specs.declared.frame.Facts.{Facts}
 use Rattle.queue.specs.declared.reading.Found.{Found}
 use Rattle.queue.specs.declared.touch.Verdict.{Verdict}
 use Rattle.queue.proofs.Turns.{Scan, start, here, on, stop, end, SeenIn, ReadsRec, seen, see}
+use Rattle.queue.specs.Order.{cmp-flip, same-sym, below-not-same, or-false}
+use Rattle.queue.proofs.ScanLaws.{nothingF}
 use Rattle.queue.proofs.ByteLaws.{between}
+use Rattle.queue.proofs.FindLaws.{Finding, finding, find-end, at-low, at-high, rest-rises, rising-at}
 
 -- ---- numbers and parts of an applied entry
 val-snoc : (l : Bytes) (b : ℕ) → beVal (l ++ (b ∷ [])) ≡ beVal l * 256 + b
@@ -79,29 +83,60 @@ module _ (t : Bytes) (p : ℕ) where
   unfolding part view
   entry-block = drop-take 36 32 (drop p t) ∙ ap (take 32) (drop-drop 36 p t)
 
--- ---- the entry of an id
-pub record Looking (t : Bytes) (k : ℕ) (id : Id) (i left : ℕ) : Type 0 where
-  pub within : i + left * 68 ≡ length t
-  pub same : find (λ a. same? id (a .id)) (appliedIn (drop i t) left) ≡ find (λ a. same? id (a .id)) (appliedIn t k)
+-- ---- the entry of an id: by place, and looked for among the ids
+pub entries-many : (k : ℕ) (t : Bytes) → length (entryIds t k) ≡ k
+entries-many zero t = refl
+entries-many (suc k) t = ap suc (entries-many k (drop 68 t))
 
-pub look-start : (t : Bytes) (k : ℕ) (id : Id) → length t ≡ k * 68 → Looking t k id 0 k
-look-start t k id e = record { within = omega arith; same = refl }
+behind : (m : ℕ) (t : Bytes) → drop (68 * m) (drop 68 t) ≡ drop (68 * suc m) t
+behind m t = let e : 68 + 68 * m ≡ 68 * suc m = omega arith in drop-drop (68 * m) 68 t ∙ ap (λ n. drop n t) e
 
-module _ {t : Bytes} {k : ℕ} {id : Id} {i left : ℕ} (x : Looking t k id i left) (h : 0 < left) {y : Id} (e : y ≡ part 32 (view false t 0) i) where
-  cut : appliedIn (drop i t) left ≡ entryIn t i ∷ appliedIn (drop (i + 68) t) (left - 1)
-  cut = let n : left ≡ suc (left - 1) = omega arith in ap (appliedIn (drop i t)) n ∙ ap (λ (l : Bytes). entryIn t i ∷ appliedIn l (left - 1)) (drop-drop 68 i t)
+entry-at : (k m : ℕ) (t : Bytes) → m < k → getD (entryIds t k) m [] ≡ part 32 (view false t 0) (68 * m)
+unfolding part view
+entry-at zero m t h = absurd (let y : ⊥ = omega arith in y)
+entry-at (suc k) zero t h = take-take 32 68 t (omega arith)
+entry-at (suc k) (suc m) t h = entry-at k m (drop 68 t) (le-of-suc-le-suc h) ∙ ap (take 32) (behind m t)
 
-  entry-same : same? id (entryIn t i .id) ≡ eqb (cmpL id y) 1
-  entry-same = ap (λ v. eqb (cmpL id v) 1) (entry-id t i ∙ sym e)
+no-entry : (z : Id) (k : ℕ) (t : Bytes) → false ≡ among? z (entryIds t k) → find (λ a. same? z (a .id)) (appliedIn t k) ≡ none
+no-entry z zero t e = refl
+no-entry z (suc k) t e =
+    let u = or-false (same? z (take 32 (take 68 t))) (among? z (entryIds (drop 68 t) k)) (sym e) in
+    rw (u .0) (no-entry z k (drop 68 t) (sym (u .1)))
 
-  pub look-go : (cmpL id y ≡ 1 → ⊥) → Looking t k id (i + 68) (left - 1)
-  look-go n = record { within = omega (arith, x .within); same = sym (ap (find (λ a. same? id (a .id))) cut ∙ rw (entry-same ∙ ne-eqb (cmpL id y) 1 n)) ∙ x .same }
+this-entry : (z : Id) (k m : ℕ) (t : Bytes) → rise? (entryIds t k) ≡ true → m < k → cmpL z (getD (entryIds t k) m []) ≡ 1 → find (λ a. same? z (a .id)) (appliedIn t k) ≡ some (entryIn t (68 * m))
+this-entry z zero m t r h e = absurd (let y : ⊥ = omega arith in y)
+this-entry z (suc k) zero t r h e = rw (eq-eqb (cmpL z (take 32 (take 68 t))) 1 e)
+this-entry z (suc k) (suc m) t r h e =
+    let i = take 32 (take 68 t) in
+    let l = entryIds (drop 68 t) k in
+    let n : m < length l = omega (arith, entries-many k (drop 68 t)) in
+    let b = rising-at (i ∷ l) 0 (suc m) r (omega arith) (omega arith) in
+    let q : z ≡ getD l m [] = cmp-flip z (getD l m []) .1 e in
+    let o : same? z i ≡ false = same-sym z i ∙ below-not-same i z (rw q b) in
+    rw o (this-entry z k m (drop 68 t) (rest-rises i l r) (le-of-suc-le-suc h) e ∙ ap (λ s. some (appliedOf (take 68 s))) (behind m t))
 
-  pub look-stop : cmpL id y ≡ 1 → EntryAs t k id (record { found = true; at = i })
-  look-stop n = record { good = λ _. (omega (arith, x .within), sym (x .same) ∙ ap (find (λ a. same? id (a .id))) cut ∙ rw (entry-same ∙ eq-eqb (cmpL id y) 1 n)); bad = λ f. false-true (sym f) }
+pub entry-end : (t : Bytes) (k : ℕ) {z : Id} {lo hi : ℕ} → Finding z (entryIds t k) lo hi → hi ≤ lo → EntryAs t k z (record { found = false; at = 0 })
+entry-end t k {z} g h = record { good = λ f. false-true f; bad = λ _. no-entry z k t (find-end g h) }
 
-pub look-end : {t : Bytes} {k : ℕ} {id : Id} {i left : ℕ} → Looking t k id i left → left ≡ 0 → EntryAs t k id (record { found = false; at = 0 })
-look-end {t} {k} {id} {i} {left} x e = record { good = λ f. false-true f; bad = λ _. sym (x .same) ∙ ap (λ (n : ℕ). find (λ a. same? id (a .id)) (appliedIn (drop i t) n)) e }
+module _ (t : Bytes) (k : ℕ) (w : EntriesRise t k) {z : Id} {lo hi : ℕ} (g : Finding z (entryIds t k) lo hi) (m : ℕ) (h : m < hi) where
+  pub entry-room : 68 * m + 68 ≤ length t
+  entry-room = omega (arith, g .within, entries-many k t, w .all)
+
+  module _ {y : Id} (q : y ≡ part 32 (view false t 0) (68 * m)) where
+    few : m < k
+    few = omega (arith, g .within, entries-many k t)
+
+    it : y ≡ getD (entryIds t k) m []
+    it = q ∙ sym (entry-at k m t few)
+
+    pub entry-here : cmpL z y ≡ 1 → EntryAs t k z (record { found = true; at = m })
+    entry-here e = record { good = λ _. (entry-room, this-entry z k m t (w .rise) few (ap (cmpL z) (sym it) ∙ e)); bad = λ f. false-true (sym f) }
+
+    pub entry-low : cmpL z y ≡ 0 → Finding z (entryIds t k) lo m
+    entry-low = at-low g (w .rise) m it h
+
+    pub entry-high : (cmpL z y ≡ 0 → ⊥) → (cmpL z y ≡ 1 → ⊥) → Finding z (entryIds t k) (m + 1) hi
+    entry-high = at-high g (w .rise) m it h
 
 -- ---- is it confirmed there already
 module _ (s : Bytes) (base : ℕ) (x : Seen) (t : Bytes) (p : ℕ) where
@@ -251,10 +286,32 @@ module _ {fine b : Bool} (f : Facts) where
   unfolding judgeF
   judge-3 t e h = rw (t, sym e ∙ h)
 
-judge-not : (fine : Bool) (f : Facts) → judgeF fine f ≡ 1 → ⊥
+judge-not : (fine : Bool) (f : Facts) → judgeF fine f % 4 ≡ 1 → ⊥
 unfolding judgeF
 judge-not true f e = cases (eqb (f .state) 0 && eqb (f .reason) 0) (λ h. let z : _≡_ {A = ℕ} 0 1 = rw h at e in omega arith) (λ h. let z : _≡_ {A = ℕ} 2 1 = rw h at e in omega arith)
 judge-not false f e = cases (eqb (f .state) 3 && eqb (f .reason) 5) (λ h. let z : _≡_ {A = ℕ} 0 1 = rw h at e in omega arith) (λ h. let z : _≡_ {A = ℕ} 3 1 = rw h at e in omega arith)
+
+-- verdicts in one number
+verdict-0 : verdictOf 0 ≡ record { what = 0; at = 0 }
+unfolding verdictOf
+verdict-0 = refl
+
+verdict-1 : (m : ℕ) → verdictOf (m * 4 + 1) ≡ record { what = 1; at = 68 * m }
+unfolding verdictOf
+verdict-1 m = rw (digits-mod m {m = 4} {r = 1} (omega arith), digits-div m {m = 4} {r = 1} (omega arith))
+
+verdict-judged : (fine : Bool) (f : Facts) → verdictOf (judgeF fine f) ≡ record { what = judgeF fine f; at = 0 }
+unfolding verdictOf judgeF
+verdict-judged true f = cases (eqb (f .state) 0 && eqb (f .reason) 0) (λ h. rw h) (λ h. rw h)
+verdict-judged false f = cases (eqb (f .state) 3 && eqb (f .reason) 5) (λ h. rw h) (λ h. rw h)
+
+pub one-is : (c : ℕ) {what : ℕ} → what ≡ c % 4 → what ≡ 1 → record { what = what; at = 68 * (c / 4) } ≡ verdictOf c
+unfolding verdictOf
+one-is c e h = let a : c % 4 ≡ 1 = sym e ∙ h in rw (e, a)
+
+pub other-is : (c : ℕ) {what : ℕ} → what ≡ c % 4 → (what ≡ 1 → ⊥) → record { what = what; at = 0 } ≡ verdictOf c
+unfolding verdictOf
+other-is c e h = rw (e, ne-eqb (c % 4) 1 (λ z. h (e ∙ z)))
 
 module _ (s : Bytes) (at n base : ℕ) (x : Seen) (t : Bytes) (k : ℕ) (caught : Bool) (ids : List Id) {f : Found} (e : EntryAs t k (x .id) f) where
   abbrev own : List Id
@@ -263,17 +320,17 @@ module _ (s : Bytes) (at n base : ℕ) (x : Seen) (t : Bytes) (k : ℕ) (caught 
   by-id : (r : Rec) → SeenOf s base x r → find (λ a. same? (r .id) (a .id)) (appliedIn t k) ≡ find (λ a. same? (x .id) (a .id)) (appliedIn t k)
   by-id r w = ap (λ i. find (λ a. same? i (a .id)) (appliedIn t k)) (sym (w .0 .id))
 
-  module _ (g : f .found ≡ true) {b : Bool} (c : ConfirmedIs s base x t (f .at) b) where
-    found-is : (r : Rec) → SeenOf s base x r → touchFound caught own r (find (λ a. same? (r .id) (a .id)) (appliedIn t k)) ≡ cond b none (some (confirm (entryIn t (f .at)) r))
-    found-is r w = ap (touchFound caught own r) (by-id r w ∙ e .good g .1) ∙ ap (λ v. cond v none (some (confirm (entryIn t (f .at)) r))) (sym (c r w))
+  module _ (g : f .found ≡ true) {b : Bool} (c : ConfirmedIs s base x t (68 * f .at) b) where
+    found-is : (r : Rec) → SeenOf s base x r → touchFound caught own r (find (λ a. same? (r .id) (a .id)) (appliedIn t k)) ≡ cond b none (some (confirm (entryIn t (68 * f .at)) r))
+    found-is r w = ap (touchFound caught own r) (by-id r w ∙ e .good g .1) ∙ ap (λ v. cond v none (some (confirm (entryIn t (68 * f .at)) r))) (sym (c r w))
 
-    pub verdict-same : b ≡ true → TouchIs s at n base x t k caught ids (record { what = 0; at = 0 })
+    pub verdict-same : b ≡ true → TouchIs s at n base x t k caught ids 0
     unfolding asTouched
-    verdict-same y = record { is = λ r w. found-is r w ∙ rw y; within = λ z. absurd (let u : ⊥ = omega arith in u) }
+    verdict-same y = record { is = λ r w. found-is r w ∙ rw (y, verdict-0); within = λ z. absurd (let u : ⊥ = omega arith in u) }
 
-    pub verdict-confirm : b ≡ false → TouchIs s at n base x t k caught ids (record { what = 1; at = f .at })
+    pub verdict-confirm : b ≡ false → TouchIs s at n base x t k caught ids (f .at * 4 + 1)
     unfolding asTouched
-    verdict-confirm y = record { is = λ r w. found-is r w ∙ rw y; within = λ z. e .good g .0 }
+    verdict-confirm y = record { is = λ r w. found-is r w ∙ rw (y, verdict-1 (f .at)); within = λ z. rw (digits-div (f .at) {m = 4} {r = 1} (omega arith)) (e .good g .0) }
 
   module _ (g : f .found ≡ false) {u : Bool} (c : u ≡ (caught && pending? (x .facts .state))) where
     missing-is : (r : Rec) → SeenOf s base x r → touchFound caught own r (find (λ a. same? (r .id) (a .id)) (appliedIn t k)) ≡ cond u (judge (all? (λ i. among? i own) (inputs (r .body))) r) none
@@ -282,22 +339,19 @@ module _ (s : Bytes) (at n base : ℕ) (x : Seen) (t : Bytes) (k : ℕ) (caught 
         ap (touchFound caught own r) (by-id r w ∙ e .bad g)
         ∙ ap (λ v. cond v (judge (all? (λ i. among? i own) (inputs (r .body))) r) none) (sym (c ∙ ap (λ v. caught && pending? (v .state)) (w .0 .facts)))
 
-    pub verdict-none : u ≡ false → TouchIs s at n base x t k caught ids (record { what = 0; at = 0 })
+    pub verdict-none : u ≡ false → TouchIs s at n base x t k caught ids 0
     unfolding asTouched
-    verdict-none y = record { is = λ r w. missing-is r w ∙ rw y; within = λ z. absurd (let v : ⊥ = omega arith in v) }
+    verdict-none y = record { is = λ r w. missing-is r w ∙ rw (y, verdict-0); within = λ z. absurd (let v : ⊥ = omega arith in v) }
 
-    pub verdict-judge : {a : Bool} {j : ℕ} → u ≡ true → a ≡ all? (λ i. among? i (ownIds ids (listAt (formC false recC) n s at))) (listAt idC (x .facts .ins) (view false s base) (x .at)) → j ≡ judgeF a (x .facts) → TouchIs s at n base x t k caught ids (record { what = j; at = 0 })
+    pub verdict-judge : {a : Bool} {j : ℕ} → u ≡ true → a ≡ all? (λ i. among? i (ownIds ids (listAt (formC false recC) n s at))) (listAt idC (x .facts .ins) (view false s base) (x .at)) → j ≡ judgeF a (x .facts) → TouchIs s at n base x t k caught ids j
     verdict-judge {a} {j} y h i = record {
       is = λ r w.
           let z : all? (λ i. among? i own) (inputs (r .body)) ≡ a = sym (h ∙ ap (all? (λ i. among? i own)) (w .0 .insList)) in
-          missing-is r w ∙ rw y (ap (λ v. judge v r) z ∙ judge-is t a r ∙ ap (λ v. asTouched t (record { what = v; at = 0 }) r) (ap (judgeF a) (sym (w .0 .facts)) ∙ sym i));
-      within = λ z. absurd (judge-not a (x .facts) (sym i ∙ z));
+          missing-is r w ∙ rw y (ap (λ v. judge v r) z ∙ judge-is t a r ∙ ap (λ v. asTouched t v r) (sym (verdict-judged a (factsOf r)) ∙ ap (λ v. verdictOf (judgeF a v)) (sym (w .0 .facts)) ∙ ap verdictOf (sym i)));
+      within = λ z. absurd (judge-not a (x .facts) (ap (λ v. v % 4) (sym i) ∙ z));
     }
 
 -- ---- does any change
-unfoldable pub changeF : Bool → List Id → List Applied → Unit {0} → List Rec → Bool
-changeF caught own es u l = any? (changes? caught own es) l
-
 changed : (t : Bytes) (v : Verdict) (r : Rec) → (v .what ≡ 0 → ⊥) → isSome (asTouched t v r) ≡ true
 unfolding asTouched
 changed t v r n = rw (ne-eqb (v .what) 0 n) (cases (eqb (v .what) 1) (λ e. rw e) (λ e. rw e (cases (eqb (v .what) 2) (λ f. rw f) (λ f. rw f))))
@@ -306,20 +360,66 @@ unchanged : (t : Bytes) (v : Verdict) (r : Rec) → v .what ≡ 0 → isSome (as
 unfolding asTouched
 unchanged t v r e = rw (eq-eqb (v .what) 0 e)
 
-module _ {s : Bytes} {at n : ℕ} (t : Bytes) (k : ℕ) (caught : Bool) (ids : List Id) {i left : ℕ} (x : Scan (formC false recC) (changeF caught (ownIds ids (listAt (formC false recC) n s at)) (appliedIn t k)) s n at tt i left tt) where
+module _ (t : Bytes) (caught : Bool) (own : List Id) (es : List Applied) where
+  on-change : {r : Rec} {c : ℕ} → VerdictOn t caught own es r c → changed? c ≡ changes? caught own es r
+  unfolding verdictOf
+  on-change {r} {c} o = cases (eqb (c % 4) 0)
+      (λ h. rw h (sym (ap isSome (o .is) ∙ unchanged t (verdictOf c) r (eqb-true (c % 4) 0 h))))
+      (λ h. rw h (sym (ap isSome (o .is) ∙ changed t (verdictOf c) r (eqb-false (c % 4) 0 h))))
+
+  pub judged-any : (l : List Rec) (v : List ℕ) → Judged t caught own es l v → any? changed? v ≡ any? (changes? caught own es) l
+  judged-any [] [] j = refl
+  judged-any [] (c ∷ v) j = absurd j
+  judged-any (r ∷ l) [] j = absurd j
+  judged-any (r ∷ l) (c ∷ v) j = two (on-change (j .0)) (judged-any l v (j .1))
+    where
+      two : {a a′ b b′ : Bool} → a ≡ a′ → b ≡ b′ → (a || b) ≡ (a′ || b′)
+      two e f = cc
+
+  pub judged-long : (l : List Rec) (v : List ℕ) → Judged t caught own es l v → length v ≡ length l
+  judged-long [] [] j = refl
+  judged-long [] (c ∷ v) j = absurd j
+  judged-long (r ∷ l) [] j = absurd j
+  judged-long (r ∷ l) (c ∷ v) j = ap suc (judged-long l v (j .1))
+
+  pub judged-within : (l : List Rec) (v : List ℕ) → Judged t caught own es l v → All (InEntry t) v
+  judged-within [] [] j = tt
+  judged-within [] (c ∷ v) j = absurd j
+  judged-within (r ∷ l) [] j = absurd j
+  judged-within (r ∷ l) (c ∷ v) j = (j .0 .within, judged-within l v (j .1))
+
+-- ---- the verdicts, one after the other
+pub record Judging (t : Bytes) (caught : Bool) (own : List Id) (es : List Applied) (s : Bytes) (n at room i left j : ℕ) (vs : List ℕ) : Type 0 where
+  pub scan : Scan (formC false recC) nothingF s n at tt i left tt
+  pub count : j + left ≡ n
+  pub long : length vs ≡ room
+  pub rest : (z : List ℕ) → Judged t caught own es (listAt (formC false recC) left s i) z → Judged t caught own es (listAt (formC false recC) n s at) (take j vs ++ z)
+
+pub judging : (t : Bytes) (caught : Bool) (own : List Id) (es : List Applied) (s : Bytes) (n at : ℕ) (vs : List ℕ) → at ≤ length s → whole (formC false recC) n s at ≡ true → Judging t caught own es s n at (length vs) at n 0 vs
+judging t caught own es s n at vs h w = record { scan = start (formC false recC) nothingF s n at tt h w; count = omega arith; long = refl; rest = λ z j. j }
+
+module _ {t : Bytes} (k : ℕ) {caught : Bool} (ids : List Id) {s : Bytes} {n at room i left j : ℕ} {vs : List ℕ} (x : Judging t caught (ownIds ids (listAt (formC false recC) n s at)) (appliedIn t k) s n at room i left j vs) where
   module _ (h : 0 < left) {m : ℕ} {ok : Bool} {y : Seen} (r : ReadsRec false s i ok m y) where
-    pub change-seen : SeenOf s i y (seen false x h r .item)
-    change-seen = let u = seen false x h r in (u .is .0, u .is .1 .fine)
+    pub judge-seen : SeenOf s i y (seen false (x .scan) h r .item)
+    judge-seen = let u = seen false (x .scan) h r in (u .is .0, u .is .1 .fine)
 
-    module _ {v : Verdict} (w : TouchIs s at n i y t k caught ids v) where
-      pub change-go : {j : ℕ} → j ≡ afterIn false s i m → v .what ≡ 0 → Scan (formC false recC) (changeF caught (ownIds ids (listAt (formC false recC) n s at)) (appliedIn t k)) s n at tt j (left - 1) tt
-      unfolding changeF
-      change-go g e = let u = seen false x h r in rw g (on x tt h u (rw (ap isSome (w .is (u .item) change-seen) ∙ unchanged t v (u .item) e)))
+    pub judge-go : {c o : ℕ} → n ≤ room → TouchIs s at n i y t k caught ids c → o ≡ afterIn false s i m → Judging t caught (ownIds ids (listAt (formC false recC) n s at)) (appliedIn t k) s n at room o (left - 1) (j + 1) (set vs j c)
+    unfolding nothingF
+    judge-go {c} {o} f T g =
+        let u = seen false (x .scan) h r in
+        let e : take (j + 1) (set vs j c) ≡ take j vs ++ (c ∷ []) = rw add-one (take-suc-set vs j c (omega (arith, x .count, x .long))) in
+        record {
+          scan = rw g (on (x .scan) tt h u refl);
+          count = omega (arith, x .count);
+          long = length-set vs j c ∙ x .long;
+          rest = λ z J.
+              let q : Judged t caught (ownIds ids (listAt (formC false recC) n s at)) (appliedIn t k) (listAt (formC false recC) left s i) (c ∷ z) = rw (u .list) (record { is = T .is (u .item) judge-seen; within = T .within }, rw g at J) in
+              rw (e, append-assoc (take j vs) (c ∷ []) z) (x .rest (c ∷ z) q);
+        }
 
-      pub change-stop : (v .what ≡ 0 → ⊥) → true ≡ any? (changes? caught (ownIds ids (listAt (formC false recC) n s at)) (appliedIn t k)) (listAt (formC false recC) n s at)
-      unfolding changeF
-      change-stop e = let u = seen false x h r in stop x u (rw (ap isSome (w .is (u .item) change-seen) ∙ changed t v (u .item) e))
-
-  pub change-end : left ≡ 0 → false ≡ any? (changes? caught (ownIds ids (listAt (formC false recC) n s at)) (appliedIn t k)) (listAt (formC false recC) n s at)
-  unfolding changeF
-  change-end e = end x e
+  pub judge-end : left ≡ 0 → Judged t caught (ownIds ids (listAt (formC false recC) n s at)) (appliedIn t k) (listAt (formC false recC) n s at) (take n vs)
+  judge-end e =
+      let q : Judged t caught (ownIds ids (listAt (formC false recC) n s at)) (appliedIn t k) (listAt (formC false recC) left s i) [] = rw (none-left (formC false recC) s left i e .0) tt in
+      let f : j ≡ n = omega (arith, x .count) in
+      let g : take j vs ++ [] ≡ take n vs = append-nil (take j vs) ∙ ap (λ k. take k vs) f in
+      rw g at (x .rest [] q)

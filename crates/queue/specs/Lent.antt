@@ -1,19 +1,14 @@
 -- What is lent to a reconciliation, and what is known of it once it was checked.
 use mathlib.Core.Path.{_≡_}
 use mathlib.Core.Bool.{Bool, true, _&&_}
-use mathlib.Core.List.{List}
-use Prim.Native.Nat.{ℕ, _*_, _/_}
+use Prim.Native.Nat.{ℕ, _/_}
 use lib.ListN.{length, take}
 use Rattle.queue.specs.Arguments.{Small}
 use Rattle.queue.specs.Reopens.{IdsRise, idsAt}
-use Rattle.queue.specs.Touching.{appliedIn}
-use Rattle.queue.specs.paper.Records.{Bytes, Id}
+use Rattle.queue.specs.Touching.{appliedIn, EntriesRise}
+use Rattle.queue.specs.paper.Records.{Bytes}
 use Rattle.queue.specs.paper.Lists.{map}
-use Rattle.queue.specs.paper.Calls.{id?, whole?, flag?, pieces, items, rise?, appliedOf}
-
--- the ids of the first k applied entries
-abbrev pub entryIds : Bytes → ℕ → List Id
-entryIds t k = map (take 32) (pieces 68 k t)
+use Rattle.queue.specs.paper.Calls.{id?, whole?, flag?, items, rise?, appliedOf}
 
 -- check 5 in parts
 pub record EntriesAre (t : Bytes) (r : Bool) : Type 0 where
@@ -27,7 +22,7 @@ pub record IdsAre (ids : Bytes) (r : Bool) : Type 0 where
 -- what is known where it passes
 pub record ReconcileGood (tip t ids : Bytes) : Type 0 where
   pub long : length tip ≡ 32
-  pub whole : length t ≡ (length t / 68) * 68
+  pub entries : EntriesRise t (length t / 68)
   pub applied : appliedIn t (length t / 68) ≡ map appliedOf (items 68 t)
   pub rise : IdsRise ids (length ids / 32)
   pub available : idsAt ids (length ids / 32) ≡ items 32 ids

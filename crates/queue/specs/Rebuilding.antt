@@ -72,5 +72,5 @@ stayR floor y = holder? y || leb floor (y .finish)
 unfoldable pub keptOf : ℕ → ℕ → List Id → List Rec → List Rec
 keptOf c floor ids l = filter (stayR floor) (map (releaseOne c ids) l)
 
-unfoldable pub keptL : Bytes → ℕ → ℕ → Bytes → ℕ → Bool → List Id → List ℕ → ℕ → ℕ → List Rec
-keptL s at n t k caught ids gone c floor = keptOf c floor (map (idAt s) gone) (nextL s at n t k caught ids)
+unfoldable pub keptL : Bytes → ℕ → ℕ → Bytes → List ℕ → List ℕ → ℕ → ℕ → List Rec
+keptL s at n t v gone c floor = keptOf c floor (map (idAt s) gone) (nextL s at n t v)

@@ -3,7 +3,7 @@ use mathlib.Core.Path.{_≡_}
 use mathlib.Core.Bool.{Bool, true, false, cond, _||_}
 use mathlib.Core.Option.{Option, none, some}
 use mathlib.Core.List.{List, [], _∷_, _++_}
-use Prim.Native.Nat.{ℕ, _+_, _*_, _≤_, _<_, min}
+use Prim.Native.Nat.{ℕ, _+_, _≤_, _<_, min}
 use lib.Dec.{ltb, leb}
 use lib.ListN.{length}
 use mathlib.Core.Logic.{_⊎_}
@@ -20,7 +20,7 @@ use Rattle.queue.specs.Reopens.{IdsRise, idsAt}
 use Rattle.queue.specs.Arguments.{Small}
 use Rattle.queue.specs.Reconciles.{Reconcilable}
 use Rattle.queue.specs.SelectAs.{idAt}
-use Rattle.queue.specs.Touching.{appliedIn}
+use Rattle.queue.specs.Touching.{appliedIn, EntriesRise, ownIds, Judged}
 use Rattle.queue.specs.paper.Records.{Bytes, Id, Rec, Queue}
 use Rattle.queue.specs.paper.Lists.{isSome, one, any?, map, concat}
 use Rattle.queue.specs.paper.Area.{areaBytes, over}
@@ -40,10 +40,14 @@ asked height tip t k caught ids m window = record { height = height; tip = tip; 
 
 pub record LentTo (height : ℕ) (tip : Id) (t : Bytes) (k : ℕ) (caught : Bool) (ids : Bytes) (m window : ℕ) : Type 0 where
   pub ok : Reconcilable (asked height tip t k caught ids m window)
-  pub entries : length t ≡ k * 68
+  pub entries : EntriesRise t k
   pub rise : IdsRise ids m
   pub small : Small t
   pub long : length tip ≡ 32
+
+-- a verdict on each record
+pub record JudgedIn (s : Bytes) (a : Area) (t : Bytes) (k : ℕ) (caught : Bool) (ids : Bytes) (m : ℕ) (v : List ℕ) : Type 0 where
+  pub all : Judged t caught (ownIds (idsAt ids m) (listAt (formC false recC) (a .open .head .count) s (a .open .start))) (appliedIn t k) (listAt (formC false recC) (a .open .head .count) s (a .open .start)) v
 
 -- the records after the verdicts, the ids released, and whether a verdict changed one
 abbrev pub ownOf : Reconciling → Queue → List Id

@@ -11,7 +11,7 @@ use Rattle.queue.specs.Reads.{whole, listAt}
 use Rattle.queue.specs.ReadLaws.{beAt}
 use Rattle.queue.specs.Forms.{formC}
 use Rattle.queue.specs.SelectAs.{Row, rows, Even, idAt, idOf}
-use Rattle.queue.specs.Touching.{appliedIn, ownIds}
+use Rattle.queue.specs.Touching.{asTouched, verdictOf}
 use Rattle.queue.specs.paper.Records.{Bytes, Id, Limits, Rec}
 use Rattle.queue.specs.paper.Lists.{total, filter, find, map}
 use Rattle.queue.specs.paper.Ids.{same?}
@@ -24,15 +24,20 @@ use Rattle.queue.specs.declared.touch.Verdict.{Verdict}
 unfoldable pub nextR : Bool → List Id → List Applied → Rec → Rec
 nextR caught own es r = orElse r (touchFound caught own r (find (λ a. same? (r .id) (a .id)) es))
 
--- the n records at `at`, after the verdicts on them; and the Mined holders of these
-unfoldable pub nextL : Bytes → ℕ → ℕ → Bytes → ℕ → Bool → List Id → List Rec
-nextL s at n t k caught ids = map (nextR caught (ownIds ids (listAt (formC false recC) n s at)) (appliedIn t k)) (listAt (formC false recC) n s at)
+-- records after verdicts in numbers; the n records at `at`; and the Mined holders of these
+unfoldable pub nextV : Bytes → List Rec → List ℕ → List Rec
+nextV t [] v = []
+nextV t (r ∷ l) [] = r ∷ nextV t l []
+nextV t (r ∷ l) (c ∷ v) = orElse r (asTouched t (verdictOf c) r) ∷ nextV t l v
+
+unfoldable pub nextL : Bytes → ℕ → ℕ → Bytes → List ℕ → List Rec
+nextL s at n t v = nextV t (listAt (formC false recC) n s at) v
 
 abbrev pub minedHolder? : Rec → Bool
 minedHolder? r = mined? r && holder? r
 
-unfoldable pub minedOf : Bytes → ℕ → ℕ → Bytes → ℕ → Bool → List Id → List Rec
-minedOf s at n t k caught ids = filter minedHolder? (nextL s at n t k caught ids)
+unfoldable pub minedOf : Bytes → ℕ → ℕ → Bytes → List ℕ → List Rec
+minedOf s at n t v = filter minedHolder? (nextL s at n t v)
 
 unfoldable pub minedF : ℕ → Facts → Bool
 minedF what f = (eqb what 1 || (eqb what 0 && eqb (f .state) 2)) && f .holder

@@ -1,9 +1,9 @@
 -- What a reconciliation makes of one record, as the code goes.
 use mathlib.Core.Path.{_≡_}
-use mathlib.Core.Bool.{Bool, true, false, cond, _&&_}
+use mathlib.Core.Bool.{Bool, true, false, cond, not, _&&_}
 use mathlib.Core.Option.{Option, none, some}
 use mathlib.Core.List.{List, [], _∷_, _++_}
-use Prim.Native.Nat.{ℕ, _+_, _≤_}
+use Prim.Native.Nat.{ℕ, _+_, _*_, _/_, _%_, _≤_}
 use lib.Dec.{eqb}
 use lib.ListN.{length, take, drop}
 use Rattle.queue.specs.Frames.{recC}
@@ -16,7 +16,7 @@ use Rattle.queue.specs.paper.Lists.{isSome, find, map}
 use Rattle.queue.specs.paper.Ids.{same?}
 use Rattle.queue.specs.paper.Sound.{mined?}
 use Rattle.queue.specs.paper.Changing.{Applied, confirmed?, confirm, judged, queuedOutputs, touchFound}
-use Rattle.queue.specs.paper.Calls.{pieces, appliedOf}
+use Rattle.queue.specs.paper.Calls.{pieces, appliedOf, rise?}
 use Rattle.queue.specs.declared.frame.Seen.{Seen}
 use Rattle.queue.specs.declared.frame.Facts.{Facts}
 use Rattle.queue.specs.declared.reading.Found.{Found}
@@ -29,8 +29,17 @@ entryIn t p = appliedOf (take 68 (drop p t))
 abbrev pub appliedIn : Bytes → ℕ → List Applied
 appliedIn t k = map appliedOf (pieces 68 k t)
 
+-- their ids; they stand in t, and rise
+abbrev pub entryIds : Bytes → ℕ → List Id
+entryIds t k = map (take 32) (pieces 68 k t)
+
+pub record EntriesRise (t : Bytes) (k : ℕ) : Type 0 where
+  pub all : length t ≡ k * 68
+  pub rise : rise? (entryIds t k) ≡ true
+
+-- the number of an id's entry
 pub record EntryAs (t : Bytes) (k : ℕ) (id : Id) (f : Found) : Type 0 where
-  pub good : f .found ≡ true → (f .at + 68 ≤ length t) × (find (λ a. same? id (a .id)) (appliedIn t k) ≡ some (entryIn t (f .at)))
+  pub good : f .found ≡ true → (68 * f .at + 68 ≤ length t) × (find (λ a. same? id (a .id)) (appliedIn t k) ≡ some (entryIn t (68 * f .at)))
   pub bad : f .found ≡ false → find (λ a. same? id (a .id)) (appliedIn t k) ≡ none
 
 -- x was read at base, and says of r
@@ -57,9 +66,30 @@ asTouched t v r =
     (cond (eqb (v .what) 1) (some (confirm (entryIn t (v .at)) r))
     (cond (eqb (v .what) 2) (some (judged queued 0 r)) (some (judged conflicted 5 r))))
 
-pub record TouchIs (s : Bytes) (at n base : ℕ) (x : Seen) (t : Bytes) (k : ℕ) (caught : Bool) (ids : List Id) (v : Verdict) : Type 0 where
-  pub is : (r : Rec) → SeenOf s base x r → touchFound caught (ownIds ids (listAt (formC false recC) n s at)) r (find (λ a. same? (r .id) (a .id)) (appliedIn t k)) ≡ asTouched t v r
-  pub within : v .what ≡ 1 → v .at + 68 ≤ length t
+-- a verdict in one number: what, and the number of the applied entry, which stands in t
+unfoldable pub verdictOf : ℕ → Verdict
+verdictOf c = record { what = c % 4; at = cond (eqb (c % 4) 1) (68 * (c / 4)) 0 }
+
+abbrev pub InEntry : Bytes → ℕ → Type 0
+InEntry t c = c % 4 ≡ 1 → 68 * (c / 4) + 68 ≤ length t
+
+pub record TouchIs (s : Bytes) (at n base : ℕ) (x : Seen) (t : Bytes) (k : ℕ) (caught : Bool) (ids : List Id) (c : ℕ) : Type 0 where
+  pub is : (r : Rec) → SeenOf s base x r → touchFound caught (ownIds ids (listAt (formC false recC) n s at)) r (find (λ a. same? (r .id) (a .id)) (appliedIn t k)) ≡ asTouched t (verdictOf c) r
+  pub within : InEntry t c
+
+-- a verdict on each record
+pub record VerdictOn (t : Bytes) (caught : Bool) (own : List Id) (es : List Applied) (r : Rec) (c : ℕ) : Type 0 where
+  pub is : touchFound caught own r (find (λ a. same? (r .id) (a .id)) es) ≡ asTouched t (verdictOf c) r
+  pub within : InEntry t c
+
+abbrev pub Judged : Bytes → Bool → List Id → List Applied → List Rec → List ℕ → Type 0
+Judged t caught own es [] [] = Unit {0}
+Judged t caught own es [] (c ∷ v) = ⊥
+Judged t caught own es (r ∷ l) [] = ⊥
+Judged t caught own es (r ∷ l) (c ∷ v) = VerdictOn t caught own es r c × Judged t caught own es l v
+
+abbrev pub changed? : ℕ → Bool
+changed? c = not (eqb (c % 4) 0)
 
 -- does a reconciliation change a record, given the own ids and the applied entries?
 abbrev pub changes? : Bool → List Id → List Applied → Rec → Bool

@@ -6,7 +6,8 @@ use super::view::size;
 ghost use mathlib.Core.Path.{_≡_};
 ghost use Prim.Native.Nat.{_*_};
 ghost use lib.ListN.{length};
-ghost use Rattle.queue.specs.Lent.{entryIds, EntriesAre, IdsAre, ReconcileAsked};
+ghost use Rattle.queue.specs.Touching.{entryIds};
+ghost use Rattle.queue.specs.Lent.{EntriesAre, IdsAre, ReconcileAsked};
 ghost use Rattle.queue.specs.paper.Calls.{rise?};
 
 // Do the ids of k entries rise strictly?

@@ -12,12 +12,12 @@ use super::put::put_be;
 use super::put::put_u8;
 use super::reopen::put_lead;
 use super::touch::Verdict;
-use super::touch::touched;
+use super::touch::verdict_of;
 use super::view::cmp_id;
 use super::view::id_at;
 ghost use mathlib.Core.Path.{_≡_};
 ghost use mathlib.Core.Bool.{true, false};
-ghost use Prim.Native.Nat.{_+_, _*_, _≤_, _<_};
+ghost use Prim.Native.Nat.{_+_, _≤_, _<_};
 ghost use lib.ListN.{length, take};
 ghost use Rattle.queue.specs.Codec.{All, encs};
 ghost use Rattle.queue.specs.Arguments.{Small};
@@ -25,8 +25,9 @@ ghost use Rattle.queue.specs.Splice.{Put};
 ghost use Rattle.queue.specs.Frames.{recC};
 ghost use Rattle.queue.specs.Reads.{whole};
 ghost use Rattle.queue.specs.Forms.{formC};
-ghost use Rattle.queue.specs.Reopens.{IdsRise, idsAt, PartsIn};
+ghost use Rattle.queue.specs.Reopens.{PartsIn};
 ghost use Rattle.queue.specs.SelectAs.{idAt};
+ghost use Rattle.queue.specs.Touching.{InEntry};
 ghost use Rattle.queue.specs.Rebuilding.{stateN, reasonN, markN, placeN, placeLen, tailN, tailLen, nextBytes, nextLen, stayF, stepN, numberN, keptL};
 ghost use Rattle.queue.specs.paper.Lists.{map};
 ghost use Rattle.queue.specs.paper.Changing.{placeIn};
@@ -200,34 +201,33 @@ pub fn put_all(
     at: usize,
     n: u64,
     t: &[u8],
-    k: u64,
-    caught: bool,
-    ids: &[u8],
-    m: u64,
+    vs: &[u64],
     gone: &[usize],
     counter: Finish,
     floor: Finish,
     dst: &mut [u8],
     to: usize,
 ) -> Done
-    requires { ⌜ (at ≤ length (now src)) × (whole (formC false recC) n (now src) at ≡ true) × ((length (now t) ≡ k * 68) × IdsRise (now ids) m × Small (now t)) × (All (λ p. p + 33 ≤ length (now src)) (now gone) × (length (now gone) ≤ 2048)) × (counter .0 + length (now gone) < 18446744073709551616) × (n < 4294967296) × (to + length (encs recC (keptL (now src) at n (now t) k caught (idsAt (now ids) m) (now gone) (counter .0) (floor .0))) ≤ length (now dst)) ⌝ }
-    ensures { λ r. ⌜ Put (now (dst .entry)) to (encs recC (keptL (now (src .entry)) at n (now (t .entry)) k caught (idsAt (now (ids .entry)) m) (now (gone .entry)) (counter .0) (floor .0))) (length (encs recC (keptL (now (src .entry)) at n (now (t .entry)) k caught (idsAt (now (ids .entry)) m) (now (gone .entry)) (counter .0) (floor .0)))) (r .at) (now (dst .exit)) × (r .kept ≡ length (keptL (now (src .entry)) at n (now (t .entry)) k caught (idsAt (now (ids .entry)) m) (now (gone .entry)) (counter .0) (floor .0))) ⌝ }
+    requires { ⌜ (at ≤ length (now src)) × (whole (formC false recC) n (now src) at ≡ true) × ((length (now vs) ≡ n) × All (InEntry (now t)) (now vs) × Small (now t)) × (All (λ p. p + 33 ≤ length (now src)) (now gone) × (length (now gone) ≤ 2048)) × (counter .0 + length (now gone) < 18446744073709551616) × (n < 4294967296) × (to + length (encs recC (keptL (now src) at n (now t) (now vs) (now gone) (counter .0) (floor .0))) ≤ length (now dst)) ⌝ }
+    ensures { λ r. ⌜ Put (now (dst .entry)) to (encs recC (keptL (now (src .entry)) at n (now (t .entry)) (now (vs .entry)) (now (gone .entry)) (counter .0) (floor .0))) (length (encs recC (keptL (now (src .entry)) at n (now (t .entry)) (now (vs .entry)) (now (gone .entry)) (counter .0) (floor .0)))) (r .at) (now (dst .exit)) × (r .kept ≡ length (keptL (now (src .entry)) at n (now (t .entry)) (now (vs .entry)) (now (gone .entry)) (counter .0) (floor .0))) ⌝ }
 {
     let mut i = at;
     let mut left = n;
+    let mut j: usize = 0;
     let mut o = to;
     let mut kept: u64 = 0;
     while 0 < left {
         let x = rec_at(src, false, i);
         let f = x.facts;
         let id = x.id;
-        let v = touched(src, at, n, i, x, t, k, caught, ids, m);
+        let v = verdict_of(t, vs[j]);
         let number = number_of(counter, rank_in(src, gone, id));
         let stay = stays(number, floor, f);
         o = put_step(src, i, x, t, v, number, stay, dst, o);
         kept = kept + one_if(stay);
         i = i + x.size;
         left = left - 1;
+        j += 1;
     }
     Done { at: o, kept: kept }
 }

@@ -20,6 +20,7 @@ use super::release::release;
 use super::select::order;
 use super::select::put_ids;
 use super::touch::any_touched;
+use super::touch::judge_all;
 use super::view::id_at;
 use super::write::put_moved;
 ghost use mathlib.Core.Path.{_≡_};
@@ -35,7 +36,7 @@ ghost use Rattle.queue.specs.Opens.{limits};
 ghost use Rattle.queue.specs.SelectAs.{rows, Even, ahead?};
 ghost use Rattle.queue.specs.Releasing.{StandsAt, walkR};
 ghost use Rattle.queue.specs.CallsAs.{AreaIn};
-ghost use Rattle.queue.specs.Reconciling.{asked, LentTo, GoneAre, ChangedIs, WholeTo, goneBytes, FloorFor, CursorTold, ReconcileTold};
+ghost use Rattle.queue.specs.Reconciling.{asked, LentTo, JudgedIn, GoneAre, ChangedIs, WholeTo, goneBytes, FloorFor, CursorTold, ReconcileTold};
 ghost use Rattle.queue.specs.paper.Lists.{one, sort};
 ghost use Rattle.queue.specs.paper.Changing.{topHeight};
 ghost use Rattle.queue.specs.Checked.{outcome, reconcileOf};
@@ -72,29 +73,18 @@ fn release_all(
     ids: &[u8],
     m: u64,
     window: u64,
+    vs: &[u64],
     ranks: &mut [u64],
     times: &mut [u64],
     places: &mut [usize],
     gone: &mut [usize],
 ) -> usize
-    requires { ⌜ AreaIn (now s) a × LentTo (height .0) tip (now t) k caught (now ids) m window × Even 2048 (now ranks) (now times) (now places) × (length (now gone) ≡ 2048) ⌝ }
+    requires { ⌜ AreaIn (now s) a × LentTo (height .0) tip (now t) k caught (now ids) m window × JudgedIn (now s) a (now t) k caught (now ids) m (now vs) × Even 2048 (now ranks) (now times) (now places) × (length (now gone) ≡ 2048) ⌝ }
     ensures { λ r. ⌜ (r ≤ 2048) × GoneAre (now (s .entry)) (asked (height .0) tip (now (t .entry)) k caught (now (ids .entry)) m window) (take r (now (gone .exit))) × (length (now (gone .exit)) ≡ 2048) ⌝ }
 {
     let o = a.open;
     let h = o.head;
-    let c = gather_mined(
-        s,
-        o.start,
-        h.count,
-        t,
-        k,
-        caught,
-        ids,
-        m,
-        ranks,
-        times,
-        places,
-    );
+    let c = gather_mined(s, o.start, h.count, t, vs, ranks, times, places);
     release_rows(
         s,
         &mut ranks[..c],
@@ -134,10 +124,11 @@ fn put_whole(
     ids: &[u8],
     m: u64,
     window: u64,
+    vs: &[u64],
     gone: &[usize],
     dst: &mut [u8],
 )
-    requires { ⌜ AreaIn (now src) a × LentTo (height .0) tip (now t) k caught (now ids) m window × GoneAre (now src) (asked (height .0) tip (now t) k caught (now ids) m window) (now gone) × (a .open .head .counter .0 + length (now gone) < 18446744073709551616) × ChangedIs (now src) (asked (height .0) tip (now t) k caught (now ids) m window) true × (a .need ≤ length (now dst)) ⌝ }
+    requires { ⌜ AreaIn (now src) a × LentTo (height .0) tip (now t) k caught (now ids) m window × JudgedIn (now src) a (now t) k caught (now ids) m (now vs) × GoneAre (now src) (asked (height .0) tip (now t) k caught (now ids) m window) (now gone) × (a .open .head .counter .0 + length (now gone) < 18446744073709551616) × ChangedIs (now src) (asked (height .0) tip (now t) k caught (now ids) m window) true × (a .need ≤ length (now dst)) ⌝ }
     ensures { λ _. ⌜ WholeTo (now (src .entry)) (asked (height .0) tip (now (t .entry)) k caught (now (ids .entry)) m window) (now (dst .entry)) (now (dst .exit)) ⌝ }
 {
     let o = a.open;
@@ -146,21 +137,7 @@ fn put_whole(
     let g = gone.len() as u64;
     let to = 45 + tip_len(true);
     let f = floor_for(src, a, g);
-    let w = put_all(
-        src,
-        o.start,
-        h.count,
-        t,
-        k,
-        caught,
-        ids,
-        m,
-        gone,
-        n,
-        Finish(f),
-        dst,
-        to,
-    );
+    let w = put_all(src, o.start, h.count, t, vs, gone, n, Finish(f), dst, to);
     let marks = Marks {
         persisted: height,
         revision: std::num::wrapping_add_u64(h.revision, 1),
@@ -232,10 +209,11 @@ fn reconcile_gone(
     ids: &[u8],
     m: u64,
     window: u64,
+    vs: &[u64],
     gone: &[usize],
     out: &mut [u8],
 ) -> Answer
-    requires { ⌜ AreaIn (now cur) a × LentTo (height .0) tip (now t) k caught (now ids) m window × GoneAre (now cur) (asked (height .0) tip (now t) k caught (now ids) m window) (now gone) × (a .need ≤ length (now next)) ⌝ }
+    requires { ⌜ AreaIn (now cur) a × LentTo (height .0) tip (now t) k caught (now ids) m window × JudgedIn (now cur) a (now t) k caught (now ids) m (now vs) × GoneAre (now cur) (asked (height .0) tip (now t) k caught (now ids) m window) (now gone) × (a .need ≤ length (now next)) ⌝ }
     ensures { λ r. ⌜ ReconcileTold (now (cur .entry)) (asked (height .0) tip (now (t .entry)) k caught (now (ids .entry)) m window) (outcome r (now (next .exit)) (now (out .exit))) (now (next .entry)) (now (out .entry)) ⌝ }
 {
     let o = a.open;
@@ -248,8 +226,7 @@ fn reconcile_gone(
     if out.len() < 5 + 32 * g {
         return Answer::Refused(4);
     }
-    let touched = any_touched(cur, o.start, h.count, t, k, caught, ids, m);
-    let changed = either(touched, 0 < g);
+    let changed = either(any_touched(vs), 0 < g);
     put_gone(cur, changed, gone, out);
     if changed {
         put_whole(
@@ -263,6 +240,7 @@ fn reconcile_gone(
             ids,
             m,
             window,
+            vs,
             gone,
             next,
         );
@@ -289,6 +267,11 @@ fn reconcile_lent(
     requires { ⌜ AreaIn (now cur) a × LentTo (height .0) tip (now t) k caught (now ids) m window × (a .need ≤ length (now next)) ⌝ }
     ensures { λ r. ⌜ ReconcileTold (now (cur .entry)) (asked (height .0) tip (now (t .entry)) k caught (now (ids .entry)) m window) (outcome r (now (next .exit)) (now (out .exit))) (now (next .entry)) (now (out .entry)) ⌝ }
 {
+    let o = a.open;
+    let h = o.head;
+    let n = h.count as usize;
+    let mut vs = [0u64; 3072];
+    judge_all(cur, o.start, h.count, t, k, caught, ids, m, &mut vs);
     let mut ranks = [0u64; 2048];
     let mut times = [0u64; 2048];
     let mut places = [0usize; 2048];
@@ -304,6 +287,7 @@ fn reconcile_lent(
         ids,
         m,
         window,
+        &vs[..n],
         &mut ranks,
         &mut times,
         &mut places,
@@ -321,6 +305,7 @@ fn reconcile_lent(
         ids,
         m,
         window,
+        &vs[..n],
         &gone[..g],
         out,
     )

@@ -7,11 +7,11 @@ use super::logic::both;
 use super::logic::either;
 use super::select::add_row;
 use super::touch::Verdict;
-use super::touch::touched;
+use super::touch::verdict_of;
 use super::view::be;
 ghost use mathlib.Core.Path.{_≡_};
 ghost use mathlib.Core.Bool.{true, false, _||_};
-ghost use Prim.Native.Nat.{_+_, _-_, _*_, _≤_, _<_};
+ghost use Prim.Native.Nat.{_+_, _-_, _≤_, _<_};
 ghost use lib.Dec.{ltb, leb};
 ghost use lib.ListN.{length, take};
 ghost use Rattle.queue.specs.Codec.{All};
@@ -19,7 +19,7 @@ ghost use Rattle.queue.specs.Frames.{recC};
 ghost use Rattle.queue.specs.Reads.{whole};
 ghost use Rattle.queue.specs.Forms.{formC};
 ghost use Rattle.queue.specs.Opens.{limits};
-ghost use Rattle.queue.specs.Reopens.{IdsRise, idsAt};
+ghost use Rattle.queue.specs.Touching.{InEntry};
 ghost use Rattle.queue.specs.SelectAs.{Even};
 ghost use Rattle.queue.specs.Releasing.{minedF, heightF, minedOf, MinedGathered, Stands, bytesAt, PlaceAdded, walkC};
 
@@ -48,29 +48,28 @@ pub fn gather_mined(
     at: usize,
     n: u64,
     t: &[u8],
-    k: u64,
-    caught: bool,
-    ids: &[u8],
-    m: u64,
+    vs: &[u64],
     ranks: &mut [u64],
     times: &mut [u64],
     places: &mut [usize],
 ) -> usize
-    requires { ⌜ (at ≤ length (now s)) × (whole (formC false recC) n (now s) at ≡ true) × (length (now t) ≡ k * 68) × IdsRise (now ids) m × Even (length (now ranks)) (now ranks) (now times) (now places) × (length (minedOf (now s) at n (now t) k caught (idsAt (now ids) m)) ≤ length (now ranks)) ⌝ }
-    ensures { λ r. ⌜ MinedGathered (now (s .entry)) n (minedOf (now (s .entry)) at n (now (t .entry)) k caught (idsAt (now (ids .entry)) m)) (length (now (ranks .entry))) r (now (ranks .exit)) (now (times .exit)) (now (places .exit)) ⌝ }
+    requires { ⌜ (at ≤ length (now s)) × (whole (formC false recC) n (now s) at ≡ true) × ((length (now vs) ≡ n) × All (InEntry (now t)) (now vs)) × Even (length (now ranks)) (now ranks) (now times) (now places) × (length (minedOf (now s) at n (now t) (now vs)) ≤ length (now ranks)) ⌝ }
+    ensures { λ r. ⌜ MinedGathered (now (s .entry)) n (minedOf (now (s .entry)) at n (now (t .entry)) (now (vs .entry))) (length (now (ranks .entry))) r (now (ranks .exit)) (now (times .exit)) (now (places .exit)) ⌝ }
 {
     let mut i = at;
     let mut left = n;
+    let mut j: usize = 0;
     let mut c: usize = 0;
     while 0 < left {
         let x = rec_at(s, false, i);
         let f = x.facts;
-        let v = touched(s, at, n, i, x, t, k, caught, ids, m);
+        let v = verdict_of(t, vs[j]);
         let sel = mined_after(v.what, f);
         let h = height_after(t, v, f);
         c = add_row(ranks, times, places, c, sel, h, left, i);
         i = after_in(s, false, i, x.size);
         left = left - 1;
+        j += 1;
     }
     c
 }

@@ -14,33 +14,38 @@ use super::view::cmp_id;
 use super::view::id_at;
 ghost use mathlib.Core.Path.{_≡_};
 ghost use mathlib.Core.Bool.{true, false, _&&_};
-ghost use Prim.Native.Nat.{_+_, _*_, _≤_};
+ghost use Prim.Native.Nat.{_+_, _≤_};
 ghost use lib.Dec.{eqb};
-ghost use lib.ListN.{length};
+ghost use lib.ListN.{length, take};
 ghost use Rattle.queue.specs.Frames.{recC, idC};
 ghost use Rattle.queue.specs.Reads.{whole, listAt};
 ghost use Rattle.queue.specs.Forms.{formC};
 ghost use Rattle.queue.specs.View.{view};
 ghost use Rattle.queue.specs.Reopens.{IdsRise, idsAt};
-ghost use Rattle.queue.specs.Touching.{appliedIn, EntryAs, SeenHere, ConfirmedIs, ownIds, judgeF, TouchIs, changes?};
+ghost use Rattle.queue.specs.Touching.{appliedIn, EntriesRise, EntryAs, SeenHere, ConfirmedIs, ownIds, judgeF, verdictOf, InEntry, TouchIs, Judged, changed?};
 ghost use Rattle.queue.specs.paper.Lists.{any?, all?};
 ghost use Rattle.queue.specs.paper.Sound.{among?};
 ghost use Rattle.queue.specs.paper.Changing.{queuedOutputs};
 
-// The applied entry of an id, of k entries.
+// The number of the applied entry of an id, of k entries, which rise. Those before lo are lower, those from hi on are higher.
 fn find_entry(t: &[u8], k: u64, id: [u8; 32]) -> Found
-    requires { ⌜ length (now t) ≡ k * 68 ⌝ }
+    requires { ⌜ EntriesRise (now t) k ⌝ }
     ensures { λ r. ⌜ EntryAs (now (t .entry)) k id r ⌝ }
 {
-    let mut i: usize = 0;
-    let mut left = k;
-    while 0 < left {
-        let y = id_at(t, false, 0, i);
-        if cmp_id(id, y) == 1 {
-            return Found { found: true, at: i };
+    let mut lo: usize = 0;
+    let mut hi = k as usize;
+    while lo < hi {
+        let m = lo + (hi - lo) / 2;
+        let y = id_at(t, false, 0, 68 * m);
+        let c = cmp_id(id, y);
+        if c == 1 {
+            return Found { found: true, at: m };
         }
-        i = i + 68;
-        left = left - 1;
+        if c == 0 {
+            hi = m;
+        } else {
+            lo = m + 1;
+        }
     }
     Found {
         found: false,
@@ -150,7 +155,8 @@ fn judge(fine: bool, f: Facts) -> u64
 }
 
 // The verdict on the record read at base, of the n records at `at`; t has k applied entries, ids m available ids.
-pub fn touched(
+// In one number: what, and four times the number of the applied entry.
+fn touched(
     s: &[u8],
     at: usize,
     n: u64,
@@ -161,31 +167,43 @@ pub fn touched(
     caught: bool,
     ids: &[u8],
     m: u64,
-) -> Verdict
-    requires { ⌜ (at ≤ length (now s)) × (whole (formC false recC) n (now s) at ≡ true) × SeenHere (now s) base x × (length (now t) ≡ k * 68) × IdsRise (now ids) m ⌝ }
+) -> u64
+    requires { ⌜ (at ≤ length (now s)) × (whole (formC false recC) n (now s) at ≡ true) × SeenHere (now s) base x × EntriesRise (now t) k × IdsRise (now ids) m ⌝ }
     ensures { λ r. ⌜ TouchIs (now (s .entry)) at n base x (now (t .entry)) k caught (idsAt (now (ids .entry)) m) r ⌝ }
 {
     let id = x.id;
     let f = x.facts;
     let e = find_entry(t, k, id);
     if e.found {
-        if confirmed(s, base, x, t, e.at) {
-            return Verdict { what: 0, at: 0 };
+        if confirmed(s, base, x, t, 68 * e.at) {
+            return 0;
         }
-        return Verdict { what: 1, at: e.at };
+        return e.at as u64 * 4 + 1;
     }
     if !both(caught, pending(f.state)) {
-        return Verdict { what: 0, at: 0 };
+        return 0;
     }
     let a = fine(s, at, n, base, x, ids, m);
-    Verdict {
-        what: judge(a, f),
-        at: 0,
-    }
+    judge(a, f)
 }
 
-// Does one of the n records at `at` change?
-pub fn any_touched(
+// A verdict from its number.
+pub fn verdict_of(t: &[u8], c: u64) -> Verdict
+    requires { ⌜ InEntry (now t) c ⌝ }
+    ensures { λ r. ⌜ r ≡ verdictOf c ⌝ }
+{
+    let what = c % 4;
+    if what == 1 {
+        return Verdict {
+            what: what,
+            at: 68 * (c / 4) as usize,
+        };
+    }
+    Verdict { what: what, at: 0 }
+}
+
+// The verdicts on the n records at `at`, to the front of vs.
+pub fn judge_all(
     s: &[u8],
     at: usize,
     n: u64,
@@ -194,20 +212,33 @@ pub fn any_touched(
     caught: bool,
     ids: &[u8],
     m: u64,
-) -> bool
-    requires { ⌜ (at ≤ length (now s)) × (whole (formC false recC) n (now s) at ≡ true) × (length (now t) ≡ k * 68) × IdsRise (now ids) m ⌝ }
-    ensures { λ r. ⌜ r ≡ any? (changes? caught (ownIds (idsAt (now (ids .entry)) m) (listAt (formC false recC) n (now (s .entry)) at)) (appliedIn (now (t .entry)) k)) (listAt (formC false recC) n (now (s .entry)) at) ⌝ }
+    vs: &mut [u64],
+)
+    requires { ⌜ (at ≤ length (now s)) × (whole (formC false recC) n (now s) at ≡ true) × EntriesRise (now t) k × IdsRise (now ids) m × (n ≤ length (now vs)) ⌝ }
+    ensures { λ _. ⌜ Judged (now (t .entry)) caught (ownIds (idsAt (now (ids .entry)) m) (listAt (formC false recC) n (now (s .entry)) at)) (appliedIn (now (t .entry)) k) (listAt (formC false recC) n (now (s .entry)) at) (take n (now (vs .exit))) ⌝ }
 {
     let mut i = at;
     let mut left = n;
+    let mut j: usize = 0;
     while 0 < left {
         let x = rec_at(s, false, i);
-        let v = touched(s, at, n, i, x, t, k, caught, ids, m);
-        if v.what != 0 {
-            return true;
-        }
+        vs[j] = touched(s, at, n, i, x, t, k, caught, ids, m);
         i = after_in(s, false, i, x.size);
         left = left - 1;
+        j += 1;
+    }
+}
+
+// Does a verdict change its record?
+pub fn any_touched(vs: &[u64]) -> bool
+    ensures { λ r. ⌜ r ≡ any? changed? (now (vs .entry)) ⌝ }
+{
+    let mut j: usize = 0;
+    while j < vs.len() {
+        if vs[j] % 4 != 0 {
+            return true;
+        }
+        j += 1;
     }
     false
 }

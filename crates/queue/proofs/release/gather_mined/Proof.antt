@@ -5,10 +5,9 @@ use Prim.Native.Nat.{ℕ, _≤_, _+_, _-_, _*_, _/_, _<_}
 use lib.Dec.{leb, ltb, eqb}
 use lib.ListN.{length, take, drop, getD}
 use borrow.Author.Tests.{not-true, not-false, eq-eqb, ne-eqb}
-use Rattle.queue.specs.Reopens.{idsAt}
 use Rattle.queue.proofs.SelectLaws.{even-self, even-to, added-to}
 use Rattle.queue.proofs.Turns.{seen}
-use Rattle.queue.proofs.ReleaseLaws.{Mining, mine-start, mine-seen, mine-room, mine-go, mine-end}
+use Rattle.queue.proofs.ReleaseLaws.{Mining, mine-start, verdict-within, all-at, mine-room, mine-go, mine-end}
 use borrow.Author.Needs.{needs}
 use Rattle.queue.proofs.release.gather_mined.Statement.{statement}
 use Rattle.queue.proofs.release.gather_mined.Tie as tie
@@ -19,43 +18,52 @@ use Rattle.queue.proofs.frame.rec_at.Reads as rec-at-reads
 use Rattle.queue.proofs.release.height_after.Reads as height-after-reads
 use Rattle.queue.proofs.release.mined_after.Reads as mined-after-reads
 use Rattle.queue.proofs.select.add_row.Reads as add-row-reads
-use Rattle.queue.proofs.touch.touched.Reads as touched-reads
+use Rattle.queue.proofs.touch.verdict_of.Reads as verdict-of-reads
 
 abbrev Inv-loop : tie.InvT-loop
-Inv-loop s at n t k caught ids m ranks₀ times₀ places₀ i₀ left₀ c₀ ranks times places i left c = Mining s at n t k caught (idsAt ids m) (length ranks₀) i left c ranks times places
+Inv-loop s at n t vs ranks₀ times₀ places₀ i₀ left₀ j₀ c₀ ranks times places i left j c = Mining s at n t vs (length ranks₀) i left j c ranks times places
 
 abbrev μ-loop : tie.MeasureT-loop
-μ-loop s at n t k caught ids m ranks₀ times₀ places₀ i₀ left₀ c₀ ranks times places i left c = left
+μ-loop s at n t vs ranks₀ times₀ places₀ i₀ left₀ j₀ c₀ ranks times places i left j c = left
 
 loop-holds : tie.Need-loop-holds Inv-loop μ-loop
-loop-holds c = mine-start _ _ _ _ _ _ _ (c .before .before .before .before .before .before .pre .0) (c .before .before .before .before .before .before .pre .1) (c .before .before .before .before .before .before .pre .4) (c .before .before .before .before .before .before .pre .5)
+loop-holds c = mine-start _ _ _ _ _ (c .before .before .before .before .before .before .pre .0) (c .before .before .before .before .before .before .pre .1) (c .before .before .before .before .before .before .pre .3) (c .before .before .before .before .before .before .pre .4)
 
 rec-at-requires : tie.Need-rec-at-requires Inv-loop μ-loop
 rec-at-requires c κs = search needs
 
-touched-requires : tie.Need-touched-requires Inv-loop μ-loop
-touched-requires c κs = (c .before .before .before .before .before .before .before .before .before .before .pre .0, c .before .before .before .before .before .before .before .before .before .before .pre .1, (_, mine-seen (c .before .before .before .loop .inv) (c .before .before .loop-test .taken) (c .before .rec-at .ensures)), c .before .before .before .before .before .before .before .before .before .before .pre .2, c .before .before .before .before .before .before .before .before .before .before .pre .3)
+mul-verdict-of : tie.Need-mul-verdict-of Inv-loop μ-loop
+mul-verdict-of c = search needs
+
+shared-slice-read-verdict-of : tie.Need-shared-slice-read-verdict-of Inv-loop μ-loop
+shared-slice-read-verdict-of c = omega (arith, c .before .before .before .before .loop .inv .count, c .before .before .before .before .before .before .before .before .before .before .before .pre .2 .0, c .before .before .before .loop-test .taken)
+
+verdict-of-requires : tie.Need-verdict-of-requires Inv-loop μ-loop
+verdict-of-requires c κs = all-at _ (c .before .before .before .before .before .before .before .before .before .before .before .args .vs .now) (c .before .before .before .before .loop .j) (c .before .before .before .before .before .before .before .before .before .before .before .pre .2 .1) (omega (arith, c .before .before .before .before .loop .inv .count, c .before .before .before .before .before .before .before .before .before .before .before .pre .2 .0, c .before .before .before .loop-test .taken))
 
 mined-after-requires : tie.Need-mined-after-requires Inv-loop μ-loop
 mined-after-requires c κs = search needs
 
 height-after-requires : tie.Need-height-after-requires Inv-loop μ-loop
-height-after-requires c κs = c .before .touched .ensures .within
+height-after-requires c κs = verdict-within (c .before .before .before .before .before .before .before .before .before .before .before .before .before .args .t .now) (getD (c .before .before .before .before .before .before .before .before .before .before .before .before .before .args .vs .now) (c .before .before .before .before .before .before .loop .j) 0) (c .before .verdict-of .ensures) (all-at _ (c .before .before .before .before .before .before .before .before .before .before .before .before .before .args .vs .now) (c .before .before .before .before .before .before .loop .j) (c .before .before .before .before .before .before .before .before .before .before .before .before .before .pre .2 .1) (omega (arith, c .before .before .before .before .before .before .loop .inv .count, c .before .before .before .before .before .before .before .before .before .before .before .before .before .pre .2 .0, c .before .before .before .before .before .loop-test .taken)))
 
 add-row-requires : tie.Need-add-row-requires Inv-loop μ-loop
-add-row-requires c κs = (even-self (c .before .before .before .before .before .before .before .before .before .loop .inv .even), λ e. omega (arith, mine-room (c .before .before .before .before .before .before .before .before .before .loop .inv) (c .before .before .before .before .before .before .before .before .loop-test .taken) (c .before .before .before .before .before .before .before .rec-at .ensures) (c .before .before .before .before .before .touched .ensures) (c .before .before .before .before .mined-after .ensures) e, c .before .before .before .before .before .before .before .before .before .loop .inv .few, c .before .before .before .before .before .before .before .before .before .loop .inv .even .ranks))
+add-row-requires c κs = (even-self (c .before .before .before .before .before .before .before .before .before .before .loop .inv .even), λ e. omega (arith, mine-room (c .before .before .before .before .before .before .before .before .before .before .loop .inv) (c .before .before .before .before .before .before .before .before .before .loop-test .taken) (c .before .before .before .before .before .before .before .before .rec-at .ensures) (c .before .before .before .before .before .verdict-of .ensures) (c .before .before .before .before .before .before .before .before .before .before .before .before .before .before .before .before .before .pre .2 .0) (c .before .before .before .before .before .before .before .before .before .before .before .before .before .before .before .before .before .pre .2 .1) (c .before .before .before .before .mined-after .ensures) e, c .before .before .before .before .before .before .before .before .before .before .loop .inv .few, c .before .before .before .before .before .before .before .before .before .before .loop .inv .even .ranks))
 
 after-in-requires : tie.Need-after-in-requires Inv-loop μ-loop
-after-in-requires c κs = seen false (c .before .before .before .before .before .before .before .before .before .before .before .before .before .before .before .before .loop .inv .scan) (c .before .before .before .before .before .before .before .before .before .before .before .before .before .before .before .loop-test .taken) (c .before .before .before .before .before .before .before .before .before .before .before .before .before .before .rec-at .ensures) .is .1 .within
+after-in-requires c κs = seen false (c .before .before .before .before .before .before .before .before .before .before .before .before .before .before .before .before .before .loop .inv .scan) (c .before .before .before .before .before .before .before .before .before .before .before .before .before .before .before .before .loop-test .taken) (c .before .before .before .before .before .before .before .before .before .before .before .before .before .before .before .rec-at .ensures) .is .1 .within
 
 sub-left : tie.Need-sub-left Inv-loop μ-loop
 sub-left c = search needs
+
+add-j : tie.Need-add-j Inv-loop μ-loop
+add-j c = omega (arith, c .before .before .before .before .before .before .before .before .before .before .before .before .before .before .before .before .before .before .loop .inv .count, c .before .before .before .before .before .before .before .before .before .before .before .before .before .before .before .before .before .before .before .before .before .before .before .before .before .pre .2 .0, c .before .before .before .before .before .before .before .before .before .before .before .before .before .before .before .before .before .loop-test .taken, c .before .before .before .before .before .before .before .before .before .before .before .before .before .before .before .before .before .before .before .before .before .before .before .before .before .good .0, c .before .before .before .before .before .before .before .before .before .before .before .before .before .before .before .before .before .before .before .before .before .before .before .before .before .good .1)
 
 loop-less : tie.Need-loop-less Inv-loop μ-loop
 loop-less c = search needs
 
 loop-again : tie.Need-loop-again Inv-loop μ-loop
-loop-again c = mine-go (c .before .before .before .before .before .before .before .before .before .before .before .before .before .before .before .before .before .loop .inv) (c .before .before .before .before .before .before .before .before .before .before .before .before .before .before .before .before .loop-test .taken) (c .before .before .before .before .before .before .before .before .before .before .before .before .before .before .before .rec-at .ensures) (c .before .before .before .before .before .before .before .before .before .before .before .before .before .touched .ensures) (c .before .before .before .before .before .before .before .before .before .before .before .before .mined-after .ensures) (c .before .before .before .before .before .before .before .before .before .before .before .height-after .ensures) (added-to (c .before .before .before .before .before .before .before .before .before .before .before .before .before .before .before .before .before .loop .inv .even) (c .before .before .before .before .before .before .before .add-row .ensures)) (c .after-in .ensures)
+loop-again c = mine-go (c .before .before .before .before .before .before .before .before .before .before .before .before .before .before .before .before .before .before .loop .inv) (c .before .before .before .before .before .before .before .before .before .before .before .before .before .before .before .before .before .loop-test .taken) (c .before .before .before .before .before .before .before .before .before .before .before .before .before .before .before .before .rec-at .ensures) (c .before .before .before .before .before .before .before .before .before .before .before .before .before .verdict-of .ensures) (c .before .before .before .before .before .before .before .before .before .before .before .before .before .before .before .before .before .before .before .before .before .before .before .before .before .pre .2 .0) (c .before .before .before .before .before .before .before .before .before .before .before .before .before .before .before .before .before .before .before .before .before .before .before .before .before .pre .2 .1) (c .before .before .before .before .before .before .before .before .before .before .before .before .mined-after .ensures) (c .before .before .before .before .before .before .before .before .before .before .before .height-after .ensures) (added-to (c .before .before .before .before .before .before .before .before .before .before .before .before .before .before .before .before .before .before .loop .inv .even) (c .before .before .before .before .before .before .before .add-row .ensures)) (c .after-in .ensures)
 
 same-length : tie.Need-same-length Inv-loop μ-loop
 same-length c = search needs
@@ -77,12 +85,15 @@ gather-mined-spec =
     μ-loop
     loop-holds
     rec-at-requires
-    touched-requires
+    mul-verdict-of
+    shared-slice-read-verdict-of
+    verdict-of-requires
     mined-after-requires
     height-after-requires
     add-row-requires
     after-in-requires
     sub-left
+    add-j
     loop-less
     loop-again
     same-length

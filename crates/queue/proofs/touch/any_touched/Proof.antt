@@ -1,57 +1,47 @@
 use mathlib.Core.Path.{_≡_, refl, sym, ap, _∙_}
 use native.Mathlib.Omega.{arith}
-use mathlib.Core.Bool.{Bool, true, false, _&&_, _||_}
-use Prim.Native.Nat.{ℕ, _≤_, _+_, _-_, _*_, _/_, _<_}
-use lib.Dec.{eqb}
-use borrow.Author.Tests.{not-true, not-false, eq-eqb, ne-eqb}
-use Rattle.queue.specs.Frames.{recC}
-use Rattle.queue.specs.Forms.{formC}
-use Rattle.queue.specs.Reads.{listAt}
-use Rattle.queue.specs.Reopens.{idsAt}
-use Rattle.queue.specs.Touching.{appliedIn, ownIds}
-use Rattle.queue.proofs.Turns.{Scan, start, seen}
-use Rattle.queue.proofs.TouchLaws.{changeF, change-seen, change-go, change-stop, change-end}
+use mathlib.Core.Bool.{Bool, true, false, not}
+use Prim.Native.Nat.{ℕ, _≤_, _+_, _-_, _*_, _/_, _%_, _<_}
+use lib.ListN.{length, take, drop, getD}
+use borrow.Author.Tests.{eq-eqb, ne-eqb}
+use Rattle.queue.specs.Touching.{changed?}
+use Rattle.queue.specs.paper.Lists.{any?}
+use Rattle.queue.proofs.RowLaws.{any-go, any-stop, any-end}
 use borrow.Author.Needs.{needs}
 use Rattle.queue.proofs.touch.any_touched.Statement.{statement}
 use Rattle.queue.proofs.touch.any_touched.Tie as tie
 use Rattle.queue.proofs.touch.any_touched.Reads as reads
 use Rattle.queue.proofs.touch.any_touched.Lts as lts
-use Rattle.queue.proofs.forms.after_in.Reads as after-in-reads
-use Rattle.queue.proofs.frame.rec_at.Reads as rec-at-reads
-use Rattle.queue.proofs.touch.touched.Reads as touched-reads
 
 abbrev Inv-loop : tie.InvT-loop
-Inv-loop s at n t k caught ids m i₀ left₀ i left = Scan (formC false recC) (changeF caught (ownIds (idsAt ids m) (listAt (formC false recC) n s at)) (appliedIn t k)) s n at tt i left tt
+Inv-loop vs j₀ j = any? changed? (drop j vs) ≡ any? changed? vs
 
 abbrev μ-loop : tie.MeasureT-loop
-μ-loop s at n t k caught ids m i₀ left₀ i left = left
+μ-loop vs j₀ j = length vs - j
 
 loop-holds : tie.Need-loop-holds Inv-loop μ-loop
-loop-holds c = start (formC false recC) _ _ _ _ _ (c .before .before .before .pre .0) (c .before .before .before .pre .1)
+loop-holds c = refl
 
-rec-at-requires : tie.Need-rec-at-requires Inv-loop μ-loop
-rec-at-requires c κs = search needs
+mul-if1 : tie.Need-mul-if1 Inv-loop μ-loop
+mul-if1 c = search needs
 
-touched-requires : tie.Need-touched-requires Inv-loop μ-loop
-touched-requires c κs = (c .before .before .before .before .before .before .pre .0, c .before .before .before .before .before .before .pre .1, (_, change-seen (c .before .before .before .before .before .before .args .t .now) (c .before .before .before .before .before .before .args .k) (c .before .before .before .before .before .before .args .caught) (idsAt (c .before .before .before .before .before .before .args .ids .now) (c .before .before .before .before .before .before .args .m)) (c .before .before .loop .inv) (c .before .loop-test .taken) (c .rec-at .ensures)), c .before .before .before .before .before .before .pre .2, c .before .before .before .before .before .before .pre .3)
+shared-slice-read-if1 : tie.Need-shared-slice-read-if1 Inv-loop μ-loop
+shared-slice-read-if1 c = search needs
 
 returns : tie.Need-returns Inv-loop μ-loop
-returns c = change-stop (c .before .before .before .before .before .before .before .before .before .args .t .now) (c .before .before .before .before .before .before .before .before .before .args .k) (c .before .before .before .before .before .before .before .before .before .args .caught) (idsAt (c .before .before .before .before .before .before .before .before .before .args .ids .now) (c .before .before .before .before .before .before .before .before .before .args .m)) (c .before .before .before .before .before .loop .inv) (c .before .before .before .before .loop-test .taken) (c .before .before .before .rec-at .ensures) (c .before .before .touched .ensures) (c .if1 .taken)
+returns c = any-stop changed? (c .before .before .before .before .args .vs .now) (c .before .before .before .loop .j) (c .before .before .before .loop .inv) (c .before .before .loop-test .taken) (sym (ap not (ne-eqb (getD (c .before .before .before .before .args .vs .now) (c .before .before .before .loop .j) 0 % 4) 0 (c .if1 .taken)))) refl
 
-after-in-requires : tie.Need-after-in-requires Inv-loop μ-loop
-after-in-requires c κs = seen false (c .before .before .before .before .before .loop .inv) (c .before .before .before .before .loop-test .taken) (c .before .before .before .rec-at .ensures) .is .1 .within
-
-sub-left : tie.Need-sub-left Inv-loop μ-loop
-sub-left c = search needs
+add-j : tie.Need-add-j Inv-loop μ-loop
+add-j c = search needs
 
 loop-less : tie.Need-loop-less Inv-loop μ-loop
 loop-less c = search needs
 
 loop-again : tie.Need-loop-again Inv-loop μ-loop
-loop-again c = change-go (c .before .before .before .before .before .before .before .before .before .before .args .t .now) (c .before .before .before .before .before .before .before .before .before .before .args .k) (c .before .before .before .before .before .before .before .before .before .before .args .caught) (idsAt (c .before .before .before .before .before .before .before .before .before .before .args .ids .now) (c .before .before .before .before .before .before .before .before .before .before .args .m)) (c .before .before .before .before .before .before .loop .inv) (c .before .before .before .before .before .loop-test .taken) (c .before .before .before .before .rec-at .ensures) (c .before .before .before .touched .ensures) (c .after-in .ensures) (c .before .if1 .left)
+loop-again c = any-go changed? (c .before .before .before .before .args .vs .now) (c .before .before .before .loop .j) (c .before .before .before .loop .inv) (c .before .before .loop-test .taken) (sym (ap not (eq-eqb (getD (c .before .before .before .before .args .vs .now) (c .before .before .before .loop .j) 0 % 4) 0 (c .if1 .left)))) refl
 
 returns-2 : tie.Need-returns-2 Inv-loop μ-loop
-returns-2 c = change-end (c .before .before .before .before .before .args .t .now) (c .before .before .before .before .before .args .k) (c .before .before .before .before .before .args .caught) (idsAt (c .before .before .before .before .before .args .ids .now) (c .before .before .before .before .before .args .m)) (c .before .loop .inv) (omega arith)
+returns-2 c = any-end changed? (c .before .before .args .vs .now) (c .before .loop .j) (c .before .loop .inv) (omega (arith, c .loop-test .left))
 
 pub any-touched-spec : {M : Type 1} → statement M
 any-touched-spec =
@@ -60,11 +50,10 @@ any-touched-spec =
     Inv-loop
     μ-loop
     loop-holds
-    rec-at-requires
-    touched-requires
+    mul-if1
+    shared-slice-read-if1
     returns
-    after-in-requires
-    sub-left
+    add-j
     loop-less
     loop-again
     returns-2)

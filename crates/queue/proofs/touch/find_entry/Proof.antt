@@ -1,11 +1,10 @@
 use mathlib.Core.Path.{_≡_, refl, sym, ap, _∙_}
 use native.Mathlib.Omega.{arith}
-use mathlib.Core.Bool.{Bool, true, false, _&&_, _||_}
 use Prim.Native.Nat.{ℕ, _≤_, _+_, _-_, _*_, _/_, _<_}
-use lib.Dec.{eqb}
-use borrow.Author.Tests.{not-true, not-false, eq-eqb, ne-eqb}
+use Rattle.queue.specs.Touching.{entryIds}
 use Rattle.queue.proofs.CallLaws.{view-long}
-use Rattle.queue.proofs.TouchLaws.{Looking, look-start, look-go, look-stop, look-end}
+use Rattle.queue.proofs.FindLaws.{Finding, finding}
+use Rattle.queue.proofs.TouchLaws.{entries-many, entry-room, entry-here, entry-low, entry-high, entry-end}
 use borrow.Author.Needs.{needs}
 use Rattle.queue.proofs.touch.find_entry.Statement.{statement}
 use Rattle.queue.proofs.touch.find_entry.Tie as tie
@@ -15,37 +14,49 @@ use Rattle.queue.proofs.view.cmp_id.Reads as cmp-id-reads
 use Rattle.queue.proofs.view.id_at.Reads as id-at-reads
 
 abbrev Inv-loop : tie.InvT-loop
-Inv-loop t k id i₀ left₀ i left = Looking t k id i left
+Inv-loop t k id lo₀ hi₀ lo hi = Finding id (entryIds t k) lo hi
 
 abbrev μ-loop : tie.MeasureT-loop
-μ-loop t k id i₀ left₀ i left = left
+μ-loop t k id lo₀ hi₀ lo hi = hi - lo
 
 loop-holds : tie.Need-loop-holds Inv-loop μ-loop
-loop-holds c = look-start _ _ _ (c .before .pre)
+loop-holds c = finding _ _ _ (entries-many (c .before .args .k) (c .before .args .t .now))
+
+sub-m : tie.Need-sub-m Inv-loop μ-loop
+sub-m c = search needs
+
+add-m : tie.Need-add-m Inv-loop μ-loop
+add-m c = omega (arith, entry-room (c .before .before .before .args .t .now) (c .before .before .before .args .k) (c .before .before .before .pre) (c .before .loop .inv) (c .before .loop .lo + (c .before .loop .hi - c .before .loop .lo) / 2) (omega arith), c .before .before .before .good .0)
+
+mul-id-at : tie.Need-mul-id-at Inv-loop μ-loop
+mul-id-at c = omega (arith, entry-room (c .before .before .before .args .t .now) (c .before .before .before .args .k) (c .before .before .before .pre) (c .before .loop .inv) (c .before .loop .lo + (c .before .loop .hi - c .before .loop .lo) / 2) (omega arith), c .before .before .before .good .0)
 
 id-at-requires : tie.Need-id-at-requires Inv-loop μ-loop
-id-at-requires c κs = omega (arith, view-long (c .before .before .before .args .t .now), c .before .loop .inv .within)
+id-at-requires c κs = omega (arith, entry-room (c .before .before .before .args .t .now) (c .before .before .before .args .k) (c .before .before .before .pre) (c .before .loop .inv) (c .before .loop .lo + (c .before .loop .hi - c .before .loop .lo) / 2) (omega arith), view-long (c .before .before .before .args .t .now))
 
 cmp-id-requires : tie.Need-cmp-id-requires Inv-loop μ-loop
 cmp-id-requires c κs = search needs
 
 returns : tie.Need-returns Inv-loop μ-loop
-returns c = look-stop (c .before .before .before .before .loop .inv) (c .before .before .before .loop-test .taken) (c .before .before .id-at .ensures) (sym (c .before .cmp-id .ensures) ∙ c .if1 .taken)
-
-add-i : tie.Need-add-i Inv-loop μ-loop
-add-i c = omega (arith, c .before .before .before .before .loop .inv .within, c .before .before .before .before .before .before .good .0)
-
-sub-left : tie.Need-sub-left Inv-loop μ-loop
-sub-left c = search needs
+returns c = entry-here (c .before .before .before .before .before .before .args .t .now) (c .before .before .before .before .before .before .args .k) (c .before .before .before .before .before .before .pre) (c .before .before .before .before .loop .inv) (c .before .before .before .before .loop .lo + (c .before .before .before .before .loop .hi - c .before .before .before .before .loop .lo) / 2) (omega arith) (c .before .before .id-at .ensures) (sym (c .before .cmp-id .ensures) ∙ c .if1 .taken)
 
 loop-less : tie.Need-loop-less Inv-loop μ-loop
 loop-less c = search needs
 
 loop-again : tie.Need-loop-again Inv-loop μ-loop
-loop-again c = look-go (c .before .before .before .before .loop .inv) (c .before .before .before .loop-test .taken) (c .before .before .id-at .ensures) (λ e. c .if1 .left (c .before .cmp-id .ensures ∙ e))
+loop-again c = entry-low (c .before .before .before .before .before .before .before .args .t .now) (c .before .before .before .before .before .before .before .args .k) (c .before .before .before .before .before .before .before .pre) (c .before .before .before .before .before .loop .inv) (c .before .before .before .before .before .loop .lo + (c .before .before .before .before .before .loop .hi - c .before .before .before .before .before .loop .lo) / 2) (omega arith) (c .before .before .before .id-at .ensures) (sym (c .before .before .cmp-id .ensures) ∙ c .if2 .taken)
+
+add-lo : tie.Need-add-lo Inv-loop μ-loop
+add-lo c = omega (arith, entry-room (c .before .before .before .before .before .before .before .args .t .now) (c .before .before .before .before .before .before .before .args .k) (c .before .before .before .before .before .before .before .pre) (c .before .before .before .before .before .loop .inv) (c .before .before .before .before .before .loop .lo + (c .before .before .before .before .before .loop .hi - c .before .before .before .before .before .loop .lo) / 2) (omega arith), c .before .before .before .before .before .before .before .good .0)
+
+loop-less-2 : tie.Need-loop-less-2 Inv-loop μ-loop
+loop-less-2 c = search needs
+
+loop-again-2 : tie.Need-loop-again-2 Inv-loop μ-loop
+loop-again-2 c = entry-high (c .before .before .before .before .before .before .before .args .t .now) (c .before .before .before .before .before .before .before .args .k) (c .before .before .before .before .before .before .before .pre) (c .before .before .before .before .before .loop .inv) (c .before .before .before .before .before .loop .lo + (c .before .before .before .before .before .loop .hi - c .before .before .before .before .before .loop .lo) / 2) (omega arith) (c .before .before .before .id-at .ensures) (λ e. c .if2 .left (c .before .before .cmp-id .ensures ∙ e)) (λ e. c .before .if1 .left (c .before .before .cmp-id .ensures ∙ e))
 
 returns-2 : tie.Need-returns-2 Inv-loop μ-loop
-returns-2 c = look-end (c .before .loop .inv) (omega arith)
+returns-2 c = entry-end (c .before .before .before .args .t .now) (c .before .before .before .args .k) (c .before .loop .inv) (c .loop-test .left)
 
 pub find-entry-spec : {M : Type 1} → statement M
 find-entry-spec =
@@ -54,11 +65,15 @@ find-entry-spec =
     Inv-loop
     μ-loop
     loop-holds
+    sub-m
+    add-m
+    mul-id-at
     id-at-requires
     cmp-id-requires
     returns
-    add-i
-    sub-left
     loop-less
     loop-again
+    add-lo
+    loop-less-2
+    loop-again-2
     returns-2)

@@ -21,14 +21,23 @@ use Rattle.queue.proofs.touch.judge.Reads as judge-reads
 find-entry-requires : tie.Need-find-entry-requires
 find-entry-requires c κs = c .before .before .before .before .before .pre .3
 
+mul-confirmed : tie.Need-mul-confirmed
+mul-confirmed c = omega (arith, c .before .before .find-entry .ensures .good (c .before .if1 .taken) .0, c .before .before .before .before .before .before .before .before .good .1)
+
 confirmed-requires : tie.Need-confirmed-requires
-confirmed-requires c κs = (c .before .before .before .before .before .before .before .pre .2, c .before .find-entry .ensures .good (c .if1 .taken) .0)
+confirmed-requires c κs = (c .before .before .before .before .before .before .before .before .pre .2, c .before .before .find-entry .ensures .good (c .before .if1 .taken) .0)
 
 returns : tie.Need-returns
-returns c = verdict-same (c .before .before .before .before .before .before .before .before .before .args .s .now) (c .before .before .before .before .before .before .before .before .before .args .at) (c .before .before .before .before .before .before .before .before .before .args .n) (c .before .before .before .before .before .before .before .before .before .args .base) (c .before .before .before .before .before .before .before .before .before .args .x) (c .before .before .before .before .before .before .before .before .before .args .t .now) (c .before .before .before .before .before .before .before .before .before .args .k) (c .before .before .before .before .before .before .before .before .before .args .caught) (idsAt (c .before .before .before .before .before .before .before .before .before .args .ids .now) (c .before .before .before .before .before .before .before .before .before .args .m)) (c .before .before .before .find-entry .ensures) (c .before .before .if1 .taken) (c .before .confirmed .ensures) (c .if2 .taken)
+returns c = verdict-same (c .before .before .before .before .before .before .before .before .before .before .args .s .now) (c .before .before .before .before .before .before .before .before .before .before .args .at) (c .before .before .before .before .before .before .before .before .before .before .args .n) (c .before .before .before .before .before .before .before .before .before .before .args .base) (c .before .before .before .before .before .before .before .before .before .before .args .x) (c .before .before .before .before .before .before .before .before .before .before .args .t .now) (c .before .before .before .before .before .before .before .before .before .before .args .k) (c .before .before .before .before .before .before .before .before .before .before .args .caught) (idsAt (c .before .before .before .before .before .before .before .before .before .before .args .ids .now) (c .before .before .before .before .before .before .before .before .before .before .args .m)) (c .before .before .before .before .find-entry .ensures) (c .before .before .before .if1 .taken) (c .before .confirmed .ensures) (c .if2 .taken)
+
+mul-result : tie.Need-mul-result
+mul-result c = omega (arith, c .before .before .before .before .find-entry .ensures .good (c .before .before .before .if1 .taken) .0, c .before .before .before .before .before .before .before .before .before .before .good .1)
+
+add-result : tie.Need-add-result
+add-result c = omega (arith, c .before .before .before .before .find-entry .ensures .good (c .before .before .before .if1 .taken) .0, c .before .before .before .before .before .before .before .before .before .before .good .1)
 
 returns-2 : tie.Need-returns-2
-returns-2 c = verdict-confirm (c .before .before .before .before .before .before .before .before .before .args .s .now) (c .before .before .before .before .before .before .before .before .before .args .at) (c .before .before .before .before .before .before .before .before .before .args .n) (c .before .before .before .before .before .before .before .before .before .args .base) (c .before .before .before .before .before .before .before .before .before .args .x) (c .before .before .before .before .before .before .before .before .before .args .t .now) (c .before .before .before .before .before .before .before .before .before .args .k) (c .before .before .before .before .before .before .before .before .before .args .caught) (idsAt (c .before .before .before .before .before .before .before .before .before .args .ids .now) (c .before .before .before .before .before .before .before .before .before .args .m)) (c .before .before .before .find-entry .ensures) (c .before .before .if1 .taken) (c .before .confirmed .ensures) (c .if2 .left)
+returns-2 c = verdict-confirm (c .before .before .before .before .before .before .before .before .before .before .args .s .now) (c .before .before .before .before .before .before .before .before .before .before .args .at) (c .before .before .before .before .before .before .before .before .before .before .args .n) (c .before .before .before .before .before .before .before .before .before .before .args .base) (c .before .before .before .before .before .before .before .before .before .before .args .x) (c .before .before .before .before .before .before .before .before .before .before .args .t .now) (c .before .before .before .before .before .before .before .before .before .before .args .k) (c .before .before .before .before .before .before .before .before .before .before .args .caught) (idsAt (c .before .before .before .before .before .before .before .before .before .before .args .ids .now) (c .before .before .before .before .before .before .before .before .before .before .args .m)) (c .before .before .before .before .find-entry .ensures) (c .before .before .before .if1 .taken) (c .before .confirmed .ensures) (c .if2 .left)
 
 pending-requires : tie.Need-pending-requires
 pending-requires c κs = search needs
@@ -53,8 +62,11 @@ touched-spec =
     tie.close
     (tie.spec
     find-entry-requires
+    mul-confirmed
     confirmed-requires
     returns
+    mul-result
+    add-result
     returns-2
     pending-requires
     both-requires

@@ -1,0 +1,81 @@
+use mathlib.Core.Path.{_≡_, refl, sym, ap, _∙_}
+use native.Mathlib.Omega.{arith}
+use Prim.Native.Nat.{ℕ, _≤_, _+_, _-_, _*_, _/_, _<_}
+use mathlib.Core.Bool.{true, false}
+use lib.ListN.{length}
+use Rattle.queue.specs.Frames.{recC}
+use Rattle.queue.specs.Forms.{formC}
+use Rattle.queue.specs.Reads.{listAt}
+use Rattle.queue.specs.Reopens.{idsAt}
+use Rattle.queue.specs.Touching.{appliedIn, ownIds}
+use Rattle.queue.proofs.Turns.{seen}
+use Rattle.queue.proofs.TouchLaws.{Judging, judging, judge-seen, judge-go, judge-end}
+use borrow.Author.Needs.{needs}
+use Rattle.queue.proofs.touch.judge_all.Statement.{statement}
+use Rattle.queue.proofs.touch.judge_all.Tie as tie
+use Rattle.queue.proofs.touch.judge_all.Reads as reads
+use Rattle.queue.proofs.touch.judge_all.Lts as lts
+use Rattle.queue.proofs.forms.after_in.Reads as after-in-reads
+use Rattle.queue.proofs.frame.rec_at.Reads as rec-at-reads
+use Rattle.queue.proofs.touch.touched.Reads as touched-reads
+
+abbrev Inv-loop : tie.InvT-loop
+Inv-loop s at n t k caught ids m vs₀ i₀ left₀ j₀ vs i left j = Judging t caught (ownIds (idsAt ids m) (listAt (formC false recC) n s at)) (appliedIn t k) s n at (length vs₀) i left j vs
+
+abbrev μ-loop : tie.MeasureT-loop
+μ-loop s at n t k caught ids m vs₀ i₀ left₀ j₀ vs i left j = left
+
+loop-holds : tie.Need-loop-holds Inv-loop μ-loop
+loop-holds c = judging _ _ _ _ _ _ _ _ (c .before .before .before .before .pre .0) (c .before .before .before .before .pre .1)
+
+rec-at-requires : tie.Need-rec-at-requires Inv-loop μ-loop
+rec-at-requires c κs = search needs
+
+touched-requires : tie.Need-touched-requires Inv-loop μ-loop
+touched-requires c κs = (c .before .before .before .before .before .before .before .pre .0, c .before .before .before .before .before .before .before .pre .1, (_, judge-seen (c .before .before .before .before .before .before .before .args .k) (idsAt (c .before .before .before .before .before .before .before .args .ids .now) (c .before .before .before .before .before .before .before .args .m)) (c .before .before .loop .inv) (c .before .loop-test .taken) (c .rec-at .ensures)), c .before .before .before .before .before .before .before .pre .2, c .before .before .before .before .before .before .before .pre .3)
+
+mul-vs : tie.Need-mul-vs Inv-loop μ-loop
+mul-vs c = let h : c .before .before .before .loop .j < length (c .before .before .before .loop .vs) = omega (arith, c .before .before .before .loop .inv .count, c .before .before .before .loop .inv .long, c .before .before .before .before .before .before .before .before .pre .4, c .before .before .loop-test .taken) in let g = c .before .before .before .before .before .before .before .before .good in record { fits = omega (arith, c .before .before .before .loop .inv .long) }
+
+slice-write-vs : tie.Need-slice-write-vs Inv-loop μ-loop
+slice-write-vs c = omega (arith, c .before .before .before .loop .inv .count, c .before .before .before .loop .inv .long, c .before .before .before .before .before .before .before .before .pre .4, c .before .before .loop-test .taken)
+
+after-in-requires : tie.Need-after-in-requires Inv-loop μ-loop
+after-in-requires c κs = seen false (c .before .before .before .loop .inv .scan) (c .before .before .loop-test .taken) (c .before .rec-at .ensures) .is .1 .within
+
+sub-left : tie.Need-sub-left Inv-loop μ-loop
+sub-left c = search needs
+
+add-j : tie.Need-add-j Inv-loop μ-loop
+add-j c = omega (arith, c .before .before .before .before .loop .inv .count, c .before .before .before .loop-test .taken, c .before .before .before .before .before .before .before .before .before .pre .4, c .before .before .before .before .before .before .before .before .before .good .0)
+
+loop-less : tie.Need-loop-less Inv-loop μ-loop
+loop-less c = search needs
+
+loop-again : tie.Need-loop-again Inv-loop μ-loop
+loop-again c = judge-go (c .before .before .before .before .before .before .before .before .before .args .k) (idsAt (c .before .before .before .before .before .before .before .before .before .args .ids .now) (c .before .before .before .before .before .before .before .before .before .args .m)) (c .before .before .before .before .loop .inv) (c .before .before .before .loop-test .taken) (c .before .before .rec-at .ensures) (c .before .before .before .before .before .before .before .before .before .pre .4) (c .before .touched .ensures) (c .after-in .ensures)
+
+same-length : tie.Need-same-length Inv-loop μ-loop
+same-length c = search needs
+
+returns : tie.Need-returns Inv-loop μ-loop
+returns c = judge-end (c .before .before .before .before .before .before .args .k) (idsAt (c .before .before .before .before .before .before .args .ids .now) (c .before .before .before .before .before .before .args .m)) (c .before .loop .inv) (omega arith)
+
+pub judge-all-spec : {M : Type 1} → statement M
+judge-all-spec =
+    tie.close
+    (tie.spec
+    Inv-loop
+    μ-loop
+    loop-holds
+    rec-at-requires
+    touched-requires
+    mul-vs
+    slice-write-vs
+    after-in-requires
+    sub-left
+    add-j
+    loop-less
+    loop-again
+    same-length
+    returns)
