@@ -173,7 +173,7 @@ pub data Call : Type 0 where
   reopening : Bytes → Call
   settingCursor : ℕ → ℕ → Bytes → Call
 
--- 5
+-- 5: "id not 32 bytes; list not whole; applied, available or reopening ids not strictly rising; flag .. not listed"
 abbrev pub shape? : Call → Bool
 shape? (admitting a) =
     (id? (a .id) && (whole? 32 (a .inputs) && whole? 32 (a .outputs)))
