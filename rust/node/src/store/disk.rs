@@ -180,6 +180,15 @@ impl Disk {
         }
     }
 
+    /// Puts a file there that is not synced.
+    pub fn copy_to(&self, path: &Path, text: &[u8]) {
+        let mut state = self.0.borrow_mut();
+        let directory = state.find(path.parent().expect("a folder")).expect("it is");
+        let name = path.file_name().expect("a name");
+        let inode = state.add(directory, name, Node::File(File::default()));
+        state.write(&mut Handle { inode, at: 0 }, text);
+    }
+
     /// All disks that a power cut may leave.
     pub fn cuts(&self) -> Vec<Disk> {
         let mut left = Vec::new();

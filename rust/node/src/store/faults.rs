@@ -581,6 +581,19 @@ fn what_was_opened_is_durable() {
     assert!(!old_is_left(&disk), "after opening");
 }
 
+/// An image that was brought back from elsewhere and is not synced yet.
+#[test]
+fn an_image_that_was_copied_there_is_durable_once_opened() {
+    let (unit, call) = unit_and_call();
+    let (_, next) = call.expected(&unit.machine.queue).expect("not refused");
+    let disk = unit.disk.copy();
+    disk.copy_to(Path::new(PATH), &image::encode(&next));
+    let is_lost = |disk: &Disk| disk.cuts().iter().any(|cut| stands(cut) != stands(&disk));
+    assert!(is_lost(&disk), "before opening");
+    unit.machine.opened(&disk);
+    assert!(!is_lost(&disk), "after opening");
+}
+
 #[test]
 fn a_directory_that_does_not_sync_is_a_warning() {
     let (mut unit, call) = unit_and_call();
