@@ -461,6 +461,10 @@ impl System for Disk {
         })
     }
 
+    fn unlock(&self, file: &Handle) {
+        self.0.borrow_mut().locked.remove(&file.inode);
+    }
+
     fn read(&self, file: &mut Handle, into: &mut [u8]) -> io::Result<usize> {
         let length = match self.fault("read") {
             None | Some(Fault::Half | Fault::StopHalf) => into.len(),

@@ -207,6 +207,14 @@ struct Files<S: System> {
     is_unknown: bool,
 }
 
+/// The lock is given up at once, also where a child process that is about to start still has the
+/// file.
+impl<S: System> Drop for Files<S> {
+    fn drop(&mut self) {
+        self.folder.system.unlock(&self.lock);
+    }
+}
+
 impl<S: System> Files<S> {
     /// Takes the lock.
     fn hold(
@@ -513,5 +521,24 @@ impl<S: System<Directory: Clone, File: Clone>> Store<S> {
             },
             queue: self.queue.clone(),
         }
+    }
+}
+
+#[cfg(test)]
+mod tests {
+    use super::super::system::Os;
+    use super::*;
+
+    #[test]
+    fn a_lock_is_given_up_though_a_child_has_the_file() {
+        let folder = std::env::temp_dir().join(format!("pokerbox-lock-{}", std::process::id()));
+        let limits = Limits::new(1, 1, 1, 1).expect("limits in range");
+        let store = Store::create(Os, &folder.join("image"), limits).expect("it can be made");
+        // A child has it like this until it has started.
+        let childs = store.files.lock.try_clone().expect("another handle");
+        drop(store);
+        Store::open(Os, &folder.join("image"), limits).expect("it opens");
+        drop(childs);
+        std::fs::remove_dir_all(folder).expect("removed");
     }
 }

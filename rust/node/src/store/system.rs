@@ -48,6 +48,8 @@ pub(crate) trait System {
     fn open(&self, directory: &Self::Directory, name: &OsStr, mode: Mode)
         -> io::Result<Self::File>;
     fn try_lock(&self, file: &Self::File) -> Result<(), TryLockError>;
+    /// Gives up the lock, whoever else has the file open.
+    fn unlock(&self, file: &Self::File);
     fn read(&self, file: &mut Self::File, into: &mut [u8]) -> io::Result<usize>;
     fn write(&self, file: &mut Self::File, bytes: &[u8]) -> io::Result<usize>;
     fn sync(&self, file: &Self::File) -> io::Result<()>;
@@ -139,6 +141,10 @@ impl System for Os {
 
     fn try_lock(&self, file: &File) -> Result<(), TryLockError> {
         file.try_lock()
+    }
+
+    fn unlock(&self, file: &File) {
+        let _ = file.unlock();
     }
 
     fn read(&self, file: &mut File, into: &mut [u8]) -> io::Result<usize> {
