@@ -290,9 +290,11 @@ fn a_removed_lock_file_stops_the_store() {
     let mut store = card.open().unwrap();
     fs::remove_file(card.lock()).unwrap();
     let other = card.open().unwrap();
+    fs::write(card.second(), "half-written").unwrap();
     let failed = store.cancel(ID).unwrap_err();
     assert_eq!(failed.refusal(), Some(Error::WriteFailed));
     assert_eq!(card.stored(), image::encode(&queued()));
+    assert_eq!(fs::read(card.second()).unwrap(), b"half-written");
     drop(other);
 }
 

@@ -25,6 +25,8 @@ const ROOT: Inode = 0;
 pub enum Fault {
     /// It has no effect and reports an error.
     Fail,
+    /// The same, since the disk is full.
+    Full,
     /// It has its effect, and yet reports an error.
     FailAfter,
     /// Half of the bytes are written or read, without an error.
@@ -40,8 +42,9 @@ pub enum Fault {
 }
 
 impl Fault {
-    pub const ALL: [Fault; 7] = [
+    pub const ALL: [Fault; 8] = [
         Fault::Fail,
+        Fault::Full,
         Fault::FailAfter,
         Fault::Short,
         Fault::Half,
@@ -53,6 +56,7 @@ impl Fault {
     /// Whether it is a fault of its own at this call.
     pub fn fits(self, call: &str) -> bool {
         match self {
+            Fault::Full => matches!(call, "open" | "write" | "make_directory"),
             Fault::Short => matches!(call, "read" | "write"),
             Fault::Half | Fault::StopHalf => call == "write",
             _ => true,
@@ -220,6 +224,7 @@ impl Disk {
                 effect(&mut self.0.borrow_mut())
             }
             Some(Fault::Fail | Fault::Stop) => Err(fault()),
+            Some(Fault::Full) => Err(io::ErrorKind::StorageFull.into()),
             Some(Fault::FailAfter | Fault::StopAfter) => {
                 let _ = effect(&mut self.0.borrow_mut());
                 Err(fault())
@@ -484,7 +489,7 @@ impl System for Disk {
         let length = match happened {
             None | Some(Fault::FailAfter | Fault::StopAfter) => bytes.len(),
             Some(Fault::Short | Fault::Half | Fault::StopHalf) => bytes.len().div_ceil(2),
-            Some(Fault::Fail | Fault::Stop) => return Err(fault()),
+            Some(Fault::Fail | Fault::Full | Fault::Stop) => return Err(fault()),
         };
         self.0.borrow_mut().write(file, &bytes[..length]);
         match happened {

@@ -638,6 +638,18 @@ fn a_store_whose_write_may_have_happened_takes_no_more() {
     }
 }
 
+/// A full card is opened all the same.
+#[test]
+fn a_full_disk_can_be_opened() {
+    let unit = unit_and_call().0;
+    let dry = unit.disk.copy();
+    open(&dry, &unit.machine.limits).expect("no fault");
+    let last = dry.calls().iter().rposition(|name| *name == "open");
+    let disk = unit.disk.copy();
+    disk.set_fault(last.expect("the second file"), Fault::Full);
+    open(&disk, &unit.machine.limits).expect("it opens");
+}
+
 #[test]
 fn a_file_system_without_locks_is_a_warning() {
     let limits = unit_and_call().0.machine.limits;

@@ -72,6 +72,14 @@ fn not_a_file() -> io::Error {
     io::Error::other("it is not a regular file: move it away")
 }
 
+/// The regular file that stands there; an error where anything else does.
+fn found_file(status: io::Result<Status>) -> io::Result<Option<Status>> {
+    match found(status)? {
+        Some(status) if !status.is_file => Err(not_a_file()),
+        status => Ok(status),
+    }
+}
+
 /// A directory that is kept open.
 struct Folder<S: System> {
     system: S,
@@ -99,17 +107,12 @@ impl<S: System> Folder<S> {
         StoreError::NoStore(self.place.image())
     }
 
-    /// The regular file at a name; an error where anything else stands.
-    fn file_at(&self, name: &OsStr) -> io::Result<Option<Status>> {
-        match found(self.system.status_in(&self.directory, name))? {
-            Some(status) if !status.is_file => Err(not_a_file()),
-            status => Ok(status),
-        }
+    fn file_at(&self, name: &OsStr) -> Result<Option<Status>, StoreError> {
+        found_file(self.system.status_in(&self.directory, name)).map_err(self.place.unusable(name))
     }
 
     fn has(&self, name: &OsStr) -> Result<bool, StoreError> {
-        let status = self.file_at(name).map_err(self.place.unusable(name))?;
-        Ok(status.is_some())
+        Ok(self.file_at(name)?.is_some())
     }
 
     /// The stored image, all of it, and its file; nothing where there is none. What can be no
@@ -232,9 +235,10 @@ impl<S: System> Files<S> {
             }
         }
         // A lock file that was removed meanwhile locks nothing.
-        let unusable = folder.place.unusable(&folder.place.lock);
-        let mark = folder.system.status_of(&lock).map_err(&unusable)?.identity;
-        let stands = folder.file_at(&folder.place.lock).map_err(&unusable)?;
+        let name = &folder.place.lock;
+        let status = folder.system.status_of(&lock);
+        let mark = status.map_err(folder.place.unusable(name))?.identity;
+        let stands = folder.file_at(name)?;
         if stands.map(|status| status.identity) != Some(mark) {
             return Err(in_use());
         }
@@ -293,10 +297,11 @@ impl<S: System> Files<S> {
         system
             .sync(&self.lock)
             .map_err(place.unusable(&place.lock))?;
-        folder
-            .create_second()
-            .and_then(|_| folder.remove_second())
-            .map_err(place.unusable(&place.second))?;
+        match folder.create_second().and_then(|_| folder.remove_second()) {
+            // A full card can be read, and its writes fail one by one.
+            Err(error) if error.kind() == io::ErrorKind::StorageFull => {}
+            made => made.map_err(place.unusable(&place.second))?,
+        }
         self.sync_directory();
         Ok(())
     }
@@ -315,6 +320,10 @@ impl<S: System> Files<S> {
     /// Puts an image in place of the stored one: the second file is filled, synced and renamed over
     /// the first, and the directory is synced.
     fn replace(&mut self, image: &[u8]) -> Written {
+        if let Err(error) = self.check_place() {
+            // What stands there now may be another store's.
+            return Written::Failed(error);
+        }
         let second = match self.fill_second(image) {
             Ok(second) => second,
             Err(error) => return self.failed(error),
@@ -344,7 +353,6 @@ impl<S: System> Files<S> {
     }
 
     fn fill_second(&self, image: &[u8]) -> io::Result<S::File> {
-        self.check_place()?;
         let mut second = self.folder.create_second()?;
         self.folder.write_all(&mut second, image)?;
         self.folder.system.sync(&second)?;
@@ -364,7 +372,8 @@ impl<S: System> Files<S> {
                 return Err(io::Error::other(text));
             }
         }
-        self.folder.file_at(&place.image).map(drop)
+        // By the path, too, which is the shorter way.
+        found_file(self.folder.system.status_at(&place.image())).map(drop)
     }
 
     /// After a rename that reported an error: whether it happened.
