@@ -22,11 +22,9 @@ fn main() -> Result<(), Box<dyn std::error::Error>> {
     })?;
 
     // What the template builder takes, best first.
-    for id in store
-        .queue()
-        .selection_entries_at(TimeMs(1_000), Height(100))?
-    {
-        let signed: &[u8] = store.queue().signed_bytes(id)?;
+    let queue = store.queue();
+    for id in queue.selection_entries_at(TimeMs(1_000), Height(100))? {
+        let signed: &[u8] = queue.signed_bytes(id)?;
         println!("{id}: {} signed bytes", signed.len());
     }
 

@@ -8,6 +8,7 @@
 //! later syncs succeed.
 
 use std::cell::RefCell;
+use std::cmp::Ordering;
 use std::collections::{BTreeMap, BTreeSet};
 use std::ffi::{OsStr, OsString};
 use std::fs::TryLockError;
@@ -110,7 +111,7 @@ struct State {
     nodes: Vec<Node>,
     locked: BTreeSet<Inode>,
     calls: Vec<&'static str>,
-    fault: Option<(usize, Fault)>,
+    faults: Vec<(usize, Fault)>,
 }
 
 /// Clones share the disk.
@@ -141,7 +142,7 @@ impl Disk {
             nodes,
             locked: BTreeSet::new(),
             calls: Vec::new(),
-            fault: None,
+            faults: Vec::new(),
         })))
     }
 
@@ -157,20 +158,14 @@ impl Disk {
         copy
     }
 
-    /// Makes the call with this number fail, counted from now on.
-    pub fn set_fault(&self, call: usize, fault: Fault) {
+    /// Makes the calls with these numbers fail, counted from now on, and no others.
+    pub fn set_faults(&self, faults: &[(usize, Fault)]) {
         let mut state = self.0.borrow_mut();
         state.calls.clear();
-        state.fault = Some((call, fault));
+        state.faults = faults.to_vec();
     }
 
-    pub fn clear_fault(&self) {
-        let mut state = self.0.borrow_mut();
-        state.calls.clear();
-        state.fault = None;
-    }
-
-    /// The calls since the last fault was set or cleared.
+    /// The calls since faults were set last.
     pub fn calls(&self) -> Vec<&'static str> {
         self.0.borrow().calls.clone()
     }
@@ -206,11 +201,12 @@ impl Disk {
         let mut state = self.0.borrow_mut();
         let call = state.calls.len();
         state.calls.push(name);
-        match state.fault {
-            Some((at, fault)) if at == call => Some(fault),
-            Some((at, fault)) if at < call && fault.is_stop() => Some(Fault::Stop),
+        let set = |(at, fault): &(usize, Fault)| match at.cmp(&call) {
+            Ordering::Equal => Some(*fault),
+            Ordering::Less if fault.is_stop() => Some(Fault::Stop),
             _ => None,
-        }
+        };
+        state.faults.iter().find_map(set)
     }
 
     /// A call with an effect that is whole or none.

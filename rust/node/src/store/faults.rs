@@ -18,6 +18,8 @@ use crate::{Admission, Reconciliation};
 const PATH: &str = "/card/queue/image";
 /// Of each so many commits one is cut short, and opened with every fault.
 const COMMITS_AN_OPENING: usize = 5;
+/// Of a pair of faults the second is at most so many calls after the first.
+const MOST_AFTER: usize = 5;
 /// The length of a list of calls.
 const STEPS: usize = 20;
 
@@ -301,15 +303,12 @@ impl Unit {
         }
     }
 
-    /// Makes a call whose write is due, with or without a fault, and compares what is told with
+    /// Makes a call whose write is due, with or without faults, and compares what is told with
     /// what is stored.
-    fn commit(&mut self, call: &Call, fault: Option<(usize, Fault)>) -> Result<(), StoreError> {
+    fn commit(&mut self, call: &Call, faults: &[(usize, Fault)]) -> Result<(), StoreError> {
         let (kind, next) = call.expected(&self.machine.queue).expect("not refused");
         let (old, new) = (self.machine.stored.clone(), Some(image::encode(&next)));
-        match fault {
-            Some((at, fault)) => self.disk.set_fault(at, fault),
-            None => self.disk.clear_fault(),
-        }
+        self.disk.set_faults(faults);
         let told = call.make(&mut self.store);
         let stands = stands(&self.disk);
         let warned = is_warned(&mut self.store);
@@ -335,27 +334,42 @@ impl Unit {
     /// The calls of this commit, made apart.
     fn calls(&self, call: &Call) -> Vec<&'static str> {
         let mut unit = self.fork();
-        unit.commit(call, None).expect("no fault");
+        unit.commit(call, &[]).expect("no fault");
         unit.machine.check_cuts(&unit.disk);
         unit.disk.calls()
     }
 
-    fn try_commit(&self, call: &Call, tried: &mut Tried) {
+    /// Every fault at every call; and for one of the calls, with each fault after it at one of the
+    /// calls that follow.
+    fn try_commit(&self, rng: &mut Rng, call: &Call, tried: &mut Tried) {
         tried.commits += 1;
-        for (at, name) in self.calls(call).into_iter().enumerate() {
+        let calls = self.calls(call);
+        for (at, name) in calls.iter().enumerate() {
             for fault in Fault::ALL.into_iter().filter(|fault| fault.fits(name)) {
-                tried.faults_of_commits += 1;
-                let case = format!("{fault:?} at call {at}, {name}, of {call:?}");
-                let told = said_on_panic(&case, || self.fork().try_fault(call, at, fault));
-                tried.count(told);
+                self.try_faults(call, &[(at, fault)], tried);
+            }
+        }
+        let at = rng.below(calls.len());
+        for first in [Fault::Fail, Fault::FailAfter] {
+            for next in at + 1..at + 1 + MOST_AFTER {
+                for second in [Fault::Fail, Fault::FailAfter, Fault::Stop, Fault::StopAfter] {
+                    self.try_faults(call, &[(at, first), (next, second)], tried);
+                }
             }
         }
     }
 
+    fn try_faults(&self, call: &Call, faults: &[(usize, Fault)], tried: &mut Tried) {
+        tried.faults_of_commits += 1;
+        let case = format!("{faults:?} in the commit of {call:?}");
+        let told = said_on_panic(&case, || self.fork().try_commit_with(call, faults));
+        tried.count(told);
+    }
+
     /// Gives what was told.
-    fn try_fault(mut self, call: &Call, at: usize, fault: Fault) -> &'static str {
+    fn try_commit_with(mut self, call: &Call, faults: &[(usize, Fault)]) -> &'static str {
         let before = self.machine.clone();
-        let told = self.commit(call, Some((at, fault)));
+        let told = self.commit(call, faults);
         self.machine.check_cuts(&self.disk);
         let word = match &told {
             Ok(()) if self.machine.left.len() > 1 => "kept with a warning",
@@ -363,7 +377,7 @@ impl Unit {
             Err(StoreError::WriteFailed(_)) => "failed",
             Err(_) => "unknown",
         };
-        if fault.is_stop() {
+        if faults.iter().any(|(_, fault)| fault.is_stop()) {
             Unit::killed(before, &self.disk);
         } else {
             self.go_on(call, told);
@@ -395,13 +409,13 @@ impl Unit {
         match told {
             Ok(()) => {}
             Err(StoreError::OutcomeUnknown(_)) => {
-                self.disk.clear_fault();
+                self.disk.set_faults(&[]);
                 let again = call.make(&mut self.store);
                 assert!(matches!(again, Err(StoreError::OutcomeUnknown(_))));
                 self.machine.opened(&self.disk.copy());
             }
             Err(_) if self.is_due(call) => {
-                self.commit(call, None).expect("no fault");
+                self.commit(call, &[]).expect("no fault");
                 self.machine.check_cuts(&self.disk);
             }
             Err(_) => {}
@@ -421,12 +435,12 @@ impl Unit {
         if rng.below(3) > 0 || !fault.fits(calls[at]) {
             // Often the directory does not sync.
             let fault = rng.once_in(4).then_some((calls.len() - 1, Fault::Fail));
-            unit.commit(call, fault).expect("kept");
+            unit.commit(call, fault.as_slice()).expect("kept");
             return unit;
         }
         let before = unit.machine.clone();
-        let told = unit.commit(call, Some((at, fault)));
-        unit.disk.clear_fault();
+        let told = unit.commit(call, &[(at, fault)]);
+        unit.disk.set_faults(&[]);
         if fault.is_stop() || matches!(told, Err(StoreError::OutcomeUnknown(_))) {
             return Unit::killed(before, &unit.disk);
         }
@@ -438,7 +452,7 @@ impl Unit {
         let calls = self.calls(call);
         let mut unit = self.fork();
         let mut machine = unit.machine.clone();
-        let _ = unit.commit(call, Some((rng.below(calls.len()), Fault::StopAfter)));
+        let _ = unit.commit(call, &[(rng.below(calls.len()), Fault::StopAfter)]);
         let found = stands(&unit.disk);
         if found != machine.stored {
             machine.put(found, true);
@@ -462,9 +476,9 @@ impl Machine {
     /// Opens with a fault. An error takes nothing away, and the next opening succeeds. Gives what
     /// was told.
     fn try_open(mut self, disk: Disk, at: usize, fault: Fault) -> &'static str {
-        disk.set_fault(at, fault);
+        disk.set_faults(&[(at, fault)]);
         let told = open(&disk, &self.limits);
-        disk.clear_fault();
+        disk.set_faults(&[]);
         assert!(stands(&disk) == self.stored, "opening changed the image");
         let word = match told {
             Ok(mut store) => {
@@ -519,7 +533,7 @@ fn every_fault_of_commits_and_openings() {
                 assert!(unit.machine.is_queue_of(&unit.store), "{call:?}");
                 continue;
             }
-            unit.try_commit(&call, &mut tried);
+            unit.try_commit(&mut rng, &call, &mut tried);
             if tried.commits % COMMITS_AN_OPENING == 0 {
                 unit.try_opening(&mut rng, &call, &mut tried);
             }
@@ -572,7 +586,7 @@ fn a_commit_syncs_the_file_and_the_directory() {
 fn what_was_opened_is_durable() {
     let (mut unit, call) = unit_and_call();
     let rename = nth(&unit, &call, "rename");
-    let _ = unit.commit(&call, Some((rename, Fault::StopAfter)));
+    let _ = unit.commit(&call, &[(rename, Fault::StopAfter)]);
     let disk = unit.disk.copy();
     let old_is_left = |disk: &Disk| disk.cuts().iter().any(|cut| stands(cut).is_none());
     assert!(old_is_left(&disk), "before opening");
@@ -598,14 +612,14 @@ fn an_image_that_was_copied_there_is_durable_once_opened() {
 fn a_directory_that_does_not_sync_is_a_warning() {
     let (mut unit, call) = unit_and_call();
     let sync = nth(&unit, &call, "sync_directory");
-    unit.disk.set_fault(sync, Fault::Fail);
+    unit.disk.set_faults(&[(sync, Fault::Fail)]);
     call.make(&mut unit.store).expect("kept");
     assert!(is_warned(&mut unit.store));
     assert!(unit.store.take_warnings().is_empty(), "told once");
     // So it is at an opening, whose last call is that sync.
     let (disk, dry) = (unit.disk.copy(), unit.disk.copy());
     open(&dry, &unit.machine.limits).expect("no fault");
-    disk.set_fault(dry.calls().len() - 1, Fault::Fail);
+    disk.set_faults(&[(dry.calls().len() - 1, Fault::Fail)]);
     let mut opened = open(&disk, &unit.machine.limits).expect("it opens");
     assert!(is_warned(&mut opened));
 }
@@ -614,7 +628,7 @@ fn a_directory_that_does_not_sync_is_a_warning() {
 fn a_rename_that_happened_and_reports_an_error_is_kept() {
     let (mut unit, call) = unit_and_call();
     let rename = nth(&unit, &call, "rename");
-    unit.disk.set_fault(rename, Fault::FailAfter);
+    unit.disk.set_faults(&[(rename, Fault::FailAfter)]);
     call.make(&mut unit.store).expect("kept");
     let warnings = unit.store.take_warnings();
     assert!(matches!(warnings[..], [Warning::RenameReported(_)]));
@@ -626,10 +640,10 @@ fn a_store_whose_write_may_have_happened_takes_no_more() {
     for fault in [Fault::Stop, Fault::StopAfter] {
         let (mut unit, call) = unit_and_call();
         let rename = nth(&unit, &call, "rename");
-        let told = unit.commit(&call, Some((rename, fault)));
+        let told = unit.commit(&call, &[(rename, fault)]);
         assert!(matches!(told, Err(StoreError::OutcomeUnknown(_))));
         assert_eq!(told.unwrap_err().refusal(), None);
-        unit.disk.clear_fault();
+        unit.disk.set_faults(&[]);
         for call in [call, Call::SetCursor(model::Height(3))] {
             let again = call.make(&mut unit.store);
             assert!(matches!(again, Err(StoreError::OutcomeUnknown(_))));
@@ -646,7 +660,7 @@ fn a_full_disk_can_be_opened() {
     open(&dry, &unit.machine.limits).expect("no fault");
     let last = dry.calls().iter().rposition(|name| *name == "open");
     let disk = unit.disk.copy();
-    disk.set_fault(last.expect("the second file"), Fault::Full);
+    disk.set_faults(&[(last.expect("the second file"), Fault::Full)]);
     open(&disk, &unit.machine.limits).expect("it opens");
 }
 
@@ -657,7 +671,7 @@ fn a_file_system_without_locks_is_a_warning() {
     create(&dry, &limits).expect("no fault");
     let lock = dry.calls().iter().position(|name| *name == "try_lock");
     let disk = Disk::new();
-    disk.set_fault(lock.expect("a lock"), Fault::Fail);
+    disk.set_faults(&[(lock.expect("a lock"), Fault::Fail)]);
     let mut store = create(&disk, &limits).expect("it can be made");
     let warnings = store.take_warnings();
     assert!(matches!(warnings[..], [Warning::NotLocked(..)]));
@@ -680,12 +694,12 @@ fn every_fault_of_a_creation() {
 
 fn try_create(limits: &model::Limits, at: usize, fault: Fault) {
     let disk = Disk::new();
-    disk.set_fault(at, fault);
+    disk.set_faults(&[(at, fault)]);
     let told = create(&disk, limits);
     let warned = told
         .map(|mut store| !store.take_warnings().is_empty())
         .map_err(drop);
-    disk.clear_fault();
+    disk.set_faults(&[]);
     for cut in disk.cuts() {
         let left = open(&cut, limits);
         match (&left, warned) {
