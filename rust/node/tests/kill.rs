@@ -1,10 +1,8 @@
 //! The example `unit`, killed at random moments, opens again each time.
 
-#![cfg(unix)]
-
 mod common;
 
-use std::path::{Path, PathBuf};
+use std::path::Path;
 use std::process::{Command, Stdio};
 use std::time::Duration;
 
@@ -13,19 +11,6 @@ use pokerbox::store::{FileStore, StoreError};
 use pokerbox::Limits;
 
 const KILLS: usize = 40;
-
-/// Beside the test's own program, where cargo puts examples.
-fn unit() -> PathBuf {
-    let test = std::env::current_exe().expect("the test's path");
-    let profile = test.ancestors().nth(2).expect("target's profile folder");
-    let unit = profile.join("examples/unit");
-    assert!(
-        unit.exists(),
-        "{} is missing: run `cargo build -p pokerbox --example unit`",
-        unit.display()
-    );
-    unit
-}
 
 fn stored(folder: &Path) -> Option<model::Queue> {
     let image = std::fs::read(folder.join("queue.image")).ok()?;
@@ -39,7 +24,7 @@ fn killed_at_any_moment_it_opens_again() {
     let limits = Limits::new(8, 4_096, 8, 4).expect("limits in range");
     let mut revisions = std::collections::BTreeSet::new();
     for kill in 0..KILLS {
-        let mut running = Command::new(unit())
+        let mut running = Command::new(common::example("unit"))
             .arg(folder.path())
             .args(["--run", "0"])
             .stdout(Stdio::null())

@@ -3,7 +3,7 @@
 
 mod common;
 
-use std::path::{Path, PathBuf};
+use std::path::Path;
 use std::process::{Command, Output};
 
 use common::Folder;
@@ -13,13 +13,9 @@ fn text(file: &str) -> String {
     std::fs::read_to_string(path).expect("a file of the repository")
 }
 
-/// Beside the test's own program, where cargo puts examples.
 fn run(example: &str, arguments: &[&str]) -> Output {
-    let test = std::env::current_exe().expect("the test's path");
-    let profile = test.ancestors().nth(2).expect("target's profile folder");
-    let program: PathBuf = profile.join("examples").join(example);
-    let ended = Command::new(&program).args(arguments).output();
-    ended.unwrap_or_else(|error| panic!("{}: {error}", program.display()))
+    let mut program = Command::new(common::example(example));
+    program.args(arguments).output().expect("it starts")
 }
 
 fn said(output: &Output) -> String {

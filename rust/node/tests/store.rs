@@ -14,7 +14,7 @@ use common::Folder;
 use model::random::{self, Rng};
 use model::{area, image, rules};
 use pokerbox::store::{FileStore, Opened, StoreError};
-use pokerbox::{Error, Limits, State, TxId};
+use pokerbox::{Admission, Error, Height, Limits, State, TimeMs, TxId};
 
 const ID: TxId = TxId([0x11; 32]);
 
@@ -185,15 +185,7 @@ fn folders_and_files_are_for_the_owner_alone() {
     let card = Card::new("owner");
     let path = card.path().join("a/b/image");
     let mut store = FileStore::create(&path, limits()).unwrap();
-    let mut given = pokerbox::Admission::new(
-        ID,
-        vec![],
-        vec![],
-        vec![1],
-        pokerbox::TimeMs(0),
-        pokerbox::Height(1),
-    );
-    given.priority = 3;
+    let given = Admission::new(ID, vec![], vec![], vec![1], TimeMs(0), Height(1));
     store.admit(&given).unwrap();
     for made in ["a", "a/b"] {
         assert_eq!(mode(&card.path().join(made)), 0o700, "{made}");
@@ -427,13 +419,6 @@ fn what_can_never_be_written_is_told_at_opening() {
     assert_eq!(card.names(), ["image.new"], "no store was made");
 }
 
-/// Beside the test's own program, where cargo puts examples.
-fn unit() -> PathBuf {
-    let test = std::env::current_exe().expect("the test's path");
-    let profile = test.ancestors().nth(2).expect("target's profile folder");
-    profile.join("examples/unit")
-}
-
 /// A folder in which files can be read and written, but not made. Root may make them anywhere, so
 /// that root has another user try it.
 #[test]
@@ -441,7 +426,7 @@ fn a_read_only_folder_is_told_at_opening() {
     let card = Card::new("read-only");
     let (image, program) = (card.path().join("queue.image"), card.path().join("unit"));
     fs::write(&image, image::encode(&queued())).unwrap();
-    fs::copy(unit(), &program).unwrap();
+    fs::copy(common::example("unit"), &program).unwrap();
     fs::write(card.path().join("queue.image.lock"), "").unwrap();
     for entry in fs::read_dir(card.path()).unwrap() {
         let everybody = fs::Permissions::from_mode(0o777);

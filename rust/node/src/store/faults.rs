@@ -230,6 +230,16 @@ impl Machine {
         self.put(found, warned);
     }
 
+    /// After a commit that was cut short and left this disk: its write is among those that may be
+    /// left once its rename has happened.
+    fn cut_short(mut self, disk: &Disk) -> Machine {
+        let found = stands(disk);
+        if found != self.stored {
+            self.put(found, true);
+        }
+        self
+    }
+
     fn is_queue_of(&self, store: &Store<Disk>) -> bool {
         area::decode(store.queue().area()).as_ref() == Some(&self.queue)
     }
@@ -388,11 +398,7 @@ impl Unit {
     /// The unit of a process that was killed in a commit, opened again. `before` is the machine
     /// before the commit.
     fn killed(before: Machine, disk: &Disk) -> Unit {
-        let mut machine = before;
-        let found = stands(disk);
-        if found != machine.stored {
-            machine.put(found, true);
-        }
+        let machine = before.cut_short(disk);
         let disk = disk.copy();
         machine.check_cuts(&disk);
         let (store, machine) = machine.opened(&disk);
@@ -451,12 +457,8 @@ impl Unit {
     fn try_opening(&self, rng: &mut Rng, call: &Call, tried: &mut Tried) {
         let calls = self.calls(call);
         let mut unit = self.fork();
-        let mut machine = unit.machine.clone();
         let _ = unit.commit(call, &[(rng.below(calls.len()), Fault::StopAfter)]);
-        let found = stands(&unit.disk);
-        if found != machine.stored {
-            machine.put(found, true);
-        }
+        let machine = self.machine.clone().cut_short(&unit.disk);
         tried.openings += 1;
         let dry = unit.disk.copy();
         machine.opened(&dry);
