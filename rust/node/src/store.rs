@@ -215,7 +215,13 @@ impl FileStore {
         self.0.place().image()
     }
 
-    /// The queue, for all reading calls.
+    /// The queue, for all reading calls. It is changed by the calls of its store alone:
+    ///
+    /// ```compile_fail,E0596
+    /// fn cancel(store: &pokerbox::store::FileStore, id: pokerbox::TxId) {
+    ///     let _ = store.queue().cancel(id);
+    /// }
+    /// ```
     pub fn queue(&self) -> &Queue {
         self.0.queue()
     }
