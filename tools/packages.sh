@@ -1,8 +1,8 @@
 #!/usr/bin/env bash
-# Installs the Debian packages that the Rust side is built from, where one of them is missing.
+# Installs the Debian packages that the Rust side is built from and tested with, where one of them is missing.
 set -euo pipefail
 
-packages=(librust-serde-dev librust-serde-json-dev librust-serde-derive-dev librust-hex-dev)
+packages=(gcc pkg-config librust-serde-dev librust-serde-json-dev librust-serde-derive-dev librust-hex-dev)
 
 missing=()
 for package in "${packages[@]}"; do

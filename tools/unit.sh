@@ -1,6 +1,6 @@
 #!/usr/bin/env bash
-# unit.sh [DIR]: runs the example `unit` over the library, with a queue stored in DIR (a new temporary folder if none is
-# named). Killed at any moment, it opens again.
+# unit.sh [DIR]: runs the example `unit` over the library: a demonstration with a queue that it makes in DIR (a new temporary
+# folder if none is named). Where DIR has a queue already, it prints what is stored there and changes nothing.
 set -euo pipefail
 
 case ${1-} in
@@ -17,4 +17,10 @@ if [ ! -f target/staticlib/libpokerbox.a ]; then
 fi
 bash tools/packages.sh
 cd rust
-cargo run --release -p pokerbox --example unit -- "$folder" --demo
+run=(cargo run --release -p pokerbox --example unit -- "$folder")
+for file in "$folder/queue.image" "$folder/queue.image.lock"; do
+    if [ -e "$file" ] || [ -L "$file" ]; then
+        exec "${run[@]}"
+    fi
+done
+exec "${run[@]}" --demo

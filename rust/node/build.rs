@@ -102,6 +102,62 @@ fn library_folder() -> PathBuf {
     }
 }
 
+/// What a library was built for: the processor and the bits of a pointer.
+#[derive(Debug, Clone, PartialEq, Eq)]
+pub struct Target {
+    pub arch: String,
+    pub pointer_width: String,
+}
+
+impl std::fmt::Display for Target {
+    fn fmt(&self, f: &mut std::fmt::Formatter<'_>) -> std::fmt::Result {
+        write!(f, "{} with {} bits, Linux", self.arch, self.pointer_width)
+    }
+}
+
+/// Read from the header of the first ELF object in the archive.
+pub fn library_target(archive: &[u8]) -> Option<Target> {
+    let at = archive.windows(4).position(|window| window == b"\x7fELF")?;
+    let header = archive.get(at..at + 20)?;
+    // Bits, byte order, machine.
+    let (pointer_width, arch) = match (header[4], header[5], [header[18], header[19]]) {
+        (2, 1, [62, 0]) => ("64", "x86_64".into()),
+        (2, 1, [183, 0]) => ("64", "aarch64".into()),
+        (2, 1, [243, 0]) => ("64", "riscv64".into()),
+        (1, 1, [40, 0]) => ("32", "arm".into()),
+        (bits, _, machine) => (
+            if bits == 1 { "32" } else { "64" },
+            format!("ELF machine {machine:?}"),
+        ),
+    };
+    Some(Target {
+        arch,
+        pointer_width: pointer_width.into(),
+    })
+}
+
+/// Stops where the library was built for another target than this build's.
+fn check_target(library: &Path, archive: &[u8]) {
+    let cargo = |name: &str| env::var(name).unwrap_or_default();
+    let wanted = Target {
+        arch: cargo("CARGO_CFG_TARGET_ARCH"),
+        pointer_width: cargo("CARGO_CFG_TARGET_POINTER_WIDTH"),
+    };
+    let Some(built) = library_target(archive) else {
+        stop(&format!("{} has no ELF object", library.display()))
+    };
+    if built != wanted || cargo("CARGO_CFG_TARGET_OS") != "linux" {
+        stop(&format!(
+            "{} was built for {built}, and this build is for {}: build for that target, or set \
+             {FOLDER_VARIABLE} to a folder with a library for this one",
+            library.display(),
+            cargo("TARGET")
+        ));
+    }
+    // For this crate.
+    println!("cargo:rustc-env=POKERBOX_LIBRARY_TARGET={built}");
+}
+
 /// Stops unless the library is there and exports what it should.
 fn check_library(library: &Path, missing: &[String]) {
     println!("cargo:rerun-if-changed={}", library.display());
@@ -112,6 +168,7 @@ fn check_library(library: &Path, missing: &[String]) {
             library.display()
         ))
     });
+    check_target(library, &archive);
     for call in CALLS {
         let exported = has_symbol(&archive, &format!("pokerbox_{call}"));
         if exported && is_in(missing, call) {

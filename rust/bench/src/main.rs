@@ -1,5 +1,7 @@
 //! The same work by the exported calls and by `PrivateTransactionQueue`, as a table of medians.
 
+mod commit;
+
 use std::collections::{BTreeMap, BTreeSet};
 use std::hint::black_box;
 use std::path::{Path, PathBuf};
@@ -198,6 +200,7 @@ impl<'a> Bench<'a> {
         if is_exported("reconcile") {
             rows.push(self.reconciliation());
         }
+        rows.push(self.commit());
         rows.extend(self.parts());
         rows.extend(self.readings());
         for row in rows {

@@ -1,22 +1,27 @@
 //! A queue in a folder, with real writes.
 //!
-//! - `unit DIR` opens or makes the queue and prints what is stored;
-//! - `unit DIR --demo` puts transactions in, makes a few calls and prints what is stored;
-//! - `unit DIR --run ROUNDS` makes calls with writes, over and over; with 0 rounds until it is
-//!   killed.
+//! - `unit DIR` prints what is stored and changes nothing;
+//! - `unit DIR --demo` makes a store, where none stands, and shows what a unit lives through;
+//! - `unit DIR --run ROUNDS` opens or makes a store and makes calls with writes, over and over;
+//!   with 0 rounds until it is killed.
 //!
 //! Killed at any moment, it opens again.
 
+use std::collections::{BTreeMap, BTreeSet};
 use std::error::Error;
-use std::path::Path;
-use std::process::ExitCode;
+use std::path::{Path, PathBuf};
+use std::process::{Command, ExitCode, Stdio};
+use std::time::Duration;
 
-use pokerbox::store::FileStore;
-use pokerbox::{Height, Limits, Queue, TimeMs, TxId};
+use pokerbox::store::{FileStore, Opened, StoreError};
+use pokerbox::{
+    Admission, BlockId, Height, InputId, Limits, OutputId, Queue, Reconciliation, TimeMs, TxId,
+};
 
 const USAGE: &str = "usage: unit DIR [--demo | --run ROUNDS]";
 /// Transactions that are put in at a time.
 const BATCH: u8 = 6;
+const BLOCK: BlockId = BlockId([0xbb; 32]);
 
 fn main() -> ExitCode {
     let arguments: Vec<String> = std::env::args().skip(1).collect();
@@ -32,11 +37,15 @@ fn main() -> ExitCode {
 fn run(arguments: &[String]) -> Result<(), Box<dyn Error>> {
     let arguments: Vec<&str> = arguments.iter().map(String::as_str).collect();
     match arguments[..] {
-        [folder] => Unit::open(folder)?.print_stored(),
-        [folder, "--demo"] => Unit::open(folder)?.demo(),
-        [folder, "--run", rounds] => Unit::open(folder)?.run(rounds.parse()?),
+        [folder] => print_stored(&image_in(folder)),
+        [folder, "--demo"] => demo(folder),
+        [folder, "--run", rounds] => Unit::open_or_create(folder)?.run(rounds.parse()?),
         _ => Err(USAGE.into()),
     }
+}
+
+fn image_in(folder: &str) -> PathBuf {
+    Path::new(folder).join("queue.image")
 }
 
 fn limits() -> Result<Limits, pokerbox::Error> {
@@ -45,40 +54,103 @@ fn limits() -> Result<Limits, pokerbox::Error> {
 
 struct Unit {
     store: FileStore,
-    queue: Queue,
 }
 
 impl Unit {
-    fn open(folder: &str) -> Result<Unit, Box<dyn Error>> {
-        let mut store = FileStore::new(Path::new(folder).join("queue.image"))?;
-        let queue = store.open(limits()?)?;
-        Ok(Unit { store, queue })
+    fn new(mut store: FileStore) -> Unit {
+        for warning in store.take_warnings() {
+            eprintln!("unit: {warning}");
+        }
+        Unit { store }
     }
 
-    fn demo(&mut self) -> Result<(), Box<dyn Error>> {
-        self.fill()?;
-        let selected = self.queue.selection_entries()?;
-        println!("Queued, best first:");
-        for id in &selected {
-            let signed = self.queue.signed_bytes(*id)?.len();
-            let entry = self.queue.entry(*id)?;
-            println!("  {id}: priority {}, {signed} signed bytes", entry.priority);
+    fn create(folder: &str) -> Result<Unit, Box<dyn Error>> {
+        let store = FileStore::create(image_in(folder), limits()?)?;
+        println!(
+            "Made a store; its image is to be {}",
+            store.path().display()
+        );
+        Ok(Unit::new(store))
+    }
+
+    fn open(folder: &str) -> Result<Unit, Box<dyn Error>> {
+        let store = FileStore::open(image_in(folder), limits()?)?;
+        Ok(Unit::new(store))
+    }
+
+    fn open_or_create(folder: &str) -> Result<Unit, Box<dyn Error>> {
+        let (store, opened) = FileStore::open_or_create(image_in(folder), limits()?)?;
+        match opened {
+            Opened::Found => println!("Opened {}", store.path().display()),
+            Opened::Created => println!("Made {}", store.path().display()),
         }
-        if let Some(id) = selected.first() {
-            self.store.commit(self.queue.cancel(*id)?)?;
-            println!("Cancelled {id}");
+        Ok(Unit::new(store))
+    }
+
+    fn queue(&self) -> &Queue {
+        self.store.queue()
+    }
+
+    fn print_queued(&self, heading: &str) -> Result<(), Box<dyn Error>> {
+        println!("{heading}");
+        for id in self.queue().selection_entries()? {
+            let (entry, signed) = (self.queue().entry(id)?, self.queue().signed_bytes(id)?);
+            let (priority, length) = (entry.priority, signed.len());
+            println!("  {id}: priority {priority}, {length} signed bytes");
         }
-        for id in self
-            .store
-            .commit(self.queue.expire(deadline(0), Height(0))?)?
-        {
-            println!("Expired {id}");
+        Ok(())
+    }
+
+    fn print_entry(&self, id: TxId) -> Result<(), Box<dyn Error>> {
+        let entry = self.queue().entry(id)?;
+        println!("  {id}: {}, reason {}", entry.state, entry.reason);
+        Ok(())
+    }
+
+    fn withdraw(&mut self) -> Result<(), Box<dyn Error>> {
+        println!("One is cancelled, and another one's deadline is due:");
+        self.store.cancel(id(5))?;
+        self.print_entry(id(5))?;
+        for id in self.store.expire(deadline(0), Height(0))? {
+            self.print_entry(id)?;
         }
-        self.store.commit(self.queue.set_cursor(Height(7), None)?)?;
-        println!("The cursor is at height 7, in memory.");
-        let now = self.queue.selection_entries_at(deadline(1), Height(7))?;
-        println!("Queued then: {}", now.len());
-        self.print_stored()
+        Ok(())
+    }
+
+    fn block(&mut self) -> Result<(), Box<dyn Error>> {
+        println!("A block at height 6 has one of them:");
+        self.store.reconcile(&Reconciliation {
+            height: Height(6),
+            tip: BLOCK,
+            applied: BTreeMap::from([(id(4), (Height(6), BLOCK))]),
+            caught_up: false,
+            available: BTreeSet::new(),
+            window: 10,
+        })?;
+        self.print_entry(id(4))
+    }
+
+    fn rollback(&mut self) -> Result<(), Box<dyn Error>> {
+        println!("The block is rolled back:");
+        self.store.reopen(&BTreeSet::from([id(4)]))?;
+        self.print_entry(id(4))
+    }
+
+    /// A folder stands in the way of the second file.
+    fn failed_write(&mut self, folder: &str) -> Result<(), Box<dyn Error>> {
+        println!("A write that fails:");
+        let in_the_way = Path::new(folder).join("queue.image.new");
+        std::fs::create_dir(&in_the_way)?;
+        let failed = self.store.cancel(id(3));
+        std::fs::remove_dir(&in_the_way)?;
+        match failed {
+            Err(error @ StoreError::WriteFailed(_)) => println!("  {error}"),
+            other => return Err(format!("it did not fail: {other:?}").into()),
+        }
+        self.print_entry(id(3))?;
+        println!("The same call again:");
+        self.store.cancel(id(3))?;
+        self.print_entry(id(3))
     }
 
     fn run(&mut self, rounds: u64) -> Result<(), Box<dyn Error>> {
@@ -90,28 +162,23 @@ impl Unit {
                 println!("{round} rounds done");
             }
         }
-        self.print_stored()
+        print_stored(&self.store.path())
     }
 
     /// One changing call; transactions are put in when none is queued.
     fn round(&mut self, round: u64) -> Result<(), Box<dyn Error>> {
-        let selected = self.queue.selection_entries()?;
+        let selected = self.queue().selection_entries()?;
         let Some(id) = selected.first() else {
             return self.fill();
         };
         match round % 3 {
-            0 => {
-                self.store
-                    .commit(self.queue.set_cursor(Height(round as u32), None)?)?;
-            }
+            0 => self.store.set_cursor(Height(round as u32), None)?,
             1 => {
-                let entry = self.queue.entry(*id)?;
+                let entry = self.queue().entry(*id)?;
                 let now = entry.time_deadline.unwrap_or(TimeMs(0));
-                self.store.commit(self.queue.expire(now, Height(0))?)?;
+                self.store.expire(now, Height(0))?;
             }
-            _ => {
-                self.store.commit(self.queue.cancel(*id)?)?;
-            }
+            _ => drop(self.store.cancel(*id)?),
         }
         Ok(())
     }
@@ -119,19 +186,48 @@ impl Unit {
     /// Puts a batch of transactions in.
     fn fill(&mut self) -> Result<(), Box<dyn Error>> {
         for n in 0..BATCH {
-            self.store.commit(self.queue.admit(&transaction(n))?)?;
+            self.store.admit(&transaction(n))?;
         }
         Ok(())
     }
+}
 
-    fn print_stored(&self) -> Result<(), Box<dyn Error>> {
-        println!("File {}", self.store.path().display());
-        match self.store.read()? {
-            None => println!("  nothing is stored"),
-            Some(image) => print_image(&image)?,
-        }
-        Ok(())
-    }
+fn demo(folder: &str) -> Result<(), Box<dyn Error>> {
+    let mut unit = Unit::create(folder)?;
+    unit.fill()?;
+    unit.print_queued("Queued, best first:")?;
+    unit.withdraw()?;
+    unit.block()?;
+    unit.rollback()?;
+    unit.failed_write(folder)?;
+    unit.print_queued("Queued now, best first:")?;
+    // The lock is given up, so that another process can take the store.
+    drop(unit);
+    cut(folder)?;
+    print_stored(&image_in(folder))
+}
+
+/// Another process writes to the same store and is killed at whatever it does.
+fn cut(folder: &str) -> Result<(), Box<dyn Error>> {
+    let mut running = Command::new(std::env::current_exe()?)
+        .args([folder, "--run", "0"])
+        .stdout(Stdio::null())
+        .spawn()?;
+    std::thread::sleep(Duration::from_millis(100));
+    running.kill()?;
+    running.wait()?;
+    let left = Path::new(folder).join("queue.image.new").exists();
+    println!(
+        "Cut: another process made calls on this store and was killed. It left {} second file.",
+        if left { "a" } else { "no" }
+    );
+    let unit = Unit::open(folder)?;
+    println!(
+        "Opened after it: revision {}, {} records",
+        unit.queue().revision()?,
+        unit.queue().record_ids()?.len()
+    );
+    Ok(())
 }
 
 /// Each transaction of a batch has a deadline of its own.
@@ -143,25 +239,38 @@ fn id(n: u8) -> TxId {
     TxId([0x10 + n; 32])
 }
 
-fn transaction(n: u8) -> pokerbox::Admission {
-    pokerbox::Admission {
-        id: id(n),
-        inputs: vec![pokerbox::InputId([0xa0 + n; 32])],
-        outputs: vec![pokerbox::OutputId([0xb0 + n; 32])],
-        signed: vec![n; 100 + usize::from(n)],
-        now: TimeMs(10),
+fn transaction(n: u8) -> Admission {
+    let (inputs, outputs) = ([InputId([0xa0 + n; 32])], [OutputId([0xb0 + n; 32])]);
+    let signed = vec![n; 100 + usize::from(n)];
+    Admission {
         time_deadline: Some(deadline(n)),
-        height_deadline: None,
         priority: i32::from(n),
         label: Some(format!("transaction {n}").into_bytes()),
         fee: 1_000_000,
         cost: 12_000,
-        tip_height: Height(5),
-        tip: None,
+        ..Admission::new(
+            id(n),
+            inputs.into(),
+            outputs.into(),
+            signed,
+            TimeMs(10),
+            Height(5),
+        )
     }
 }
 
-/// What is stored, read by the model and not by the library.
+/// What is stored; nothing is locked, and nothing changes.
+fn print_stored(path: &Path) -> Result<(), Box<dyn Error>> {
+    let stored = FileStore::look(path)?;
+    println!("Stored in {}:", path.display());
+    match stored {
+        None => println!("  nothing yet"),
+        Some(queue) => print_image(&queue.image()?)?,
+    }
+    Ok(())
+}
+
+/// Read by the model and not by the library.
 fn print_image(image: &[u8]) -> Result<(), Box<dyn Error>> {
     let queue = model::image::decode(image).ok_or("the file is not the image of a sound queue")?;
     let limits = queue.limits;
@@ -170,9 +279,9 @@ fn print_image(image: &[u8]) -> Result<(), Box<dyn Error>> {
         "  limits: {} pending, {} bytes, {} tombstones, {} inputs",
         limits.pending, limits.bytes, limits.tombstones, limits.inputs
     );
-    let tip = queue.tip.map_or("no tip".to_string(), |tip| {
-        format!("tip {}", pokerbox::BlockId(tip))
-    });
+    let tip = queue
+        .tip
+        .map_or("no tip".to_string(), |tip| format!("tip {}", BlockId(tip)));
     println!(
         "  revision {}, finish counter {}",
         queue.revision, queue.counter.0

@@ -1,17 +1,25 @@
 /* The private transaction queue: the calls of libpokerbox.a. docs/CALLS.md and docs/AREA.md of the
  * repository say what each does, byte by byte.
  *
+ * To compile and link, after `bash tools/install.sh PREFIX` of the repository:
+ *   cc unit.c $(pkg-config --cflags --libs pokerbox) -o unit
+ * with PREFIX/lib/pkgconfig in PKG_CONFIG_PATH, or
+ *   cc -IPREFIX/include unit.c -LPREFIX/lib -lpokerbox -o unit
+ * Of other libraries it needs memmove and memset alone.
+ *
  * A byte slice is a pointer and a length. A pointer is never null, even with length 0. What is
  * written overlaps nothing else that is lent to the same call. Numbers in bytes are big-endian.
  *
  * Each call gives back one number:
  *   1 to 17     a refusal; nothing lent has changed, except the next area after 17;
  *   100         the call was answered;
- *   100 to 103  a changing call's kind on top of 100: 0 nothing changed, 1 in memory only,
- *               2 a whole write is due, 3 a cursor write is due.
+ *   100 to 103  a changing call's kind on top of 100.
  *
  * A flag is 0 or 1; what stands beside a flag of 0 is not looked at. An id has 32 bytes. A list of
- * ids is 32 bytes an id. */
+ * ids is 32 bytes an id.
+ *
+ * Calls use no heap and no files. A thread that calls needs at least 1 MiB of stack; 160 KiB while
+ * the queue holds at most 8,192 inputs. */
 
 #ifndef POKERBOX_H
 #define POKERBOX_H
@@ -42,8 +50,56 @@ extern "C" {
 #define POKERBOX_NOT_AN_IMAGE 16
 #define POKERBOX_WRITE_FAILED 17
 
-/* A fresh queue under the limits P, B, T, K into `area`, which needs
- * 2B + 2P * (512 + 64K) + 512T + 512 bytes. Gives 1, 2 or 100. */
+/* Answers: of calls without a kind, and of changing calls by kind. */
+#define POKERBOX_ANSWERED 100
+#define POKERBOX_ANSWERED_NOTHING 100
+#define POKERBOX_ANSWERED_MEMORY 101
+#define POKERBOX_ANSWERED_WHOLE 102
+#define POKERBOX_ANSWERED_CURSOR 103
+
+/* Kinds: nothing changed and the next area is untouched; the next area holds the queue and no write
+ * is due; a write is due for a changed record; a write is due for the cursor alone. */
+#define POKERBOX_KIND_NOTHING 0
+#define POKERBOX_KIND_MEMORY 1
+#define POKERBOX_KIND_WHOLE 2
+#define POKERBOX_KIND_CURSOR 3
+
+/* Outcomes of a write, for pokerbox_settle. */
+#define POKERBOX_OUTCOME_KEPT 0
+#define POKERBOX_OUTCOME_FAILED 1
+
+/* States of a record. */
+#define POKERBOX_STATE_QUEUED 0
+#define POKERBOX_STATE_MINED 2
+#define POKERBOX_STATE_CONFLICTED 3
+#define POKERBOX_STATE_CANCELLED 4
+#define POKERBOX_STATE_EXPIRED 5
+
+/* Reasons of a state. */
+#define POKERBOX_REASON_NONE 0
+#define POKERBOX_REASON_CANCELLED 1
+#define POKERBOX_REASON_DEADLINE_ELAPSED 2
+#define POKERBOX_REASON_ROLLED_BACK_AFTER_RELEASE 3
+#define POKERBOX_REASON_ROLLED_BACK 4
+#define POKERBOX_REASON_INPUTS_UNAVAILABLE 5
+
+/* The top settings of the limits P, B, T, K; the least one is 1. */
+#define POKERBOX_MAX_PENDING 1024
+#define POKERBOX_MAX_BYTES 16777216
+#define POKERBOX_MAX_TOMBSTONES 1024
+#define POKERBOX_MAX_INPUTS 128
+
+/* The bytes that an area needs under the limits P, B, T, K: 2B + 2P * (512 + 64K) + 512T + 512. */
+#define POKERBOX_AREA_LEN(p, b, t, k) \
+    (2 * (uint64_t)(b) + 2 * (uint64_t)(p) * (512 + 64 * (uint64_t)(k)) + 512 * (uint64_t)(t) + 512)
+
+/* No image is longer: two digits for each byte of an area, and a line end for each of at most
+ * 2P + T + 1 frames. */
+#define POKERBOX_MAX_IMAGE_LEN(p, b, t, k) \
+    (2 * POKERBOX_AREA_LEN(p, b, t, k) + 2 * (uint64_t)(p) + (uint64_t)(t) + 1)
+
+/* A fresh queue under the limits P, B, T, K into `area`, which needs POKERBOX_AREA_LEN bytes. Gives
+ * 1, 2 or 100. */
 uint64_t pokerbox_fresh(uint64_t pending, uint64_t bytes, uint64_t tombstones, uint64_t inputs,
                         uint8_t *area, size_t area_len);
 
@@ -93,7 +149,8 @@ uint64_t pokerbox_set_cursor(const uint8_t *cur, size_t cur_len, uint8_t *next, 
 uint64_t pokerbox_settle(const uint8_t *cur, size_t cur_len, uint8_t *next, size_t next_len,
                          uint64_t kind, uint64_t outcome);
 
-/* The image of the queue at the start of `out`, its length behind `length`. */
+/* The image of the queue at the start of `out`, its length behind `length`. POKERBOX_MAX_IMAGE_LEN
+ * bytes are enough. */
 uint64_t pokerbox_image(const uint8_t *area, size_t area_len, uint8_t *out, size_t out_len,
                         uint64_t *length);
 

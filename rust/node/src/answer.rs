@@ -5,18 +5,31 @@ use crate::types::{BlockId, Height, InputId, Limits, Reason, State, TimeMs, TxId
 /// What the queue says of one record. Signed bytes are handed out by another call.
 #[derive(Debug, Clone, PartialEq, Eq)]
 pub struct Entry {
+    /// The transaction's id.
     pub id: TxId,
+    /// The record's state.
     pub state: State,
+    /// Why it has that state.
     pub reason: Reason,
+    /// When it was admitted.
     pub created: TimeMs,
+    /// It is withdrawn from this time on.
     pub time_deadline: Option<TimeMs>,
+    /// It is withdrawn from this height on.
     pub height_deadline: Option<Height>,
+    /// Higher ones are selected first.
     pub priority: i32,
+    /// The label given at the admission.
     pub label: Option<Vec<u8>>,
+    /// The fee given at the admission.
     pub fee: u64,
+    /// The number of its signed bytes, also when they were dropped.
     pub size: u32,
+    /// The cost given at the admission.
     pub cost: u64,
+    /// Where a Mined record was found.
     pub mined: Option<(Height, BlockId)>,
+    /// What it spends; none when its signed bytes were dropped.
     pub inputs: Vec<InputId>,
 }
 
@@ -30,23 +43,29 @@ impl Entry {
 /// What a reconciliation answers.
 #[derive(Debug, Clone, PartialEq, Eq)]
 pub struct Reconciled {
+    /// Whether a record was changed or released.
     pub changed: bool,
-    /// In the order in which they were finished.
+    /// Whose signed bytes were released, in the order in which they were finished.
     pub released: Vec<TxId>,
 }
 
 /// A record that expiry would finish.
 #[derive(Debug, Clone, Copy, PartialEq, Eq)]
 pub struct Due {
+    /// The transaction's id.
     pub id: TxId,
+    /// The record's state now.
     pub state: State,
 }
 
 /// A record that was found in a block.
 #[derive(Debug, Clone, Copy, PartialEq, Eq)]
 pub struct Confirmation {
+    /// The transaction's id.
     pub id: TxId,
+    /// The height of the block.
     pub height: Height,
+    /// The block.
     pub block: BlockId,
 }
 

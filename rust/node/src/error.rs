@@ -6,26 +6,44 @@ use std::fmt;
 /// [`Error::WriteFailed`].
 #[derive(Debug, Clone, Copy, PartialEq, Eq, PartialOrd, Ord, Hash)]
 pub enum Error {
+    /// A limit is out of range.
     LimitOutOfRange = 1,
+    /// An area to write is too short.
     AreaTooShort = 2,
+    /// A lent area does not hold a sound queue.
     AreaNotSound = 3,
+    /// The output is shorter than the answer.
     OutputTooShort = 4,
+    /// An argument is malformed.
     Malformed = 5,
+    /// More inputs or outputs than K.
     TooManyInputs = 6,
+    /// The time deadline is not after now.
     TimeDeadlineElapsed = 7,
+    /// The height deadline is not above the tip.
     HeightDeadlineElapsed = 8,
+    /// The label has more than 200 bytes.
     LabelTooLong = 9,
+    /// P records are pending.
     QueueFull = 10,
+    /// The signed bytes of pending records would exceed B.
     ByteBudgetExhausted = 11,
+    /// An input is in another record.
     InputReserved = 12,
+    /// No such record, or it has no signed bytes any more.
     NotFound = 13,
+    /// The transaction is confirmed in a block.
     AlreadyMined = 14,
+    /// The finish counter has no number left.
     CounterExhausted = 15,
+    /// Not the image of a sound queue.
     NotAnImage = 16,
+    /// The write failed.
     WriteFailed = 17,
 }
 
 impl Error {
+    /// All refusals, in the order of their numbers.
     pub const ALL: [Error; 17] = [
         Error::LimitOutOfRange,
         Error::AreaTooShort,
@@ -51,6 +69,7 @@ impl Error {
         self as u64
     }
 
+    /// The refusal with this number.
     pub fn from_number(number: u64) -> Option<Error> {
         Self::ALL.into_iter().find(|error| error.number() == number)
     }

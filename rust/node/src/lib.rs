@@ -1,24 +1,24 @@
-//! The private transaction queue for a node. The queue itself is `libpokerbox.a`; this crate links
-//! it and keeps its image in a file.
+//! The private transaction queue for a node: transactions that a template builder takes by itself
+//! and that are never passed to the public pool. The queue itself is `libpokerbox.a`, whose calls
+//! are proved; this crate links it and keeps its image in a file.
 //!
-//! - [`Queue`]: a queue with its two areas. A changing call gives a [`Change`], which says what
-//!   is due and is settled with the outcome of the write.
-//! - [`store::FileStore`]: writes what is due and settles.
+//! - [`store::FileStore`]: a queue in a file. Its calls write what is due and settle; reading calls
+//!   are those of its [`Queue`].
+//! - [`Queue`]: a queue with its two areas, for a node that stores the image itself. A changing
+//!   call gives a [`Change`], which says what is due and is settled with the outcome of the write.
 //! - [`raw`]: the exported calls on lent byte slices, for a node that owns its areas.
 //!
-//! ```no_run
-//! use pokerbox::store::FileStore;
-//! use pokerbox::{Height, Limits, TimeMs};
+//! A refusal is an [`Error`] with its number, 1 to 17, and a sentence that says what to do. A
+//! thread that makes calls needs at least 1 MiB of stack; 160 KiB while the queue holds at most
+//! 8,192 inputs.
 //!
-//! # fn main() -> Result<(), Box<dyn std::error::Error>> {
-//! let mut store = FileStore::new("queue/image")?;
-//! let mut queue = store.open(Limits::new(16, 65_536, 16, 8)?)?;
-//! let expired = store.commit(queue.expire(TimeMs(1_000), Height(7))?)?;
-//! println!("{} records expired", expired.len());
-//! # Ok(())
-//! # }
+//! What a node does, from the first start to the next:
+//!
+//! ```
+#![doc = include_str!("../examples/node.rs")]
 //! ```
 
+#![warn(missing_docs)]
 // Some parts wait for calls that are not exported yet.
 #![cfg_attr(not(all_exported), allow(dead_code))]
 
@@ -34,7 +34,12 @@ mod types;
 pub use answer::{Confirmation, Due, Entry, Reconciled};
 pub use error::Error;
 pub use queue::{Admission, Applied, Change, Outcome, Queue, Reconciliation};
-pub use types::{BlockId, Height, InputId, Kind, Limits, OutputId, Reason, State, TimeMs, TxId};
+pub use types::{
+    BlockId, Height, InputId, Kind, Limits, OutputId, ParseIdError, Reason, State, TimeMs, TxId,
+};
+
+/// For which target the linked libpokerbox.a was built (see `build.rs`).
+pub const LIBRARY_TARGET: &str = env!("POKERBOX_LIBRARY_TARGET");
 
 /// The calls of docs/CALLS.md that libpokerbox.a does not export yet (see `build.rs`).
 pub fn not_exported_yet() -> Vec<&'static str> {

@@ -9,6 +9,7 @@ use crate::raw;
 use crate::types::{BlockId, Height, InputId, Kind, Limits, OutputId, TimeMs, TxId};
 
 /// A queue with its current and its next area.
+#[derive(Clone)]
 pub struct Queue {
     limits: Limits,
     current: Vec<u8>,
@@ -45,10 +46,12 @@ pub struct Change<'q, T> {
 }
 
 impl<T> Change<'_, T> {
+    /// What is due.
     pub fn kind(&self) -> Kind {
         self.kind
     }
 
+    /// The call's answer, if it is settled as kept.
     pub fn answer(&self) -> &T {
         &self.answer
     }
@@ -91,21 +94,75 @@ impl<T> Change<'_, T> {
 }
 
 /// A transaction to be queued. Commit it only after normal validation has succeeded.
+///
+/// ```
+/// use pokerbox::{Admission, Height, InputId, OutputId, TimeMs, TxId};
+///
+/// let (id, inputs, outputs) = (TxId([1; 32]), vec![InputId([2; 32])], vec![OutputId([3; 32])]);
+/// let signed = b"signed bytes".to_vec();
+/// let admission = Admission {
+///     height_deadline: Some(Height(120)),
+///     priority: 7,
+///     ..Admission::new(id, inputs, outputs, signed, TimeMs(1_000), Height(100))
+/// };
+/// assert_eq!(admission.time_deadline, None);
+/// ```
 #[derive(Debug, Clone, PartialEq, Eq)]
 pub struct Admission {
+    /// The transaction's id.
     pub id: TxId,
+    /// What it spends.
     pub inputs: Vec<InputId>,
+    /// What it makes.
     pub outputs: Vec<OutputId>,
+    /// The transaction as it goes into a block.
     pub signed: Vec<u8>,
+    /// The time of the admission.
     pub now: TimeMs,
+    /// It is withdrawn from this time on.
     pub time_deadline: Option<TimeMs>,
+    /// It is withdrawn from this height on.
     pub height_deadline: Option<Height>,
+    /// Higher ones are selected first.
     pub priority: i32,
+    /// Any text, at most 200 bytes.
     pub label: Option<Vec<u8>>,
+    /// The transaction's fee.
     pub fee: u64,
+    /// The cost of its validation.
     pub cost: u64,
+    /// The height of the chain's tip.
     pub tip_height: Height,
+    /// The chain's tip.
     pub tip: Option<BlockId>,
+}
+
+impl Admission {
+    /// Without deadlines, label and tip, with priority, fee and cost 0.
+    pub fn new(
+        id: TxId,
+        inputs: Vec<InputId>,
+        outputs: Vec<OutputId>,
+        signed: Vec<u8>,
+        now: TimeMs,
+        tip_height: Height,
+    ) -> Admission {
+        Admission {
+            id,
+            inputs,
+            outputs,
+            signed,
+            now,
+            time_deadline: None,
+            height_deadline: None,
+            priority: 0,
+            label: None,
+            fee: 0,
+            cost: 0,
+            tip_height,
+            tip: None,
+        }
+    }
 }
 
 /// The transactions found in blocks, with the height and the id of the block.
@@ -114,11 +171,15 @@ pub type Applied = BTreeMap<TxId, (Height, BlockId)>;
 /// One step of applied history.
 #[derive(Debug, Clone, PartialEq, Eq)]
 pub struct Reconciliation {
+    /// The height that the scan has reached.
     pub height: Height,
+    /// The block at that height.
     pub tip: BlockId,
+    /// The transactions that were found in blocks.
     pub applied: Applied,
     /// Whether the scan has caught up with the tip, so that pending records are classified.
     pub caught_up: bool,
+    /// The boxes that can be spent; looked at when the scan has caught up.
     pub available: BTreeSet<InputId>,
     /// Confirmations this deep release their signed bytes.
     pub window: u32,
@@ -176,6 +237,7 @@ impl Queue {
         std::mem::swap(&mut self.current, &mut self.next);
     }
 
+    /// Its limits.
     pub fn limits(&self) -> Limits {
         self.limits
     }
@@ -330,6 +392,7 @@ impl Queue {
 
 /// Reading calls.
 impl Queue {
+    /// What the queue says of one record.
     #[cfg(exported = "entry")]
     pub fn entry(&self, id: TxId) -> Result<Entry, Error> {
         self.read(
@@ -368,11 +431,13 @@ impl Queue {
         )
     }
 
+    /// The number of changes that were kept; it wraps.
     #[cfg(exported = "revision")]
     pub fn revision(&self) -> Result<u64, Error> {
         self.read_value(raw::revision)
     }
 
+    /// Whether there are no records.
     #[cfg(exported = "is_empty")]
     pub fn is_empty(&self) -> Result<bool, Error> {
         Ok(self.read_value(raw::is_empty)? != 0)
@@ -392,6 +457,7 @@ impl Queue {
         Ok(Height(u32::try_from(height).expect("a height")))
     }
 
+    /// The observation cursor: its height and its tip.
     #[cfg(exported = "observation_cursor")]
     pub fn observation_cursor(&self) -> Result<(Height, Option<BlockId>), Error> {
         self.read(37, raw::observation_cursor, |answer| answer.cursor())

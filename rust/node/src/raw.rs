@@ -11,34 +11,56 @@ const ANSWERED: u64 = 100;
 /// looked at.
 #[derive(Debug, Clone, Copy)]
 pub struct AdmitArgs<'a> {
+    /// The transaction's id, 32 bytes.
     pub id: &'a [u8],
+    /// Input ids, 32 bytes each.
     pub inputs: &'a [u8],
+    /// Output ids, 32 bytes each.
     pub outputs: &'a [u8],
+    /// The signed bytes.
     pub signed: &'a [u8],
+    /// The time of the admission.
     pub now: u64,
+    /// Whether there is a time deadline.
     pub time_flag: u8,
+    /// The time deadline.
     pub time: u64,
+    /// Whether there is a height deadline.
     pub height_flag: u8,
+    /// The height deadline.
     pub height: u32,
-    /// Two's complement.
+    /// The priority in two's complement.
     pub priority: u32,
+    /// Whether there is a label.
     pub label_flag: u8,
+    /// The label.
     pub label: &'a [u8],
+    /// The fee.
     pub fee: u64,
+    /// The cost of its validation.
     pub cost: u64,
+    /// The height of the chain's tip.
     pub tip_height: u32,
+    /// Whether there is a tip.
     pub tip_flag: u8,
+    /// The chain's tip, 32 bytes.
     pub tip: &'a [u8],
 }
 
 /// What `reconcile` is given beside the areas and the output.
 #[derive(Debug, Clone, Copy)]
 pub struct ReconcileArgs<'a> {
+    /// The height that the scan has reached.
     pub height: u32,
+    /// The block at that height, 32 bytes.
     pub tip: &'a [u8],
+    /// Entries of id 32, height 4, block id 32, strictly rising by id.
     pub applied: &'a [u8],
+    /// Whether the scan has caught up.
     pub caught_up: u8,
+    /// Ids, strictly rising.
     pub available: &'a [u8],
+    /// Confirmations this deep are released.
     pub window: u32,
 }
 
@@ -71,6 +93,7 @@ fn error(number: u64) -> Error {
 
 // Changing calls: `cur` is only read, `next` gets the next queue unless the kind is `Nothing`.
 
+/// Admits a transaction. `out` gets its entry, the old one with [`Kind::Nothing`].
 #[cfg(exported = "admit")]
 pub fn admit(
     cur: &[u8],
@@ -81,11 +104,13 @@ pub fn admit(
     kind(ffi::admit(cur, next, args, out))
 }
 
+/// Withdraws a pending record. `out` gets its entry after the call.
 #[cfg(exported = "cancel")]
 pub fn cancel(cur: &[u8], next: &mut [u8], id: &[u8], out: &mut [u8]) -> Result<Kind, Error> {
     kind(ffi::cancel(cur, next, id, out))
 }
 
+/// Withdraws the records whose deadline is due. `out` gets a count and their ids, rising.
 #[cfg(exported = "expire")]
 pub fn expire(
     cur: &[u8],
@@ -97,6 +122,8 @@ pub fn expire(
     kind(ffi::expire(cur, next, now, height, out))
 }
 
+/// Reconciles with the chain. `out` gets a flag, whether anything changed, a count and the ids
+/// released.
 #[cfg(exported = "reconcile")]
 pub fn reconcile(
     cur: &[u8],
@@ -107,11 +134,13 @@ pub fn reconcile(
     kind(ffi::reconcile(cur, next, args, out))
 }
 
+/// Reopens the Mined records of these ids, strictly rising.
 #[cfg(exported = "reopen")]
 pub fn reopen(cur: &[u8], next: &mut [u8], ids: &[u8]) -> Result<Kind, Error> {
     kind(ffi::reopen(cur, next, ids))
 }
 
+/// Sets the observation cursor.
 #[cfg(exported = "set_cursor")]
 pub fn set_cursor(
     cur: &[u8],
@@ -125,6 +154,7 @@ pub fn set_cursor(
 
 // Settling, the image and the fresh queue.
 
+/// A fresh queue under the limits P, B, T, K into `area`.
 #[cfg(exported = "fresh")]
 pub fn fresh(
     pending: u64,
@@ -136,23 +166,26 @@ pub fn fresh(
     answered(ffi::fresh(pending, bytes, tombstones, inputs, area))
 }
 
+/// Whether the area holds a sound queue.
 #[cfg(exported = "sound")]
 pub fn sound(area: &[u8]) -> Result<(), Error> {
     answered(ffi::sound(area))
 }
 
-/// Outcome 0 is kept, 1 failed; failed gives [`Error::WriteFailed`], and `next` then holds the
-/// queue that goes on.
+/// Settles a due write. Outcome 0 is kept, 1 failed; failed gives [`Error::WriteFailed`], and
+/// `next` then holds the queue that goes on.
 #[cfg(exported = "settle")]
 pub fn settle(cur: &[u8], next: &mut [u8], kind: u64, outcome: u64) -> Result<(), Error> {
     answered(ffi::settle(cur, next, kind, outcome))
 }
 
+/// The image of the queue at the start of `out`, and its length.
 #[cfg(exported = "image")]
 pub fn image(area: &[u8], out: &mut [u8], length: &mut u64) -> Result<(), Error> {
     answered(ffi::image(area, out, length))
 }
 
+/// The queue of an image into `area`.
 #[cfg(exported = "open")]
 pub fn open(text: &[u8], area: &mut [u8]) -> Result<(), Error> {
     answered(ffi::open(text, area))
@@ -160,11 +193,13 @@ pub fn open(text: &[u8], area: &mut [u8]) -> Result<(), Error> {
 
 // Reading calls.
 
+/// The entry of one record.
 #[cfg(exported = "entry")]
 pub fn entry(area: &[u8], id: &[u8], out: &mut [u8]) -> Result<(), Error> {
     answered(ffi::entry(area, id, out))
 }
 
+/// Where the record's signed bytes stand in the area.
 #[cfg(exported = "signed_bytes")]
 pub fn signed_bytes(
     area: &[u8],
@@ -175,6 +210,8 @@ pub fn signed_bytes(
     answered(ffi::signed_bytes(area, id, start, length))
 }
 
+/// A count and the ids of the Queued records with deadlines after `now` and above `height`, best
+/// first.
 #[cfg(exported = "selection_entries_at")]
 pub fn selection_entries_at(
     area: &[u8],
@@ -185,11 +222,13 @@ pub fn selection_entries_at(
     answered(ffi::selection_entries_at(area, now, height, out))
 }
 
+/// A count, then id and state of each record that expiry would finish, by id.
 #[cfg(exported = "due")]
 pub fn due(area: &[u8], now: u64, height: u32, out: &mut [u8]) -> Result<(), Error> {
     answered(ffi::due(area, now, height, out))
 }
 
+/// 1 if a pending record's deadline is due, else 0.
 #[cfg(exported = "deadline_due")]
 pub fn deadline_due(area: &[u8], now: u64, height: u32, value: &mut u64) -> Result<(), Error> {
     answered(ffi::deadline_due(area, now, height, value))
@@ -197,7 +236,8 @@ pub fn deadline_due(area: &[u8], now: u64, height: u32, value: &mut u64) -> Resu
 
 /// Reading calls that take an area and answer bytes, or one number.
 macro_rules! readings {
-    ($($call:literal $name:ident $lent:ident: $lent_type:ty;)*) => {$(
+    ($($(#[$doc:meta])* $call:literal $name:ident $lent:ident: $lent_type:ty;)*) => {$(
+        $(#[$doc])*
         #[cfg(exported = $call)]
         pub fn $name(area: &[u8], $lent: &mut $lent_type) -> Result<(), Error> {
             answered(ffi::$name(area, $lent))
@@ -206,16 +246,28 @@ macro_rules! readings {
 }
 
 readings! {
+    /// The revision.
     "revision" revision value: u64;
+    /// 1 without records, else 0.
     "is_empty" is_empty value: u64;
+    /// The cursor height.
     "observed_height" observed_height value: u64;
+    /// Height of 4 bytes, tip flag, and the tip of 32 bytes if there is one.
     "observation_cursor" observation_cursor out: [u8];
+    /// A count and the ids of all records, rising.
     "record_ids" record_ids out: [u8];
+    /// A count and the ids of the holders, rising.
     "guarded_ids" guarded_ids out: [u8];
+    /// A count and the input ids of all records, rising, each once.
     "reserved_inputs" reserved_inputs out: [u8];
+    /// The revision, 8 bytes, then as [`reserved_inputs`].
     "reservation_snapshot" reservation_snapshot out: [u8];
+    /// As [`guarded_ids`], then as [`reserved_inputs`].
     "guard_snapshot" guard_snapshot out: [u8];
+    /// A count and the entries of all records, by id.
     "list" list out: [u8];
+    /// As [`selection_entries_at`] with now 0 and height 0.
     "selection_entries" selection_entries out: [u8];
+    /// A count, then id, mined height and block id of each Mined record, by id.
     "confirmations" confirmations out: [u8];
 }

@@ -1,8 +1,33 @@
 //! Ids, times, heights, limits and kinds.
 
 use std::fmt;
+use std::str::FromStr;
 
 use crate::error::Error;
+
+/// A text that is not the 64 hexadecimal digits of an id.
+#[derive(Debug, Clone, Copy, PartialEq, Eq)]
+pub struct ParseIdError;
+
+impl fmt::Display for ParseIdError {
+    fn fmt(&self, f: &mut fmt::Formatter<'_>) -> fmt::Result {
+        write!(f, "not an id: give 64 hexadecimal digits")
+    }
+}
+
+impl std::error::Error for ParseIdError {}
+
+fn id_of(digits: &str) -> Option<[u8; 32]> {
+    // `from_str_radix` takes a sign, too.
+    if digits.len() != 64 || !digits.bytes().all(|digit| digit.is_ascii_hexdigit()) {
+        return None;
+    }
+    let mut id = [0; 32];
+    for (at, byte) in id.iter_mut().enumerate() {
+        *byte = u8::from_str_radix(&digits[2 * at..2 * at + 2], 16).ok()?;
+    }
+    Some(id)
+}
 
 macro_rules! ids {
     ($($(#[$doc:meta])* $name:ident;)*) => {$(
@@ -19,6 +44,21 @@ macro_rules! ids {
         impl fmt::Debug for $name {
             fn fmt(&self, f: &mut fmt::Formatter<'_>) -> fmt::Result {
                 write!(f, "{}({self})", stringify!($name))
+            }
+        }
+
+        impl From<[u8; 32]> for $name {
+            fn from(id: [u8; 32]) -> Self {
+                $name(id)
+            }
+        }
+
+        /// Of 64 hexadecimal digits.
+        impl FromStr for $name {
+            type Err = ParseIdError;
+
+            fn from_str(digits: &str) -> Result<Self, ParseIdError> {
+                id_of(digits).map($name).ok_or(ParseIdError)
             }
         }
     )*};
@@ -46,9 +86,21 @@ impl From<OutputId> for InputId {
 #[derive(Debug, Clone, Copy, PartialEq, Eq, PartialOrd, Ord, Hash)]
 pub struct TimeMs(pub u64);
 
+impl fmt::Display for TimeMs {
+    fn fmt(&self, f: &mut fmt::Formatter<'_>) -> fmt::Result {
+        write!(f, "{} ms", self.0)
+    }
+}
+
 /// A block height.
 #[derive(Debug, Clone, Copy, PartialEq, Eq, PartialOrd, Ord, Hash)]
 pub struct Height(pub u32);
+
+impl fmt::Display for Height {
+    fn fmt(&self, f: &mut fmt::Formatter<'_>) -> fmt::Result {
+        write!(f, "{}", self.0)
+    }
+}
 
 /// The limits of a queue, each in range.
 #[derive(Debug, Clone, Copy, PartialEq, Eq)]
@@ -60,9 +112,13 @@ pub struct Limits {
 }
 
 impl Limits {
+    /// The top setting of P.
     pub const MAX_PENDING: u32 = 1_024;
+    /// The top setting of B.
     pub const MAX_BYTES: u32 = 16_777_216;
+    /// The top setting of T.
     pub const MAX_TOMBSTONES: u32 = 1_024;
+    /// The top setting of K.
     pub const MAX_INPUTS: u32 = 128;
 
     /// The top settings.
@@ -142,50 +198,92 @@ pub enum Kind {
     Cursor = 3,
 }
 
+/// The state of a record. Queued and Conflicted records are pending.
 #[derive(Debug, Clone, Copy, PartialEq, Eq, PartialOrd, Ord, Hash)]
 pub enum State {
+    /// Waits for a block.
     Queued = 0,
+    /// Found in a block.
     Mined = 2,
+    /// Waits, but an input is not available.
     Conflicted = 3,
+    /// Withdrawn by a cancellation.
     Cancelled = 4,
+    /// Withdrawn at a deadline, or rolled back after its signed bytes were released.
     Expired = 5,
 }
 
 impl State {
+    /// All states.
+    pub const ALL: [State; 5] = [
+        State::Queued,
+        State::Mined,
+        State::Conflicted,
+        State::Cancelled,
+        State::Expired,
+    ];
+
+    /// The state of document 01's number.
     pub fn from_number(number: u8) -> Option<State> {
-        [
-            State::Queued,
-            State::Mined,
-            State::Conflicted,
-            State::Cancelled,
-            State::Expired,
-        ]
-        .into_iter()
-        .find(|state| *state as u8 == number)
+        Self::ALL.into_iter().find(|state| *state as u8 == number)
     }
 }
 
+impl fmt::Display for State {
+    fn fmt(&self, f: &mut fmt::Formatter<'_>) -> fmt::Result {
+        f.write_str(match self {
+            State::Queued => "Queued",
+            State::Mined => "Mined",
+            State::Conflicted => "Conflicted",
+            State::Cancelled => "Cancelled",
+            State::Expired => "Expired",
+        })
+    }
+}
+
+/// Why a record has its state.
 #[derive(Debug, Clone, Copy, PartialEq, Eq, PartialOrd, Ord, Hash)]
 pub enum Reason {
+    /// No reason is needed.
     None = 0,
+    /// It was cancelled.
     Cancelled = 1,
+    /// Its deadline has elapsed.
     DeadlineElapsed = 2,
+    /// Its block was rolled back after its signed bytes were released.
     RolledBackAfterRelease = 3,
+    /// Its block was rolled back.
     RolledBack = 4,
+    /// An input is not available.
     InputsUnavailable = 5,
 }
 
 impl Reason {
+    /// All reasons.
+    pub const ALL: [Reason; 6] = [
+        Reason::None,
+        Reason::Cancelled,
+        Reason::DeadlineElapsed,
+        Reason::RolledBackAfterRelease,
+        Reason::RolledBack,
+        Reason::InputsUnavailable,
+    ];
+
+    /// The reason of document 01's number.
     pub fn from_number(number: u8) -> Option<Reason> {
-        [
-            Reason::None,
-            Reason::Cancelled,
-            Reason::DeadlineElapsed,
-            Reason::RolledBackAfterRelease,
-            Reason::RolledBack,
-            Reason::InputsUnavailable,
-        ]
-        .into_iter()
-        .find(|reason| *reason as u8 == number)
+        Self::ALL.into_iter().find(|reason| *reason as u8 == number)
+    }
+}
+
+impl fmt::Display for Reason {
+    fn fmt(&self, f: &mut fmt::Formatter<'_>) -> fmt::Result {
+        f.write_str(match self {
+            Reason::None => "none",
+            Reason::Cancelled => "cancelled",
+            Reason::DeadlineElapsed => "deadline elapsed",
+            Reason::RolledBackAfterRelease => "rolled back after release",
+            Reason::RolledBack => "rolled back",
+            Reason::InputsUnavailable => "inputs unavailable",
+        })
     }
 }

@@ -2,6 +2,8 @@
 
 use std::collections::{BTreeMap, BTreeSet};
 
+use pokerbox::{Error, Kind, Limits, Outcome, Reason, State};
+
 /// By function, the types of its parameters in Rust's words.
 type Declarations = BTreeMap<String, Vec<String>>;
 
@@ -81,4 +83,46 @@ fn the_header_marks_what_is_not_exported_yet() {
         .map(|name| format!("pokerbox_{name}"))
         .collect();
     assert_eq!(marked, missing);
+}
+
+/// By name, without `POKERBOX_`, the numbers that the header defines.
+fn constants(header: &str) -> BTreeMap<String, u64> {
+    header
+        .lines()
+        .filter_map(|line| line.strip_prefix("#define POKERBOX_"))
+        .filter_map(|line| line.split_once(' '))
+        .filter_map(|(name, number)| Some((name.to_string(), number.parse().ok()?)))
+        .collect()
+}
+
+/// A variant's name as a constant's: `QueueFull` is `QUEUE_FULL`.
+fn constant(prefix: &str, variant: impl std::fmt::Debug) -> String {
+    let mut name = String::from(prefix);
+    for letter in format!("{variant:?}").chars() {
+        if letter.is_uppercase() && !name.is_empty() {
+            name.push('_');
+        }
+        name.extend(letter.to_uppercase());
+    }
+    name
+}
+
+#[test]
+fn the_header_defines_the_numbers_of_rust() {
+    const KINDS: [Kind; 4] = [Kind::Nothing, Kind::Memory, Kind::Whole, Kind::Cursor];
+    let mut expected = BTreeMap::from([
+        ("ANSWERED".to_string(), 100),
+        ("MAX_PENDING".to_string(), Limits::MAX_PENDING.into()),
+        ("MAX_BYTES".to_string(), Limits::MAX_BYTES.into()),
+        ("MAX_TOMBSTONES".to_string(), Limits::MAX_TOMBSTONES.into()),
+        ("MAX_INPUTS".to_string(), Limits::MAX_INPUTS.into()),
+    ]);
+    expected.extend(Error::ALL.map(|error| (constant("", error), error.number())));
+    expected.extend(KINDS.map(|kind| (constant("KIND", kind), kind as u64)));
+    expected.extend(KINDS.map(|kind| (constant("ANSWERED", kind), 100 + kind as u64)));
+    expected.extend(State::ALL.map(|state| (constant("STATE", state), state as u64)));
+    expected.extend(Reason::ALL.map(|reason| (constant("REASON", reason), reason as u64)));
+    let outcomes = [Outcome::Kept, Outcome::Failed];
+    expected.extend(outcomes.map(|outcome| (constant("OUTCOME", outcome), outcome as u64)));
+    assert_eq!(constants(&text("include/pokerbox.h")), expected);
 }

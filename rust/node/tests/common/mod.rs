@@ -13,6 +13,19 @@ use pokerbox::{Error, Kind};
 #[allow(unused_imports)]
 pub use folder::Folder;
 
+/// An example's program, beside the test's own, where cargo puts it.
+pub fn example(name: &str) -> std::path::PathBuf {
+    let test = std::env::current_exe().expect("the test's path");
+    let profile = test.ancestors().nth(2).expect("target's profile folder");
+    let program = profile.join("examples").join(name);
+    assert!(
+        program.exists(),
+        "{} is missing: run `cargo build -p pokerbox --examples`",
+        program.display()
+    );
+    program
+}
+
 /// The number that an exported call gave back.
 pub trait Number {
     fn number(self) -> u64;

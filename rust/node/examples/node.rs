@@ -1,0 +1,62 @@
+use std::collections::{BTreeMap, BTreeSet};
+
+use pokerbox::store::{FileStore, StoreError};
+use pokerbox::{
+    Admission, BlockId, Height, InputId, Limits, OutputId, Reconciliation, State, TimeMs, TxId,
+};
+
+fn main() -> Result<(), Box<dyn std::error::Error>> {
+    let folder = std::env::temp_dir().join(format!("pokerbox-node-{}", std::process::id()));
+    // 16 pending, 65,536 signed bytes, 16 tombstones, 8 inputs or outputs each.
+    let limits = Limits::new(16, 65_536, 16, 8)?;
+    // Once, when the unit is set up. At each start `open`, which refuses where no store stands.
+    let mut store = FileStore::create(folder.join("image"), limits)?;
+
+    // A call of the store is made, its image written, and the call settled with the outcome.
+    let (id, block) = (TxId([1; 32]), BlockId([4; 32]));
+    let (inputs, outputs) = (vec![InputId([2; 32])], vec![OutputId([3; 32])]);
+    let signed = b"signed bytes".to_vec();
+    store.admit(&Admission {
+        priority: 7,
+        ..Admission::new(id, inputs, outputs, signed, TimeMs(1_000), Height(100))
+    })?;
+
+    // What the template builder takes, best first.
+    let queue = store.queue();
+    for id in queue.selection_entries_at(TimeMs(1_000), Height(100))? {
+        let signed: &[u8] = queue.signed_bytes(id)?;
+        println!("{id}: {} signed bytes", signed.len());
+    }
+
+    // A write that fails is refusal 17: the queue is as before, and the call can be made again.
+    std::fs::create_dir(folder.join("image.new"))?; // in the way of the second file
+    match store.cancel(id) {
+        Err(StoreError::WriteFailed(cause)) => println!("not cancelled: {cause}"),
+        other => println!("{other:?}"),
+    }
+    std::fs::remove_dir(folder.join("image.new"))?;
+    assert_eq!(store.queue().entry(id)?.state, State::Queued);
+
+    // A block has the transaction.
+    let reconciled = store.reconcile(&Reconciliation {
+        height: Height(101),
+        tip: block,
+        applied: BTreeMap::from([(id, (Height(101), block))]),
+        caught_up: true,
+        available: BTreeSet::new(),
+        window: 10,
+    })?;
+    println!("changed: {}", reconciled.changed);
+
+    // What was kept, but not as safely as it should be: for the operator.
+    for warning in store.take_warnings() {
+        eprintln!("{warning}");
+    }
+
+    // The next start.
+    drop(store);
+    let store = FileStore::open(folder.join("image"), limits)?;
+    assert_eq!(store.queue().entry(id)?.state, State::Mined);
+    std::fs::remove_dir_all(folder)?;
+    Ok(())
+}

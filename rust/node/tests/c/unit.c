@@ -1,0 +1,75 @@
+/* A queue in C: a transaction is admitted, stored, selected, opened again and cancelled. */
+
+#include <pokerbox.h>
+#include <stdint.h>
+#include <stdio.h>
+#include <stdlib.h>
+#include <string.h>
+
+enum { P = 2, B = 10, T = 1, K = 1 };
+
+static void expect(const char *what, uint64_t given, uint64_t expected) {
+    if (given != expected) {
+        printf("%s: %llu and not %llu\n", what, (unsigned long long)given,
+               (unsigned long long)expected);
+        exit(1);
+    }
+}
+
+int main(void) {
+    static uint8_t cur[POKERBOX_AREA_LEN(P, B, T, K)];
+    static uint8_t next[POKERBOX_AREA_LEN(P, B, T, K)];
+    static uint8_t image[POKERBOX_MAX_IMAGE_LEN(P, B, T, K)];
+    uint8_t id[32], input[32], output[32], out[400];
+    const uint8_t signed_bytes[3] = {1, 2, 3};
+    const uint8_t none[1] = {0};
+    uint64_t length, start, empty;
+
+    memset(id, 0x11, sizeof id);
+    memset(input, 0x21, sizeof input);
+    memset(output, 0x31, sizeof output);
+    expect("P 0", pokerbox_fresh(0, B, T, K, cur, sizeof cur), POKERBOX_LIMIT_OUT_OF_RANGE);
+    expect("fresh", pokerbox_fresh(P, B, T, K, cur, sizeof cur), POKERBOX_ANSWERED);
+    expect("cancel in empty",
+           pokerbox_cancel(cur, sizeof cur, next, sizeof next, id, sizeof id, out, sizeof out),
+           POKERBOX_NOT_FOUND);
+    expect("admit",
+           pokerbox_admit(cur, sizeof cur, next, sizeof next, id, sizeof id, input, sizeof input,
+                          output, sizeof output, signed_bytes, sizeof signed_bytes, 5, 0, 0, 0, 0,
+                          7, 0, none, 0, 1000, 9, 6, 0, none, 0, out, sizeof out),
+           POKERBOX_ANSWERED_WHOLE);
+    expect("state", out[32], POKERBOX_STATE_QUEUED);
+
+    /* A write is due: the image of the next area would go to a file here. */
+    expect("image", pokerbox_image(next, sizeof next, image, sizeof image, &length),
+           POKERBOX_ANSWERED);
+    expect("settle",
+           pokerbox_settle(cur, sizeof cur, next, sizeof next, POKERBOX_KIND_WHOLE,
+                           POKERBOX_OUTCOME_KEPT),
+           POKERBOX_ANSWERED);
+    expect("select", pokerbox_selection_entries_at(next, sizeof next, 5, 6, out, sizeof out),
+           POKERBOX_ANSWERED);
+    expect("selected", out[3], 1);
+
+    expect("open", pokerbox_open(image, length, cur, sizeof cur), POKERBOX_ANSWERED);
+    expect("opened", (uint64_t)memcmp(cur, next, sizeof cur), 0);
+    expect("signed bytes",
+           pokerbox_signed_bytes(cur, sizeof cur, id, sizeof id, &start, &length),
+           POKERBOX_ANSWERED);
+    expect("their place", (uint64_t)memcmp(cur + start, signed_bytes, length), 0);
+
+    expect("cancel",
+           pokerbox_cancel(cur, sizeof cur, next, sizeof next, id, sizeof id, out, sizeof out),
+           POKERBOX_ANSWERED_WHOLE);
+    expect("state", out[32], POKERBOX_STATE_CANCELLED);
+    expect("reason", out[33], POKERBOX_REASON_CANCELLED);
+    expect("settle as failed",
+           pokerbox_settle(cur, sizeof cur, next, sizeof next, POKERBOX_KIND_WHOLE,
+                           POKERBOX_OUTCOME_FAILED),
+           POKERBOX_WRITE_FAILED);
+    expect("after it", (uint64_t)memcmp(cur, next, sizeof cur), 0);
+    expect("is_empty", pokerbox_is_empty(next, sizeof next, &empty), POKERBOX_ANSWERED);
+    expect("empty", empty, 0);
+    puts("all answers as expected");
+    return 0;
+}
