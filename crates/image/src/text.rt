@@ -32,8 +32,7 @@ pub fn text_at(s: &[u8]) -> Text
         };
     }
     let h = x.head;
-    let c = h.counter;
-    if !sound_at(s, true, x.start, h.count, h.p, h.b, h.t, h.k, c) {
+    if !sound_at(s, true, x) {
         return Text {
             ok: false,
             open: x,

@@ -7,6 +7,7 @@ pub mod FilterLaws
 pub mod RowLaws
 pub mod SuspectLaws
 pub mod NumberLaws
+pub mod CheckLaws
 pub mod ClashLaws
 pub mod OpenLaws
 pub mod ByteLaws

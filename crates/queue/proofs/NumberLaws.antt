@@ -55,6 +55,13 @@ pub distinct-is : {b : Bool} (l : List Rec) → Differ (numbersOf l) b → b ≡
 distinct-is {b = true} l d = distinct-yes l (λ m. rw (numbers-times m l) (d .yes refl m))
 distinct-is {b = false} l d = let u = d .no refl in distinct-no l (u .0) (rw (numbers-times (u .0) l) (u .1))
 
+times-few : (m : ℕ) (v : List ℕ) → timesIn m v ≤ length v
+times-few m [] = omega arith
+times-few m (x ∷ v) = let i = times-few m v in cases (eqb x m) (λ t. rw t (omega arith)) (λ t. rw t (omega arith))
+
+pub distinct-none : {m : ℕ} (l : List Rec) → tombstones l ≡ m → m ≡ 0 → true ≡ distinct? l
+distinct-none l e z = distinct-is l (record { yes = λ _ m. let a = times-few m (numbersOf l) in let b = numbers-long l in omega arith; no = λ f. false-true (sym f) })
+
 -- ---- the table filled
 pub add-more : (f : Facts) (v : List ℕ) (k : ℕ) → f .holder ≡ true → take k v ≡ take k v ++ numberF f
 add-more f v k e = rw e (sym (append-nil (take k v)))

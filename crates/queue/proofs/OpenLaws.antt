@@ -18,17 +18,19 @@ use Rattle.queue.specs.View.{view}
 use Rattle.queue.specs.Forms.{formC, afterIn, endsLine, Framed, framed, frame-bad, taken, Many, Store, headFor, storeC, store-read, queueC, storeOf, queue-read}
 use Rattle.queue.specs.Areas.{readArea, readGot, zero?, reads-stands, area-found, area-none}
 use Rattle.queue.specs.Facts.{factsOf, HeadAs}
-use Rattle.queue.specs.Rules.{rightF, weight, sum}
-use Rattle.queue.specs.Opens.{limits, StoreAs, heldOk, minedOk, soundL, sound-list, filledBy, FilledAs, AreaAs, AreaIs}
+use Rattle.queue.specs.Rules.{weight, sum}
+use Rattle.queue.specs.Sums.{SumsAs, countsN}
+use Rattle.queue.specs.Opens.{limits, StoreAs, soundL, sound-list, filledBy, FilledAs, AreaAs, AreaIs}
 use Rattle.queue.specs.paper.Records.{Bytes, Limits, Rec, Queue}
 use Rattle.queue.specs.paper.Lists.{one, all?}
-use Rattle.queue.specs.paper.Sound.{inRange, need, holders, holderBytes, minedHolders, minedBytes, tombstones, right?, counts?, rising?, distinct?, apart?, sound?}
+use Rattle.queue.specs.paper.Sound.{inRange, need, holder?, holders, holderBytes, minedHolders, minedBytes, tombstones, right?, counts?, rising?, distinct?, apart?, sound?}
 use Rattle.queue.specs.declared.frame.HeadR.{HeadR}
 use Rattle.queue.specs.declared.frame.Finish.{Finish}
 use Rattle.queue.specs.declared.area.Open.{Open}
 use Rattle.queue.specs.declared.area.Area.{Area}
 use Rattle.queue.specs.declared.scan.Span.{Span}
-use Rattle.queue.specs.declared.rules.Query.the-variants.{Holders, HeldBytes, MinedHolders, MinedBytes, Tombstones, Wrong}
+use Rattle.queue.specs.declared.scan.Sums.{Sums}
+use Rattle.queue.specs.declared.rules.Query.the-variants.{Holders, HeldBytes, MinedHolders, MinedBytes}
 
 -- ---- limits
 pub record Ranged (m : Limits) : Type 0 where
@@ -82,53 +84,64 @@ pub minedBytes-sum : (l : List Rec) → sum MinedBytes l ≡ minedBytes l
 unfolding sum weight factsOf
 minedBytes-sum l = refl
 
-pub tombs-sum : (l : List Rec) → sum Tombstones l ≡ tombstones l
-unfolding sum weight factsOf
-tombs-sum l = refl
+pub tombs-rest : (l : List Rec) → holders l + tombstones l ≡ length l
+tombs-rest [] = refl
+tombs-rest (r ∷ l) = let i = tombs-rest l in cases (holder? r) (λ t. rw t (omega arith)) (λ t. rw t (omega arith))
 
-right-facts : (k c : ℕ) (r : Rec) → rightF k c (factsOf r) ≡ right? k c r
-unfolding rightF factsOf right?
-right-facts k c r = refl
+counts-plain : (p b t k n : ℕ) {h i m e : ℕ} (l : List Rec) → h ≡ sum Holders l → i ≡ sum HeldBytes l → m ≡ sum MinedHolders l → e ≡ sum MinedBytes l → length l ≡ n
+    → ((leb n (2 * p + t) && (leb h (2 * p) && leb i (2 * b))) && ((leb m p && leb e b) && leb (n - h) t)) ≡ counts? (limits p b t k) l
+unfolding counts?
+counts-plain p b t k n l eh ei em ee g =
+    let u = tombs-rest l in
+    let v : length l - holders l ≡ tombstones l = omega arith in
+    rw (eh, ei, em, ee, ← g, holders-sum, bytes-sum, mined-sum, minedBytes-sum, v)
 
-pub right-sum : (k : ℕ) (c : Finish) (l : List Rec) → eqb (sum (Wrong k c) l) 0 ≡ all? (right? k (c .0)) l
-unfolding sum weight
-right-sum k c [] = refl
-right-sum k c (r ∷ l) = let i = right-sum k c l in cases (right? k (c .0) r)
-    (λ t. rw (right-facts k (c .0) r, t, zero-add) i)
-    (λ t. rw (right-facts k (c .0) r, t) (ne-eqb (1 + sum (Wrong k c) l) 0 (λ e. omega arith)))
+-- ---- the rules on what the records come to
+module _ (p b t k n : ℕ) (c : Finish) (a : Sums) (l : List Rec) (s : SumsAs k c a l) (g : length l ≡ n) where
+  counts-is : countsN n p b t a ≡ counts? (limits p b t k) l
+  unfolding countsN
+  counts-is = counts-plain p b t k n l (s .holders) (s .bytes) (s .mined) (s .minedbytes) g
 
-pub held-is : (p b t : ℕ) {h i n : ℕ} (l : List Rec) → h ≡ sum Holders l → i ≡ sum HeldBytes l → length l ≡ n → (leb n (2 * p + t) && (leb h (2 * p) && leb i (2 * b))) ≡ heldOk p b t l
-unfolding heldOk
-held-is p b t l e f g = rw (e, f, ← g, holders-sum, bytes-sum)
+  pub held-few : a .holders ≤ n
+  held-few = let u = tombs-rest l in let e = s .holders ∙ holders-sum l in omega arith
 
-pub mined-is : (p b t : ℕ) {h i m : ℕ} (l : List Rec) → h ≡ sum MinedHolders l → i ≡ sum MinedBytes l → m ≡ sum Tombstones l → ((leb h p && leb i b) && leb m t) ≡ minedOk p b t l
-unfolding minedOk
-mined-is p b t l e f g = rw (e, f, g, mined-sum, minedBytes-sum, tombs-sum)
+  pub tombs-are : tombstones l ≡ n - a .holders
+  tombs-are = let u = tombs-rest l in let e = s .holders ∙ holders-sum l in omega arith
 
-pub sound-out : (m : Limits) (c : ℕ) (l : List Rec) → inRange m ≡ false → false ≡ soundL m c l
-unfolding soundL
-sound-out m c l e = rw e
+  pub sound-out : inRange (limits p b t k) ≡ false → false ≡ soundL (limits p b t k) (c .0) l
+  unfolding soundL
+  sound-out e = rw e
 
-pub sound-many : (p b t k c : ℕ) (l : List Rec) {x : Bool} → x ≡ (heldOk p b t l && minedOk p b t l) → x ≡ false → false ≡ soundL (limits p b t k) c l
-unfolding soundL counts? heldOk minedOk
-sound-many p b t k c l e f = rw (sym e ∙ f) (never (inRange (limits p b t k)))
-  where
-    never : (a : Bool) → false ≡ (a && false)
-    never true = refl
-    never false = refl
+  module _ (r : inRange (limits p b t k) ≡ true) {x : Bool} (e : x ≡ countsN n p b t a) where
+    pub sound-many : x ≡ false → false ≡ soundL (limits p b t k) (c .0) l
+    unfolding soundL
+    sound-many f = rw (r, sym counts-is ∙ sym e ∙ f)
 
-pub few-tombs : (p b t k : ℕ) (l : List Rec) {x : Bool} → inRange (limits p b t k) ≡ true → x ≡ (heldOk p b t l && minedOk p b t l) → x ≡ true → tombstones l ≤ 1024
-unfolding minedOk
-few-tombs p b t k l r e f =
-    let u = and-true (heldOk p b t l) (minedOk p b t l) (sym e ∙ f) in
-    let h = leb-true (tombstones l) t (and-true (leb (minedHolders l) p && leb (minedBytes l) b) (leb (tombstones l) t) (u .1) .1) in
-    let g = ranged (limits p b t k) r in
-    omega (arith, g .t2)
+    pub few-tombs : x ≡ true → n - a .holders ≤ 1024
+    unfolding countsN
+    few-tombs f =
+        let u = and-true (leb n (2 * p + t) && (leb (a .holders) (2 * p) && leb (a .bytes) (2 * b))) _ (sym e ∙ f) in
+        let v = leb-true (n - a .holders) t (and-true (leb (a .mined) p && leb (a .minedbytes) b) _ (u .1) .1) in
+        omega (arith, ranged (limits p b t k) r .t2)
 
-pub sound-in : (p b t k : ℕ) (c : Finish) (l : List Rec) {x y z : Bool} {n : ℕ} → inRange (limits p b t k) ≡ true → x ≡ (heldOk p b t l && minedOk p b t l) → x ≡ true → n ≡ sum (Wrong k c) l → y ≡ rising? l → z ≡ (distinct? l && apart? l)
-    → (eqb n 0 && (y && z)) ≡ soundL (limits p b t k) (c .0) l
-unfolding soundL counts? heldOk minedOk
-sound-in p b t k c l r e d f g h = rw (r, sym e ∙ d, f, right-sum k c l, g, h)
+    module _ (f : x ≡ true) {y : Bool} (h : y ≡ (a .right && a .rises)) where
+      pub sound-wrong : y ≡ false → false ≡ soundL (limits p b t k) (c .0) l
+      unfolding soundL
+      sound-wrong z = rw (r, sym counts-is ∙ sym e ∙ f) (deny (all? (right? k (c .0)) l) (rising? l) (distinct? l && apart? l) (sym (h ∙ two (s .right) (s .rises)) ∙ z))
+        where
+          two : {u v u′ v′ : Bool} → u ≡ u′ → v ≡ v′ → (u && v) ≡ (u′ && v′)
+          two i j = rw (i, j)
+
+          deny : (u v w : Bool) → (u && v) ≡ false → false ≡ (u && (v && w))
+          deny true true w q = false-true (sym q)
+          deny true false w q = refl
+          deny false v w q = refl
+
+      pub sound-in : {d o z : Bool} → y ≡ true → d ≡ distinct? l → o ≡ apart? l → z ≡ (d && o) → z ≡ soundL (limits p b t k) (c .0) l
+      unfolding soundL
+      sound-in {d} {o} {z} q i j w =
+          let u = and-true (a .right) (a .rises) (sym h ∙ q) in
+          w ∙ rw (r, sym counts-is ∙ sym e ∙ f, sym (s .right) ∙ u .0, sym (s .rises) ∙ u .1, i, j)
 
 pub sound-range : (m : Limits) (c : ℕ) (l : List Rec) → soundL m c l ≡ true → inRange m ≡ true
 unfolding soundL
@@ -153,9 +166,12 @@ module _ (hex : Bool) (s : Bytes) {base : ℕ} {h : HeadR} (b : base ≤ length 
   pub store-line : {e : Bool} → h .ok ≡ true → e ≡ endsLine hex s base (h .size) → e ≡ false → (W : Store → Type 0) → Reads (storeC hex) s base false 0 W
   store-line t e f W = store-fail (rw (t, ← e, f)) W
 
-  pub store-good : {e o : Bool} {j n : ℕ} → h .ok ≡ true → e ≡ endsLine hex s base (h .size) → e ≡ true → j ≡ afterIn hex s base (h .size)
-      → Many (formC hex recC) s j (h .count) o n → Reads (storeC hex) s base o n (StoreAs hex s base (record { ok = o; head = h; start = j; next = n }))
-  store-good {e} {o} {j} {n} t e′ f g m =
+  pub head-count : h .ok ≡ true → h .count < 4294967296
+  head-count t = r .good (omega arith) t .4 .countSmall
+
+  pub store-good : {e o : Bool} {j n : ℕ} {a : Sums} → h .ok ≡ true → e ≡ endsLine hex s base (h .size) → e ≡ true → j ≡ afterIn hex s base (h .size)
+      → Many (formC hex recC) s j (h .count) o n → (o ≡ true → SumsAs (h .k) (h .counter) a (listAt (formC hex recC) (h .count) s j)) → Reads (storeC hex) s base o n (StoreAs hex s base (record { ok = o; head = h; start = j; next = n; sums = a }))
+  store-good {e} {o} {j} {n} t e′ f g m k′ =
       let k : (h .ok && endsLine hex s base (h .size)) ≡ true = rw (t, ← e′, f) in
       let u = framed hex b r in
       let w = weaken (λ a. (a .count ≡ h .count) × (HeadAs (view hex s base) h a × Framed headC hex s base (h .ok) (h .size) a)) u (λ a _ _ _ y. (y .0 .count, y)) in
@@ -177,6 +193,7 @@ module _ (hex : Bool) (s : Bytes) {base : ℕ} {h : HeadR} (b : base ≤ length 
             end = x .0;
             up = x .1;
             ends = x .2;
+            sums = k′ y;
           },
         );
         bad = λ l y. v .bad l (rw k y);

@@ -21,7 +21,7 @@ use Rattle.queue.specs.Areas.{zero?}
 use Rattle.queue.specs.paper.Records.{Bytes, Id, Rec}
 use Rattle.queue.specs.paper.Lists.{any?, total}
 use Rattle.queue.specs.paper.Ids.{cmpL}
-use Rattle.queue.specs.paper.Sound.{rising?, among?}
+use Rattle.queue.specs.paper.Sound.{among?}
 use Rattle.queue.specs.declared.frame.Seen.{Seen}
 use Rattle.queue.specs.declared.rules.Query.{Query}
 use Rattle.queue.proofs.Turns.{Scan, start, here, on, stop, end, SeenIn, ReadsRec, seen, see}
@@ -67,43 +67,6 @@ module _ {hex : Bool} {s : Bytes} {n at i left m : ℕ} {ok : Bool} {y : Seen} (
 
 pub frames-end : {hex : Bool} {s : Bytes} {n at i left : ℕ} → Framing hex s n at i left → left ≡ 0 → (true ≡ whole (formC hex recC) n s at) × (drop i s ≡ behind (formC hex recC) n s at)
 frames-end {hex} {s} {n} {at} {i} {left} x z = let u = none-left (formC hex recC) s left i z in (sym (u .1) ∙ x .all, sym (u .2) ∙ x .rest)
-
--- ---- rising ids
-unfoldable pub chain? : Id → List Rec → Bool
-chain? p [] = true
-chain? p (r ∷ l) = eqb (cmpL p (r .id)) 0 && chain? (r .id) l
-
-rising-chain : (r : Rec) (l : List Rec) → rising? (r ∷ l) ≡ chain? (r .id) l
-unfolding rising? chain?
-rising-chain r [] = refl
-rising-chain r (x ∷ l) = rw (rising-chain x l)
-
-pub rise-none : (hex : Bool) (s : Bytes) (n at : ℕ) → n ≡ 0 → true ≡ rising? (listAt (formC hex recC) n s at)
-unfolding rising?
-rise-none hex s n at z = rw (none-left (formC hex recC) s n at z .0)
-
-pub rise-first : (hex : Bool) {s : Bytes} (n : ℕ) {at m j : ℕ} {ok : Bool} {y : Seen} → at ≤ length s → whole (formC hex recC) n s at ≡ true → 0 < n → ReadsRec hex s at ok m y → j ≡ afterIn hex s at m
-    → Scan (formC hex recC) chain? s (n - 1) j (y .id) j (n - 1) (y .id) × (chain? (y .id) (listAt (formC hex recC) (n - 1) s j) ≡ rising? (listAt (formC hex recC) n s at)) × (m ≤ length (view hex s at))
-rise-first hex {s} n {at} {m} {j} {ok} {y} h w p r g =
-    let x = start (formC hex recC) (λ (u : Unit {0}) (l : List Rec). u) s n at tt h w in
-    let t = see hex x p r g in (
-      start (formC hex recC) chain? s (n - 1) j (y .id) (t .within) (t .rest),
-      ap (λ i. chain? i (listAt (formC hex recC) (n - 1) s j)) (t .is .0 .id) ∙ sym (rising-chain (t .item) (listAt (formC hex recC) (n - 1) s j)) ∙ ap rising? (sym (t .list)),
-      t .is .1 .within,
-    )
-
-module _ (hex : Bool) {s : Bytes} {n at i left : ℕ} {p₀ p : Id} (x : Scan (formC hex recC) chain? s n at p₀ i left p) where
-  pub rise-go : {m j : ℕ} {ok : Bool} {y : Seen} → 0 < left → ReadsRec hex s i ok m y → j ≡ afterIn hex s i m → cmpL p (y .id) ≡ 0 → Scan (formC hex recC) chain? s n at p₀ j (left - 1) (y .id)
-  unfolding chain?
-  rise-go {y = y} h r g e = let t = see hex x h r g in on x (y .id) h t (rw (← (t .is .0 .id), eq-eqb _ _ e))
-
-  pub rise-stop : {m : ℕ} {ok : Bool} {y : Seen} → 0 < left → ReadsRec hex s i ok m y → (cmpL p (y .id) ≡ 0 → ⊥) → false ≡ chain? p₀ (listAt (formC hex recC) n s at)
-  unfolding chain?
-  rise-stop h r e = let t = seen hex x h r in stop x t (rw (← (t .is .0 .id), ne-eqb _ _ e))
-
-  pub rise-end : left ≡ 0 → true ≡ chain? p₀ (listAt (formC hex recC) n s at)
-  unfolding chain?
-  rise-end z = end x z
 
 -- ---- searches: no state
 unfoldable pub nothingF : Unit {0} → List Rec → Unit {0}

@@ -381,6 +381,9 @@ module _ {last : Bool} {all : List Rec} where
   pub said-out : last ≡ false → Said last all 2
   said-out e = record { yes = λ z. absurd (let y : ⊥ = omega arith in y); no = λ z. absurd (let y : ⊥ = omega arith in y); sure = λ t. false-true (sym e ∙ t) }
 
+  pub said-any : {r : ℕ} → Said last all r → Said false all r
+  said-any s = record { yes = s .yes; no = s .no; sure = λ t. false-true t }
+
   module _ {b : Bool} (e : not b ≡ apart? all) where
     pub said-crossed : b ≡ true → Said last all 0
     said-crossed t = said-no (sym e ∙ ap not t)

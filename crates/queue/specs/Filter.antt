@@ -17,10 +17,10 @@ unfoldable pub slotL : ℕ → ℕ → ℕ
 slotL n h = h % n
 
 unfoldable pub maskL : ℕ → ℕ
-maskL h = bitOr (2 ^ (h / 2048 % 64)) (2 ^ (h / 131072 % 64))
+maskL h = bitOr (bitOr (bitOr (2 ^ (h / 16384 % 64)) (2 ^ (h / 1048576 % 64))) (2 ^ (h / 67108864 % 64))) (2 ^ (h / 4294967296 % 64))
 
 unfoldable pub hashL : Id → ℕ
-hashL x = (beAt 8 (view false x 0) 0 + beAt 8 (view false x 0) 24) % 2 ^ 64 % 8388593
+hashL x = (beAt 8 (view false x 0) 0 + beAt 8 (view false x 0) 24) % 2 ^ 64 % 274877906899
 
 unfoldable pub marked : List ℕ → ℕ → Bool
 marked t h = eqb (bitOr (getD t (slotL (length t) h) 0) (maskL h)) (getD t (slotL (length t) h) 0)

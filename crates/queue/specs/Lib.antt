@@ -15,6 +15,7 @@ pub mod Rules
 pub mod Filter
 pub mod Suspects
 pub mod Numbers
+pub mod Sums
 pub mod Opens
 pub mod Plain
 pub mod Order

@@ -13,9 +13,10 @@ use Rattle.queue.specs.View.{view}
 use Rattle.queue.specs.Forms.{formC, afterIn, Framed, Store, headFor, storeOf, storeC, queueC}
 use Rattle.queue.specs.Areas.{readArea, zero?}
 use Rattle.queue.specs.Facts.{HeadAs}
+use Rattle.queue.specs.Sums.{SumsAs}
 use Rattle.queue.specs.paper.Records.{Bytes, Limits, Rec, Queue}
 use Rattle.queue.specs.paper.Lists.{all?}
-use Rattle.queue.specs.paper.Sound.{inRange, need, holders, holderBytes, minedHolders, minedBytes, tombstones, right?, counts?, rising?, distinct?, apart?, sound?}
+use Rattle.queue.specs.paper.Sound.{inRange, need, right?, counts?, rising?, distinct?, apart?, sound?}
 use Rattle.queue.specs.declared.area.Open.{Open}
 use Rattle.queue.specs.declared.area.Area.{Area}
 use Rattle.queue.specs.declared.scan.Span.{Span}
@@ -34,14 +35,9 @@ pub record StoreAs (hex : Bool) (s : Bytes) (base : ℕ) (x : Open) (st : Store)
   pub end : drop (x .next) s ≡ behind (formC hex recC) (x .head .count) s (x .start)
   pub up : x .start ≤ x .next
   pub ends : x .next ≤ length s
+  pub sums : SumsAs (x .head .k) (x .head .counter) (x .sums) (listAt (formC hex recC) (x .head .count) s (x .start))
 
--- the rules of a sound queue on its limits, counter and records; the counts in two parts
-unfoldable pub heldOk : ℕ → ℕ → ℕ → List Rec → Bool
-heldOk p b t l = leb (length l) (2 * p + t) && (leb (holders l) (2 * p) && leb (holderBytes l) (2 * b))
-
-unfoldable pub minedOk : ℕ → ℕ → ℕ → List Rec → Bool
-minedOk p b t l = (leb (minedHolders l) p && leb (minedBytes l) b) && leb (tombstones l) t
-
+-- the rules of a sound queue on its limits, counter and records
 unfoldable pub soundL : Limits → ℕ → List Rec → Bool
 soundL m counter l =
     inRange m && (counts? m l && (all? (right? (m .K) counter) l && (rising? l && (distinct? l && apart? l))))

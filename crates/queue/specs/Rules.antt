@@ -13,7 +13,7 @@ use Rattle.queue.specs.paper.Changing.{reached?, due?, higher}
 use Rattle.queue.specs.Facts.{factsOf}
 use Rattle.queue.specs.declared.frame.Facts.{Facts}
 use Rattle.queue.specs.declared.rules.Query.{Query}
-use Rattle.queue.specs.declared.rules.Query.the-variants.{Holders, HeldBytes, MinedHolders, MinedBytes, Tombstones, Wrong, Due}
+use Rattle.queue.specs.declared.rules.Query.the-variants.{Holders, HeldBytes, MinedHolders, MinedBytes, Tombstones, Due}
 
 unfoldable pub rightF : ℕ → ℕ → Facts → Bool
 rightF k c f =
@@ -34,7 +34,6 @@ weight HeldBytes f = f .bytes
 weight MinedHolders f = one (eqb (f .state) 2 && f .holder)
 weight MinedBytes f = cond (eqb (f .state) 2) (f .bytes) 0
 weight Tombstones f = one (not (f .holder))
-weight (Wrong k c) f = one (not (rightF k (c .0) f))
 weight (Due t h) f = one (dueF (t .0) (h .0) f)
 
 unfoldable pub sum : Query → List Rec → ℕ

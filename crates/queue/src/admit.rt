@@ -24,11 +24,9 @@ use super::reading::entry_len;
 use super::reading::find_id;
 use super::reading::put_entry;
 use super::reopen::put_lead;
-use super::rules::Query;
 use super::rules::height_reached;
 use super::rules::pending;
 use super::rules::time_reached;
-use super::scan::tally;
 use super::view::cmp_id;
 use super::view::id_at;
 use super::view::size;
@@ -271,17 +269,14 @@ fn room_for(s: &[u8], a: Area, n: u64) -> u64
     let o = a.open;
     let h = o.head;
     let b = h.b;
-    let held = tally(s, false, o.start, h.count, Query::Holders);
-    let mined = tally(s, false, o.start, h.count, Query::MinedHolders);
-    if h.p <= held - mined {
+    let u = o.sums;
+    if h.p <= u.holders - u.mined {
         return 10;
     }
     if b < n {
         return 11;
     }
-    let all = tally(s, false, o.start, h.count, Query::HeldBytes);
-    let rest = tally(s, false, o.start, h.count, Query::MinedBytes);
-    if b - n < all - rest {
+    if b - n < u.bytes - u.minedbytes {
         return 11;
     }
     0

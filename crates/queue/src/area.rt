@@ -9,12 +9,11 @@ use super::frame::num;
 use super::limits::Limits;
 use super::logic::both;
 use super::numbers::distinct;
-use super::rules::Query;
 use super::scan::Span;
+use super::scan::Sums;
 use super::scan::apart;
 use super::scan::frames;
-use super::scan::rising;
-use super::scan::tally;
+use super::scan::no_sums;
 use super::scan::zeros;
 ghost use mathlib.Core.Path.{_≡_};
 ghost use mathlib.Core.Bool.{true, false, _&&_};
@@ -24,14 +23,16 @@ ghost use lib.ListN.{length};
 ghost use Rattle.queue.specs.Frames.{recC};
 ghost use Rattle.queue.specs.Forms.{formC, storeC};
 ghost use Rattle.queue.specs.Reads.{Reads, whole, listAt};
-ghost use Rattle.queue.specs.Opens.{limits, StoreAs, heldOk, minedOk, soundL, FilledAs, AreaIs};
+ghost use Rattle.queue.specs.Sums.{SumsAs, countsN};
+ghost use Rattle.queue.specs.Opens.{limits, StoreAs, soundL, FilledAs, AreaIs};
 
-// A queue without its persisted height: its header, where its records start, and where they end.
+// A queue without its persisted height: its header, where its records start and end, and what they come to.
 pub struct Open {
     pub ok: bool,
     pub head: HeadR,
     pub start: usize,
     pub next: usize,
+    pub sums: Sums,
 }
 
 fn no_store() -> Open {
@@ -55,6 +56,7 @@ fn no_store() -> Open {
         head: head,
         start: 0,
         next: 0,
+        sums: no_sums(),
     }
 }
 
@@ -70,6 +72,7 @@ pub fn store_at(s: &[u8], hex: bool, base: usize) -> Open
             head: h,
             start: 0,
             next: 0,
+            sums: no_sums(),
         };
     }
     if !ends_line(s, hex, base, h.size) {
@@ -78,66 +81,50 @@ pub fn store_at(s: &[u8], hex: bool, base: usize) -> Open
             head: h,
             start: 0,
             next: 0,
+            sums: no_sums(),
         };
     }
     let start = after_in(s, hex, base, h.size);
-    let p = frames(s, hex, start, h.count);
+    let c = h.counter;
+    let p = frames(s, hex, start, h.count, h.k, c);
+    let a = p.sums;
     Open {
         ok: p.ok,
         head: h,
         start: start,
         next: p.next,
+        sums: a,
     }
 }
 
-fn held_ok(s: &[u8], hex: bool, at: usize, n: u64, p: u64, b: u64, t: u64) -> bool
-    requires { ⌜ (at ≤ length (now s)) × (whole (formC hex recC) n (now s) at ≡ true) × (n < 4294967296) × (p ≤ 1024) × (b ≤ 16777216) × (t ≤ 1024) ⌝ }
-    ensures { λ r. ⌜ r ≡ heldOk p b t (listAt (formC hex recC) n (now (s .entry)) at) ⌝ }
+fn counts_ok(n: u64, p: u64, b: u64, t: u64, a: Sums) -> bool
+    requires { ⌜ (p ≤ 1024) × (b ≤ 16777216) × (t ≤ 1024) × (a .holders ≤ n) ⌝ }
+    ensures { λ r. ⌜ r ≡ countsN n p b t a ⌝ }
 {
-    let h = tally(s, hex, at, n, Query::Holders);
-    let i = tally(s, hex, at, n, Query::HeldBytes);
-    both(n <= 2 * p + t, both(h <= 2 * p, i <= 2 * b))
+    let held = both(n <= 2 * p + t, both(a.holders <= 2 * p, a.bytes <= 2 * b));
+    let mined = both(a.mined <= p, a.minedbytes <= b);
+    both(held, both(mined, n - a.holders <= t))
 }
 
-fn mined_ok(s: &[u8], hex: bool, at: usize, n: u64, p: u64, b: u64, t: u64) -> bool
-    requires { ⌜ (at ≤ length (now s)) × (whole (formC hex recC) n (now s) at ≡ true) × (n < 4294967296) ⌝ }
-    ensures { λ r. ⌜ r ≡ minedOk p b t (listAt (formC hex recC) n (now (s .entry)) at) ⌝ }
+// The rules of a sound queue. Once the counts are right the tables of the last two are large enough.
+pub fn sound_at(s: &[u8], hex: bool, x: Open) -> bool
+    requires { ⌜ (x .start ≤ length (now s)) × (whole (formC hex recC) (x .head .count) (now s) (x .start) ≡ true) × SumsAs (x .head .k) (x .head .counter) (x .sums) (listAt (formC hex recC) (x .head .count) (now s) (x .start)) ⌝ }
+    ensures { λ r. ⌜ r ≡ soundL (limits (x .head .p) (x .head .b) (x .head .t) (x .head .k)) (x .head .counter .0) (listAt (formC hex recC) (x .head .count) (now (s .entry)) (x .start)) ⌝ }
 {
-    let h = tally(s, hex, at, n, Query::MinedHolders);
-    let i = tally(s, hex, at, n, Query::MinedBytes);
-    let m = tally(s, hex, at, n, Query::Tombstones);
-    both(both(h <= p, i <= b), m <= t)
-}
-
-// The rules of a sound queue, on n records at `at`.
-pub fn sound_at(
-    s: &[u8],
-    hex: bool,
-    at: usize,
-    n: u64,
-    p: u64,
-    b: u64,
-    t: u64,
-    k: u64,
-    counter: Finish,
-) -> bool
-    requires { ⌜ (at ≤ length (now s)) × (whole (formC hex recC) n (now s) at ≡ true) × (n < 4294967296) ⌝ }
-    ensures { λ r. ⌜ r ≡ soundL (limits p b t k) (counter .0) (listAt (formC hex recC) n (now (s .entry)) at) ⌝ }
-{
-    if !Limits::check(p, b, t, k) {
+    let h = x.head;
+    let a = x.sums;
+    if !Limits::check(h.p, h.b, h.t, h.k) {
         return false;
     }
-    let x = both(
-        held_ok(s, hex, at, n, p, b, t),
-        mined_ok(s, hex, at, n, p, b, t),
-    );
-    if !x {
+    if !counts_ok(h.count, h.p, h.b, h.t, a) {
         return false;
     }
-    let w = tally(s, hex, at, n, Query::Wrong(k, counter));
-    let y = rising(s, hex, at, n);
-    let z = both(distinct(s, hex, at, n), apart(s, hex, at, n));
-    both(w == 0, both(y, z))
+    if !both(a.right, a.rises) {
+        return false;
+    }
+    let d = distinct(s, hex, x.start, h.count, h.count - a.holders);
+    let o = apart(s, hex, x.start, h.count, a.inputs <= 8192);
+    both(d, o)
 }
 
 // A lent area: its persisted height and its queue; ok says that it is sound.
@@ -150,12 +137,11 @@ pub struct Area {
 
 // The rules, and zeros behind the records up to what the limits need.
 fn filled(s: &[u8], x: Open) -> Span
-    requires { ⌜ (x .start ≤ length (now s)) × (whole (formC false recC) (x .head .count) (now s) (x .start) ≡ true) × (x .head .count < 4294967296) × (x .next ≤ length (now s)) ⌝ }
+    requires { ⌜ (x .start ≤ length (now s)) × (whole (formC false recC) (x .head .count) (now s) (x .start) ≡ true) × SumsAs (x .head .k) (x .head .counter) (x .sums) (listAt (formC false recC) (x .head .count) (now s) (x .start)) × (x .next ≤ length (now s)) ⌝ }
     ensures { λ r. ⌜ FilledAs (now (s .entry)) x r ⌝ }
 {
     let h = x.head;
-    let c = h.counter;
-    if !sound_at(s, false, x.start, h.count, h.p, h.b, h.t, h.k, c) {
+    if !sound_at(s, false, x) {
         return Span { ok: false, next: 0 };
     }
     let m = Limits::need(h.p, h.b, h.t, h.k);

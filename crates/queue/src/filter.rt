@@ -12,10 +12,15 @@ fn bit(k: u64) -> u64
     1u64 << k
 }
 
+// Four bits of a word.
 fn mask(h: u64) -> u64
     ensures { λ r. ⌜ r ≡ maskL h ⌝ }
 {
-    bit(h / 2048 % 64) | bit(h / 131072 % 64)
+    let a = bit(h / 16384 % 64);
+    let b = bit(h / 1048576 % 64);
+    let c = bit(h / 67108864 % 64);
+    let d = bit(h / 4294967296 % 64);
+    a | b | c | d
 }
 
 fn slot(n: usize, h: u64) -> usize
@@ -45,11 +50,11 @@ pub fn mark(t: &mut [u64], h: u64)
     t[i] = w | m;
 }
 
-// A number of an id: its first and its last 8 bytes added, modulo the largest prime below 2 ^ 23.
+// A number of an id: its first and its last 8 bytes added, modulo the largest prime below 2 ^ 38.
 pub fn hash(id: [u8; 32]) -> u64
     ensures { λ r. ⌜ r ≡ hashL id ⌝ }
 {
     let a = be(&id, false, 0, 0, 8);
     let b = be(&id, false, 0, 24, 8);
-    std::num::wrapping_add_u64(a, b) % 8388593
+    std::num::wrapping_add_u64(a, b) % 274877906899
 }

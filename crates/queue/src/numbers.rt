@@ -125,11 +125,14 @@ fn differ(v: &mut [u64]) -> bool
     differ_all(v)
 }
 
-// Are the finish numbers of the tombstones among n records at `at` distinct?
-pub fn distinct(s: &[u8], hex: bool, at: usize, n: u64) -> bool
-    requires { ⌜ (at ≤ length (now s)) × (whole (formC hex recC) n (now s) at ≡ true) × (tombstones (listAt (formC hex recC) n (now s) at) ≤ 1024) ⌝ }
+// Are the finish numbers of the m tombstones among n records at `at` distinct?
+pub fn distinct(s: &[u8], hex: bool, at: usize, n: u64, m: u64) -> bool
+    requires { ⌜ (at ≤ length (now s)) × (whole (formC hex recC) n (now s) at ≡ true) × (tombstones (listAt (formC hex recC) n (now s) at) ≡ m) × (m ≤ 1024) ⌝ }
     ensures { λ r. ⌜ r ≡ distinct? (listAt (formC hex recC) n (now (s .entry)) at) ⌝ }
 {
+    if m == 0 {
+        return true;
+    }
     let mut v = [0u64; 1024];
     let k = gather(s, hex, at, n, &mut v);
     differ(&mut v[..k])

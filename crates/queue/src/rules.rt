@@ -20,7 +20,6 @@ pub enum Query {
     MinedHolders,
     MinedBytes,
     Tombstones,
-    Wrong(u64, Finish),
     Due(Time, Height),
 }
 
@@ -137,7 +136,6 @@ pub fn weigh(q: Query, f: Facts) -> u64
         Query::MinedHolders => one_if(both(f.state == 2, f.holder)),
         Query::MinedBytes => { if f.state == 2 { f.bytes } else { 0 } }
         Query::Tombstones => one_if(!f.holder),
-        Query::Wrong(k, c) => one_if(!right(k, c, f)),
         Query::Due(t, h) => one_if(due(t, h, f)),
     }
 }

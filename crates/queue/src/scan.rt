@@ -4,11 +4,15 @@ use super::filter::mark;
 use super::filter::seen;
 use super::forms::after_in;
 use super::forms::ends_line;
+use super::frame::Facts;
+use super::frame::Finish;
 use super::frame::id_read;
 use super::frame::rec_at;
 use super::logic::both;
+use super::logic::either;
 use super::logic::one_if;
 use super::rules::Query;
+use super::rules::right;
 use super::rules::weigh;
 use super::suspects::apart_few;
 use super::suspects::apart_many;
@@ -18,14 +22,15 @@ ghost use mathlib.Core.Bool.{true, false};
 ghost use Prim.Native.Nat.{_+_, _-_, _*_, _≤_, _<_};
 ghost use lib.ListN.{length, take, drop};
 ghost use Rattle.queue.specs.Frames.{recC, idC};
-ghost use Rattle.queue.specs.Forms.{formC, Many};
+ghost use Rattle.queue.specs.Forms.{formC};
 ghost use Rattle.queue.specs.View.{view};
 ghost use Rattle.queue.specs.Reads.{whole, listAt};
 ghost use Rattle.queue.specs.Rules.{sum};
+ghost use Rattle.queue.specs.Sums.{noSums, Under, Added, Checked};
 ghost use Rattle.queue.specs.Filter.{hashL, heldBy, Passed};
 ghost use Rattle.queue.specs.paper.Ids.{same?};
 ghost use Rattle.queue.specs.Areas.{zero?};
-ghost use Rattle.queue.specs.paper.Sound.{rising?, among?, apart?};
+ghost use Rattle.queue.specs.paper.Sound.{among?, apart?};
 
 pub struct Span {
     pub ok: bool,
@@ -50,49 +55,105 @@ pub fn tally(s: &[u8], hex: bool, at: usize, n: u64, q: Query) -> u64
     total
 }
 
-// Do n records stand at `at`, and where do they end?
-pub fn frames(s: &[u8], hex: bool, at: usize, n: u64) -> Span
-    requires { ⌜ at ≤ length (now s) ⌝ }
-    ensures { λ r. ⌜ Many (formC hex recC) (now (s .entry)) at n (r .ok) (r .next) ⌝ }
+// What the rules ask of the records: four counts, whether each is right, whether their ids rise. The number of inputs is in no
+// contract: it only says which tables serve.
+pub struct Sums {
+    pub holders: u64,
+    pub bytes: u64,
+    pub mined: u64,
+    pub minedbytes: u64,
+    pub right: bool,
+    pub rises: bool,
+    pub inputs: u64,
+}
+
+pub fn no_sums() -> Sums
+    ensures { λ r. ⌜ r ≡ noSums ⌝ }
+{
+    Sums {
+        holders: 0,
+        bytes: 0,
+        mined: 0,
+        minedbytes: 0,
+        right: true,
+        rises: true,
+        inputs: 0,
+    }
+}
+
+// One record more; `up` says that its id is above the last one.
+fn add_sums(a: Sums, k: u64, c: Finish, f: Facts, up: bool) -> Sums
+    requires { ⌜ Under a 18446744069414584319 × (f .bytes < 4294967296) ⌝ }
+    ensures { λ r. ⌜ Added k c a f up r ⌝ }
+{
+    let h = a.holders + weigh(Query::Holders, f);
+    let b = a.bytes + weigh(Query::HeldBytes, f);
+    let m = a.mined + weigh(Query::MinedHolders, f);
+    let e = a.minedbytes + weigh(Query::MinedBytes, f);
+    let r = both(a.right, right(k, c, f));
+    let u = both(a.rises, up);
+    Sums {
+        holders: h,
+        bytes: b,
+        mined: m,
+        minedbytes: e,
+        right: r,
+        rises: u,
+        inputs: std::num::wrapping_add_u64(a.inputs, f.ins),
+    }
+}
+
+fn no_id() -> [u8; 32] {
+    [0u8; 32]
+}
+
+// Records read: do they stand there, where do they end, and what do they come to?
+pub struct Read {
+    pub ok: bool,
+    pub next: usize,
+    pub sums: Sums,
+}
+
+// The one pass of the check over n records at `at`.
+pub fn frames(s: &[u8], hex: bool, at: usize, n: u64, k: u64, c: Finish) -> Read
+    requires { ⌜ (at ≤ length (now s)) × (n < 4294967296) ⌝ }
+    ensures { λ r. ⌜ Checked hex (now (s .entry)) at n k c r ⌝ }
 {
     let mut i = at;
     let mut left = n;
+    let mut a = no_sums();
+    let mut prev = no_id();
+    let mut first = true;
     while 0 < left {
         let x = rec_at(s, hex, i);
         if !x.ok {
-            return Span { ok: false, next: 0 };
+            return Read {
+                ok: false,
+                next: 0,
+                sums: a,
+            };
         }
         if !ends_line(s, hex, i, x.size) {
-            return Span { ok: false, next: 0 };
+            return Read {
+                ok: false,
+                next: 0,
+                sums: a,
+            };
         }
-        i = after_in(s, hex, i, x.size);
-        left = left - 1;
-    }
-    Span { ok: true, next: i }
-}
-
-pub fn rising(s: &[u8], hex: bool, at: usize, n: u64) -> bool
-    requires { ⌜ (at ≤ length (now s)) × (whole (formC hex recC) n (now s) at ≡ true) ⌝ }
-    ensures { λ r. ⌜ r ≡ rising? (listAt (formC hex recC) n (now (s .entry)) at) ⌝ }
-{
-    if n == 0 {
-        return true;
-    }
-    let y = rec_at(s, hex, at);
-    let mut prev = y.id;
-    let mut i = after_in(s, hex, at, y.size);
-    let mut left = n - 1;
-    while 0 < left {
-        let x = rec_at(s, hex, i);
+        let f = x.facts;
         let id = x.id;
-        if cmp_id(prev, id) != 0 {
-            return false;
-        }
+        let up = either(first, cmp_id(prev, id) == 0);
+        a = add_sums(a, k, c, f, up);
         prev = id;
+        first = false;
         i = after_in(s, hex, i, x.size);
         left = left - 1;
     }
-    true
+    Read {
+        ok: true,
+        next: i,
+        sums: a,
+    }
 }
 
 // Is the id one of the n ids at offset `at` of the frame at base?
@@ -214,13 +275,14 @@ fn apart_long(s: &[u8], hex: bool, at: usize, n: u64, room: usize) -> bool
     apart_passes(s, hex, at, n)
 }
 
+// Is no input in two records? Few inputs are looked at with small tables, as often as needed.
 // The long way is called at two places that differ in two numbers: the compiler then makes no single call of them, which it
 // would take in here together with the large tables.
-pub fn apart(s: &[u8], hex: bool, at: usize, n: u64) -> bool
+pub fn apart(s: &[u8], hex: bool, at: usize, n: u64, few: bool) -> bool
     requires { ⌜ (at ≤ length (now s)) × (whole (formC hex recC) n (now s) at ≡ true) ⌝ }
     ensures { λ r. ⌜ r ≡ apart? (listAt (formC hex recC) n (now (s .entry)) at) ⌝ }
 {
-    let r = apart_few(s, hex, at, n);
+    let r = apart_few(s, hex, at, n, few);
     if r == 1 {
         return true;
     }

@@ -400,8 +400,8 @@ fn apart_by(s: &[u8], hex: bool, at: usize, n: u64, t: &mut [u64], v: &mut [u64]
     1
 }
 
-// With room for few suspects.
-pub fn apart_few(s: &[u8], hex: bool, at: usize, n: u64) -> u8
+// With room for few suspects; as often as needed, where it is the last table.
+pub fn apart_few(s: &[u8], hex: bool, at: usize, n: u64, last: bool) -> u8
     requires { ⌜ (at ≤ length (now s)) × (whole (formC hex recC) n (now s) at ≡ true) ⌝ }
     ensures { λ r. ⌜ Said false (listAt (formC hex recC) n (now (s .entry)) at) r ⌝ }
 {
@@ -410,7 +410,7 @@ pub fn apart_few(s: &[u8], hex: bool, at: usize, n: u64) -> u8
     }
     let mut t = [0u64; 2048];
     let mut v = [0u64; 2048];
-    apart_by(s, hex, at, n, &mut t, &mut v, false)
+    apart_by(s, hex, at, n, &mut t, &mut v, last)
 }
 
 // With room for many, as often as needed.

@@ -9,10 +9,6 @@ use Rattle.queue.proofs.area.area_at.Statement.{statement}
 use Rattle.queue.proofs.area.area_at.Tie as tie
 use Rattle.queue.proofs.area.area_at.Reads as reads
 use Rattle.queue.proofs.area.area_at.Lts as lts
-use Rattle.queue.proofs.area.filled.Reads as filled-reads
-use Rattle.queue.proofs.area.no_store.Reads as no-store-reads
-use Rattle.queue.proofs.area.store_at.Reads as store-at-reads
-use Rattle.queue.proofs.frame.num.Reads as num-reads
 
 num-requires : tie.Need-num-requires
 num-requires c κs = search needs
@@ -30,7 +26,7 @@ returns-2 : tie.Need-returns-2
 returns-2 c = area-bad (c .before .before .before .before .before .num .ensures .0) (not-false _ (c .before .before .before .if1 .left)) (c .before .before .store-at .ensures) (not-true _ (c .if2 .taken)) refl
 
 filled-requires : tie.Need-filled-requires
-filled-requires c κs = let w = store-facts (c .before .before .before .before .before .num .ensures .0) (not-false _ (c .before .before .before .if1 .left)) (c .before .before .store-at .ensures) (not-false _ (c .if2 .left)) .1 in (omega (arith, w .up, w .ends), w .all, w .head .countSmall, w .ends)
+filled-requires c κs = let w = store-facts (c .before .before .before .before .before .num .ensures .0) (not-false _ (c .before .before .before .if1 .left)) (c .before .before .store-at .ensures) (not-false _ (c .if2 .left)) .1 in (omega (arith, w .up, w .ends), w .all, w .sums, w .ends)
 
 returns-3 : tie.Need-returns-3
 returns-3 c = area-good (c .before .before .before .before .before .before .num .ensures .0) (not-false _ (c .before .before .before .before .if1 .left)) (c .before .before .before .store-at .ensures) (not-false _ (c .before .if2 .left)) (c .filled .ensures) refl refl refl refl

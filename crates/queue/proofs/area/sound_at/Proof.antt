@@ -1,67 +1,54 @@
 use mathlib.Core.Path.{_≡_, refl, sym, ap, _∙_}
 use native.Mathlib.Omega.{arith}
-use mathlib.Core.Bool.{Bool, true, false, _&&_}
+use mathlib.Core.Bool.{Bool, true, false, _&&_, _||_}
 use Prim.Native.Nat.{ℕ, _≤_, _+_, _-_, _*_, _<_}
+use lib.ListN.{length}
 use borrow.Author.Tests.{not-true, not-false}
 use Rattle.queue.specs.Frames.{recC}
 use Rattle.queue.specs.Forms.{formC}
 use Rattle.queue.specs.Reads.{listAt}
-use Rattle.queue.proofs.OpenLaws.{ranged, sound-out, sound-many, few-tombs, sound-in}
+use Rattle.queue.proofs.OpenLaws.{ranged, list-length, held-few, tombs-are, sound-out, sound-many, few-tombs, sound-wrong, sound-in}
 use borrow.Author.Needs.{needs}
 use Rattle.queue.proofs.area.sound_at.Statement.{statement}
 use Rattle.queue.proofs.area.sound_at.Tie as tie
 use Rattle.queue.proofs.area.sound_at.Reads as reads
 use Rattle.queue.proofs.area.sound_at.Lts as lts
-use Rattle.queue.proofs.area.held_ok.Reads as held-ok-reads
-use Rattle.queue.proofs.area.mined_ok.Reads as mined-ok-reads
-use Rattle.queue.proofs.limits.Limits.check.Reads as check-reads
-use Rattle.queue.proofs.logic.both.Reads as both-reads
-use Rattle.queue.proofs.numbers.distinct.Reads as distinct-reads
-use Rattle.queue.proofs.scan.apart.Reads as apart-reads
-use Rattle.queue.proofs.scan.rising.Reads as rising-reads
-use Rattle.queue.proofs.scan.tally.Reads as tally-reads
+
+abbrev len : (c : tie.Start) → length (listAt (formC (c .args .hex) recC) (c .args .x .head .count) (c .args .s .now) (c .args .x .start)) ≡ c .args .x .head .count
+len c = list-length (formC (c .args .hex) recC) _ _ _ (c .pre .1)
 
 check-requires : tie.Need-check-requires
 check-requires c κs = search needs
 
 returns : tie.Need-returns
-returns c = sound-out _ _ _ (sym (c .before .check .ensures) ∙ not-true _ (c .if1 .taken))
+returns c = sound-out _ _ _ _ _ _ _ _ (c .before .before .before .before .before .pre .2) (len ((c .before .before .before .before .before))) (sym (c .before .check .ensures) ∙ not-true _ (c .if1 .taken))
 
-held-ok-requires : tie.Need-held-ok-requires
-held-ok-requires c κs = let g = ranged _ (sym (c .before .check .ensures) ∙ not-false _ (c .if1 .left)) in (c .before .before .before .pre .0, c .before .before .before .pre .1, c .before .before .before .pre .2, g .p2, g .b2, g .t2)
+counts-ok-requires : tie.Need-counts-ok-requires
+counts-ok-requires c κs = let g = ranged _ (sym (c .before .check .ensures) ∙ not-false _ (c .if1 .left)) in (g .p2, g .b2, g .t2, held-few (c .before .before .before .before .before .args .x .head .p) (c .before .before .before .before .before .args .x .head .b) (c .before .before .before .before .before .args .x .head .t) _ _ _ _ _ (c .before .before .before .before .before .pre .2) (len ((c .before .before .before .before .before))))
 
-mined-ok-requires : tie.Need-mined-ok-requires
-mined-ok-requires c κs = search needs
+returns-2 : tie.Need-returns-2
+returns-2 c = sound-many _ _ _ _ _ _ _ _ (c .before .before .before .before .before .before .before .pre .2) (len ((c .before .before .before .before .before .before .before))) (sym (c .before .before .before .check .ensures) ∙ not-false _ (c .before .before .if1 .left)) (c .before .counts-ok .ensures) (not-true _ (c .if2 .taken))
 
 both-requires : tie.Need-both-requires
 both-requires c κs = search needs
 
-returns-2 : tie.Need-returns-2
-returns-2 c = sound-many _ _ _ _ _ _ (c .before .both .ensures ∙ rw (c .before .before .before .held-ok .ensures, c .before .before .mined-ok .ensures)) (not-true _ (c .if2 .taken))
+returns-3 : tie.Need-returns-3
+returns-3 c = sound-wrong _ _ _ _ _ _ _ _ (c .before .before .before .before .before .before .before .before .before .pre .2) (len ((c .before .before .before .before .before .before .before .before .before))) (sym (c .before .before .before .before .before .check .ensures) ∙ not-false _ (c .before .before .before .before .if1 .left)) (c .before .before .before .counts-ok .ensures) (not-false _ (c .before .before .if2 .left)) (c .before .both .ensures) (not-true _ (c .if3 .taken))
 
-tally-requires : tie.Need-tally-requires
-tally-requires c κs = search needs
-
-rising-requires : tie.Need-rising-requires
-rising-requires c κs = search needs
+sub-distinct : tie.Need-sub-distinct
+sub-distinct c = held-few (c .before .before .before .before .before .before .before .before .before .before .before .args .x .head .p) (c .before .before .before .before .before .before .before .before .before .before .before .args .x .head .b) (c .before .before .before .before .before .before .before .before .before .before .before .args .x .head .t) _ _ _ _ _ (c .before .before .before .before .before .before .before .before .before .before .before .pre .2) (len ((c .before .before .before .before .before .before .before .before .before .before .before)))
 
 distinct-requires : tie.Need-distinct-requires
-distinct-requires c κs = (c .before .before .before .before .before .before .before .before .before .pre .0, c .before .before .before .before .before .before .before .before .before .pre .1, few-tombs (c .before .before .before .before .before .before .before .before .before .args .p) (c .before .before .before .before .before .before .before .before .before .args .b) (c .before .before .before .before .before .before .before .before .before .args .t) (c .before .before .before .before .before .before .before .before .before .args .k) (listAt (formC (c .before .before .before .before .before .before .before .before .before .args .hex) recC) (c .before .before .before .before .before .before .before .before .before .args .n) (c .before .before .before .before .before .before .before .before .before .args .s .now) (c .before .before .before .before .before .before .before .before .before .args .at)) (sym (c .before .before .before .before .before .before .before .check .ensures) ∙ not-false _ (c .before .before .before .before .before .before .if1 .left)) (c .before .before .before .both .ensures ∙ rw (c .before .before .before .before .before .held-ok .ensures, c .before .before .before .before .mined-ok .ensures)) (not-false _ (c .before .before .if2 .left)))
+distinct-requires c κs = (c .before .before .before .before .before .before .before .before .before .before .before .pre .0, c .before .before .before .before .before .before .before .before .before .before .before .pre .1, tombs-are (c .before .before .before .before .before .before .before .before .before .before .before .args .x .head .p) (c .before .before .before .before .before .before .before .before .before .before .before .args .x .head .b) (c .before .before .before .before .before .before .before .before .before .before .before .args .x .head .t) _ _ _ _ _ (c .before .before .before .before .before .before .before .before .before .before .before .pre .2) (len ((c .before .before .before .before .before .before .before .before .before .before .before))), few-tombs _ _ _ _ _ _ _ _ (c .before .before .before .before .before .before .before .before .before .before .before .pre .2) (len ((c .before .before .before .before .before .before .before .before .before .before .before))) (sym (c .before .before .before .before .before .before .before .check .ensures) ∙ not-false _ (c .before .before .before .before .before .before .if1 .left)) (c .before .before .before .before .before .counts-ok .ensures) (not-false _ (c .before .before .before .before .if2 .left)))
 
 apart-requires : tie.Need-apart-requires
-apart-requires c κs = search needs
+apart-requires c κs = (c .before .before .before .before .before .before .before .before .before .before .before .before .before .pre .0, c .before .before .before .before .before .before .before .before .before .before .before .before .before .pre .1)
 
 both-requires-2 : tie.Need-both-requires-2
 both-requires-2 c κs = search needs
 
-both-requires-3 : tie.Need-both-requires-3
-both-requires-3 c κs = search needs
-
-both-requires-4 : tie.Need-both-requires-4
-both-requires-4 c κs = search needs
-
-returns-3 : tie.Need-returns-3
-returns-3 c = c .both4 .ensures ∙ rw (c .before .both3 .ensures) (sound-in _ _ _ _ _ _ (sym (c .before .before .before .before .before .before .before .before .before .before .before .before .check .ensures) ∙ not-false _ (c .before .before .before .before .before .before .before .before .before .before .before .if1 .left)) (c .before .before .before .before .before .before .before .before .both .ensures ∙ rw (c .before .before .before .before .before .before .before .before .before .before .held-ok .ensures, c .before .before .before .before .before .before .before .before .before .mined-ok .ensures)) (not-false _ (c .before .before .before .before .before .before .before .if2 .left)) (c .before .before .before .before .before .before .tally .ensures .0) (c .before .before .before .before .before .rising .ensures) (c .before .before .both2 .ensures ∙ rw (c .before .before .before .before .distinct .ensures, c .before .before .before .apart .ensures)))
+returns-4 : tie.Need-returns-4
+returns-4 c = sound-in _ _ _ _ _ _ _ _ (c .before .before .before .before .before .before .before .before .before .before .before .before .before .before .before .pre .2) (len ((c .before .before .before .before .before .before .before .before .before .before .before .before .before .before .before))) (sym (c .before .before .before .before .before .before .before .before .before .before .before .check .ensures) ∙ not-false _ (c .before .before .before .before .before .before .before .before .before .before .if1 .left)) (c .before .before .before .before .before .before .before .before .before .counts-ok .ensures) (not-false _ (c .before .before .before .before .before .before .before .before .if2 .left)) (c .before .before .before .before .before .before .before .both .ensures) (not-false _ (c .before .before .before .before .before .before .if3 .left)) (c .before .before .before .distinct .ensures) (c .before .apart .ensures) (c .both2 .ensures)
 
 pub sound-at-spec : {M : Type 1} → statement M
 sound-at-spec =
@@ -69,15 +56,12 @@ sound-at-spec =
     (tie.spec
     check-requires
     returns
-    held-ok-requires
-    mined-ok-requires
-    both-requires
+    counts-ok-requires
     returns-2
-    tally-requires
-    rising-requires
+    both-requires
+    returns-3
+    sub-distinct
     distinct-requires
     apart-requires
     both-requires-2
-    both-requires-3
-    both-requires-4
-    returns-3)
+    returns-4)

@@ -13,9 +13,15 @@ bit-requires c κs = search needs
 bit-requires-2 : tie.Need-bit-requires-2
 bit-requires-2 c κs = search needs
 
+bit-requires-3 : tie.Need-bit-requires-3
+bit-requires-3 c κs = search needs
+
+bit-requires-4 : tie.Need-bit-requires-4
+bit-requires-4 c κs = search needs
+
 returns : tie.Need-returns
 unfolding maskL
-returns c = simp (c .before .bit .ensures, c .bit2 .ensures)
+returns c = simp (c .before .before .before .bit .ensures, c .before .before .bit2 .ensures, c .before .bit3 .ensures, c .bit4 .ensures)
 
 pub mask-spec : {M : Type 1} → statement M
-mask-spec = tie.close (tie.spec bit-requires bit-requires-2 returns)
+mask-spec = tie.close (tie.spec bit-requires bit-requires-2 bit-requires-3 bit-requires-4 returns)

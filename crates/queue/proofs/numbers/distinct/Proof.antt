@@ -4,20 +4,21 @@ use mathlib.Core.Bool.{Bool, true, false, _&&_, _||_}
 use Prim.Native.Nat.{ℕ, _≤_, _+_, _-_, _*_, _/_, _%_, _<_}
 use lib.ListN.{length, take, drop, getD}
 use lib.Seq.{length-take-le}
-use Rattle.queue.proofs.NumberLaws.{distinct-is}
+use Rattle.queue.proofs.NumberLaws.{distinct-is, distinct-none}
 use borrow.Author.Needs.{needs}
 use Rattle.queue.proofs.numbers.distinct.Statement.{statement}
 use Rattle.queue.proofs.numbers.distinct.Tie as tie
 use Rattle.queue.proofs.numbers.distinct.Reads as reads
 use Rattle.queue.proofs.numbers.distinct.Lts as lts
-use Rattle.queue.proofs.numbers.differ.Reads as differ-reads
-use Rattle.queue.proofs.numbers.gather.Reads as gather-reads
+
+returns : tie.Need-returns
+returns c = distinct-none _ (c .before .before .pre .2) (c .if1 .taken)
 
 slice-aggregate-gather : tie.Need-slice-aggregate-gather
 slice-aggregate-gather c = search needs
 
 gather-requires : tie.Need-gather-requires
-gather-requires c κs = (c .before .before .pre .0, c .before .before .pre .1, c .before .before .pre .2)
+gather-requires c κs = (c .before .before .before .pre .0, c .before .before .before .pre .1, omega (arith, c .before .before .before .pre .2, c .before .before .before .pre .3))
 
 array-borrow-prefix-v : tie.Need-array-borrow-prefix-v
 array-borrow-prefix-v c = search needs
@@ -28,16 +29,17 @@ slice-aggregate-differ c = sym (length-take-le _ _ (omega (arith, c .before .bef
 differ-requires : tie.Need-differ-requires
 differ-requires c κs = search needs
 
-returns : tie.Need-returns
-returns c = distinct-is _ (rw (c .before .before .before .before .gather .ensures .0) at (c .before .differ .ensures))
+returns-2 : tie.Need-returns-2
+returns-2 c = distinct-is _ (rw (c .before .before .before .before .gather .ensures .0) at (c .before .differ .ensures))
 
 pub distinct-spec : {M : Type 1} → statement M
 distinct-spec =
     tie.close
     (tie.spec
+    returns
     slice-aggregate-gather
     gather-requires
     array-borrow-prefix-v
     slice-aggregate-differ
     differ-requires
-    returns)
+    returns-2)

@@ -9,10 +9,6 @@ use Rattle.queue.proofs.rules.weigh.Statement.{statement}
 use Rattle.queue.proofs.rules.weigh.Tie as tie
 use Rattle.queue.proofs.rules.weigh.Reads as reads
 use Rattle.queue.proofs.rules.weigh.Lts as lts
-use Rattle.queue.proofs.logic.both.Reads as both-reads
-use Rattle.queue.proofs.logic.one_if.Reads as one-if-reads
-use Rattle.queue.proofs.rules.due.Reads as due-reads
-use Rattle.queue.proofs.rules.right.Reads as right-reads
 
 enum-told : tie.Need-enum-told
 enum-told c = search needs
@@ -44,20 +40,11 @@ one-if-requires-3 c κs = search needs
 enum-known-q : tie.Need-enum-known-q
 enum-known-q c = search needs
 
-right-requires : tie.Need-right-requires
-right-requires c κs = search needs
-
-one-if-requires-4 : tie.Need-one-if-requires-4
-one-if-requires-4 c κs = search needs
-
-enum-known-q-2 : tie.Need-enum-known-q-2
-enum-known-q-2 c = search needs
-
 due-requires : tie.Need-due-requires
 due-requires c κs = search needs
 
-one-if-requires-5 : tie.Need-one-if-requires-5
-one-if-requires-5 c κs = search needs
+one-if-requires-4 : tie.Need-one-if-requires-4
+one-if-requires-4 c κs = search needs
 
 returns : tie.Need-returns
 unfolding weight
@@ -85,11 +72,7 @@ returns-6 c = (rw (c .before .before .enum-told5 .given .1) (c .one-if3 .ensures
 
 returns-7 : tie.Need-returns-7
 unfolding weight
-returns-7 c = (rw (c .before .before .before .q .given .1) (c .one-if4 .ensures .0 ∙ rw (c .before .right .ensures)), omega arith)
-
-returns-8 : tie.Need-returns-8
-unfolding weight
-returns-8 c = (rw (c .before .before .before .q2 .given .1) (c .one-if5 .ensures .0 ∙ ap one (c .before .due .ensures)), omega arith)
+returns-7 c = (rw (c .before .before .before .q .given .1) (c .one-if4 .ensures .0 ∙ ap one (c .before .due .ensures)), omega arith)
 
 pub weigh-spec : {M : Type 1} → statement M
 weigh-spec =
@@ -105,16 +88,12 @@ weigh-spec =
     enum-told-5
     one-if-requires-3
     enum-known-q
-    right-requires
-    one-if-requires-4
-    enum-known-q-2
     due-requires
-    one-if-requires-5
+    one-if-requires-4
     returns
     returns-2
     returns-3
     returns-4
     returns-5
     returns-6
-    returns-7
-    returns-8)
+    returns-7)

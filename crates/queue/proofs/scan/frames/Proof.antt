@@ -1,47 +1,55 @@
 use mathlib.Core.Path.{_≡_, refl, sym, ap, _∙_}
 use native.Mathlib.Omega.{arith}
-use mathlib.Core.Bool.{Bool, true, false, _&&_}
+use mathlib.Core.Bool.{Bool, true, false, _&&_, _||_}
 use Prim.Native.Nat.{ℕ, _≤_, _+_, _-_, _*_, _<_}
-use lib.ListN.{length, take, drop}
-use Rattle.queue.specs.Frames.{recC, idC}
-use Rattle.queue.specs.Forms.{formC}
-use Rattle.queue.specs.View.{view}
-use Rattle.queue.proofs.Turns.{Scan, start, here, seen, see}
+use lib.ListN.{length}
 use borrow.Author.Tests.{not-true, not-false}
-use Rattle.queue.specs.ReadLaws.{false-true}
-use Rattle.queue.proofs.ScanLaws.{Framing, frames-in, frames-go, frames-short, frames-line, frames-end}
+use Rattle.queue.proofs.ScanLaws.{frames-in}
+use Rattle.queue.proofs.CheckLaws.{Checking, check-start, check-room, check-bytes, check-go, check-short, check-line, check-end}
 use borrow.Author.Needs.{needs}
 use Rattle.queue.proofs.scan.frames.Statement.{statement}
 use Rattle.queue.proofs.scan.frames.Tie as tie
 use Rattle.queue.proofs.scan.frames.Reads as reads
 use Rattle.queue.proofs.scan.frames.Lts as lts
-use Rattle.queue.proofs.forms.after_in.Reads as after-in-reads
-use Rattle.queue.proofs.forms.ends_line.Reads as ends-line-reads
-use Rattle.queue.proofs.frame.rec_at.Reads as rec-at-reads
 
 abbrev Inv-loop : tie.InvT-loop
-Inv-loop s hex at n i₀ left₀ i left = Framing hex s n at i left
+Inv-loop s hex at n k c i₀ left₀ a₀ prev₀ first₀ i left a prev first = Checking hex s n at k c i left a prev first
 
 abbrev μ-loop : tie.MeasureT-loop
-μ-loop s hex at n i₀ left₀ i left = left
+μ-loop s hex at n k c i₀ left₀ a₀ prev₀ first₀ i left a prev first = left
+
+no-sums-requires : tie.Need-no-sums-requires Inv-loop μ-loop
+no-sums-requires c κs = search needs
+
+no-id-requires : tie.Need-no-id-requires Inv-loop μ-loop
+no-id-requires c κs = search needs
 
 loop-holds : tie.Need-loop-holds Inv-loop μ-loop
-loop-holds c = record { up = omega arith; within = c .before .pre; all = refl; rest = refl }
+loop-holds c = check-start (c .before .before .before .args .hex) (c .before .before .before .args .s .now) (c .before .before .before .args .n) (c .before .before .before .args .at) (c .before .before .before .args .k) (c .before .before .before .args .c) _ (c .before .before .before .pre .0) (c .before .no-sums .ensures)
 
 rec-at-requires : tie.Need-rec-at-requires Inv-loop μ-loop
 rec-at-requires c κs = search needs
 
 returns : tie.Need-returns Inv-loop μ-loop
-returns c = record { is = frames-short (c .before .before .before .before .loop .inv) (c .before .before .before .loop-test .taken) (c .before .before .rec-at .ensures) (not-true _ (c .if1 .taken)); end = λ t. false-true t }
+returns c = check-short (c .before .before .before .before .before .before .before .before .args .hex) (c .before .before .before .before .before .before .before .before .args .s .now) (c .before .before .before .before .before .before .before .before .args .n) (c .before .before .before .before .before .before .before .before .args .at) (c .before .before .before .before .before .before .before .before .args .k) (c .before .before .before .before .before .before .before .before .args .c) (c .before .before .before .before .loop .inv) (c .before .before .before .loop-test .taken) (c .before .before .rec-at .ensures) (not-true _ (c .if1 .taken))
 
 ends-line-requires : tie.Need-ends-line-requires Inv-loop μ-loop
-ends-line-requires c κs = frames-in (c .before .before .before .before .loop .inv) (c .before .before .before .loop-test .taken) (c .before .before .rec-at .ensures) (not-false _ (c .if1 .left))
+ends-line-requires c κs = frames-in (c .before .before .before .before .loop .inv .frame) (c .before .before .before .loop-test .taken) (c .before .before .rec-at .ensures) (not-false _ (c .if1 .left))
 
 returns-2 : tie.Need-returns-2 Inv-loop μ-loop
-returns-2 c = record { is = frames-line (c .before .before .before .before .before .before .loop .inv) (c .before .before .before .before .before .loop-test .taken) (c .before .before .before .before .rec-at .ensures) (not-false _ (c .before .before .if1 .left)) (c .before .ends-line .ensures) (not-true _ (c .if2 .taken)); end = λ t. false-true t }
+returns-2 c = check-line (c .before .before .before .before .before .before .before .before .before .before .args .hex) (c .before .before .before .before .before .before .before .before .before .before .args .s .now) (c .before .before .before .before .before .before .before .before .before .before .args .n) (c .before .before .before .before .before .before .before .before .before .before .args .at) (c .before .before .before .before .before .before .before .before .before .before .args .k) (c .before .before .before .before .before .before .before .before .before .before .args .c) (c .before .before .before .before .before .before .loop .inv) (c .before .before .before .before .before .loop-test .taken) (c .before .before .before .before .rec-at .ensures) (not-false _ (c .before .before .if1 .left)) (c .before .ends-line .ensures) (not-true _ (c .if2 .taken))
+
+cmp-id-requires : tie.Need-cmp-id-requires Inv-loop μ-loop
+cmp-id-requires c κs = search needs
+
+either-requires : tie.Need-either-requires Inv-loop μ-loop
+either-requires c κs = search needs
+
+add-sums-requires : tie.Need-add-sums-requires Inv-loop μ-loop
+add-sums-requires c κs = (check-room (c .before .before .before .before .before .before .before .before .before .before .before .before .before .before .args .hex) (c .before .before .before .before .before .before .before .before .before .before .before .before .before .before .args .s .now) (c .before .before .before .before .before .before .before .before .before .before .before .before .before .before .args .n) (c .before .before .before .before .before .before .before .before .before .before .before .before .before .before .args .at) (c .before .before .before .before .before .before .before .before .before .before .before .before .before .before .args .k) (c .before .before .before .before .before .before .before .before .before .before .before .before .before .before .args .c) (c .before .before .before .before .before .before .before .before .before .before .loop .inv) (c .before .before .before .before .before .before .before .before .before .loop-test .taken) (c .before .before .before .before .before .before .before .before .rec-at .ensures) (c .before .before .before .before .before .before .before .before .before .before .before .before .before .before .pre .1), check-bytes (c .before .before .before .before .before .before .before .before .before .before .before .before .before .before .args .hex) (c .before .before .before .before .before .before .before .before .before .before .before .before .before .before .args .s .now) (c .before .before .before .before .before .before .before .before .before .before .before .before .before .before .args .n) (c .before .before .before .before .before .before .before .before .before .before .before .before .before .before .args .at) (c .before .before .before .before .before .before .before .before .before .before .before .before .before .before .args .k) (c .before .before .before .before .before .before .before .before .before .before .before .before .before .before .args .c) (c .before .before .before .before .before .before .before .before .before .before .loop .inv) (c .before .before .before .before .before .before .before .before .before .loop-test .taken) (c .before .before .before .before .before .before .before .before .rec-at .ensures) (not-false _ (c .before .before .before .before .before .before .if1 .left)))
 
 after-in-requires : tie.Need-after-in-requires Inv-loop μ-loop
-after-in-requires c κs = frames-in (c .before .before .before .before .before .before .loop .inv) (c .before .before .before .before .before .loop-test .taken) (c .before .before .before .before .rec-at .ensures) (not-false _ (c .before .before .if1 .left))
+after-in-requires c κs = frames-in (c .before .before .before .before .before .before .before .before .before .before .before .loop .inv .frame) (c .before .before .before .before .before .before .before .before .before .before .loop-test .taken) (c .before .before .before .before .before .before .before .before .before .rec-at .ensures) (not-false _ (c .before .before .before .before .before .before .before .if1 .left))
 
 sub-left : tie.Need-sub-left Inv-loop μ-loop
 sub-left c = search needs
@@ -50,10 +58,10 @@ loop-less : tie.Need-loop-less Inv-loop μ-loop
 loop-less c = search needs
 
 loop-again : tie.Need-loop-again Inv-loop μ-loop
-loop-again c = frames-go (c .before .before .before .before .before .before .before .loop .inv) (c .before .before .before .before .before .before .loop-test .taken) (c .before .before .before .before .before .rec-at .ensures) (not-false _ (c .before .before .before .if1 .left)) (c .before .before .ends-line .ensures) (not-false _ (c .before .if2 .left)) (c .after-in .ensures)
+loop-again c = check-go (c .before .before .before .before .before .before .before .before .before .before .before .before .before .before .before .before .args .hex) (c .before .before .before .before .before .before .before .before .before .before .before .before .before .before .before .before .args .s .now) (c .before .before .before .before .before .before .before .before .before .before .before .before .before .before .before .before .args .n) (c .before .before .before .before .before .before .before .before .before .before .before .before .before .before .before .before .args .at) (c .before .before .before .before .before .before .before .before .before .before .before .before .before .before .before .before .args .k) (c .before .before .before .before .before .before .before .before .before .before .before .before .before .before .before .before .args .c) (c .before .before .before .before .before .before .before .before .before .before .before .before .loop .inv) (c .before .before .before .before .before .before .before .before .before .before .before .loop-test .taken) (c .before .before .before .before .before .before .before .before .before .before .rec-at .ensures) (not-false _ (c .before .before .before .before .before .before .before .before .if1 .left)) (c .before .before .before .before .before .before .before .ends-line .ensures) (not-false _ (c .before .before .before .before .before .before .if2 .left)) (c .after-in .ensures) (c .before .before .either .ensures ∙ rw (c .before .before .before .cmp-id .ensures)) (c .before .add-sums .ensures)
 
 returns-3 : tie.Need-returns-3 Inv-loop μ-loop
-returns-3 c = let e = frames-end (c .before .loop .inv) (omega arith) in record { is = e .0; end = λ t. (e .1, c .before .loop .inv .up, c .before .loop .inv .within) }
+returns-3 c = check-end (c .before .before .before .before .before .args .hex) (c .before .before .before .before .before .args .s .now) (c .before .before .before .before .before .args .n) (c .before .before .before .before .before .args .at) (c .before .before .before .before .before .args .k) (c .before .before .before .before .before .args .c) (c .before .loop .inv) (omega arith)
 
 pub frames-spec : {M : Type 1} → statement M
 frames-spec =
@@ -61,11 +69,16 @@ frames-spec =
     (tie.spec
     Inv-loop
     μ-loop
+    no-sums-requires
+    no-id-requires
     loop-holds
     rec-at-requires
     returns
     ends-line-requires
     returns-2
+    cmp-id-requires
+    either-requires
+    add-sums-requires
     after-in-requires
     sub-left
     loop-less

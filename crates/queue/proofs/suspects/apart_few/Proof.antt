@@ -6,14 +6,12 @@ use lib.ListN.{length, take, drop, getD, length-drop}
 use native.Mathlib.Nat.{zero-lt-suc}
 use borrow.Author.Tests.{not-false, ltb-true}
 use Rattle.queue.specs.Lists.{and-true}
-use Rattle.queue.proofs.SuspectLaws.{said-out}
+use Rattle.queue.proofs.SuspectLaws.{said-out, said-any}
 use borrow.Author.Needs.{needs}
 use Rattle.queue.proofs.suspects.apart_few.Statement.{statement}
 use Rattle.queue.proofs.suspects.apart_few.Tie as tie
 use Rattle.queue.proofs.suspects.apart_few.Reads as reads
 use Rattle.queue.proofs.suspects.apart_few.Lts as lts
-use Rattle.queue.proofs.logic.both.Reads as both-reads
-use Rattle.queue.proofs.suspects.apart_by.Reads as apart-by-reads
 
 both-requires : tie.Need-both-requires
 both-requires c κs = search needs
@@ -31,7 +29,7 @@ apart-by-requires : tie.Need-apart-by-requires
 apart-by-requires c κs = let u = and-true _ _ (sym (c .before .before .before .both .ensures) ∙ not-false _ (c .before .before .if1 .left)) in (c .before .before .before .before .before .pre .0, c .before .before .before .before .before .pre .1, ltb-true _ _ (u .0), ltb-true _ _ (u .1), zero-lt-suc _, zero-lt-suc _)
 
 returns-2 : tie.Need-returns-2
-returns-2 c = search needs
+returns-2 c = said-any (c .before .before .apart-by .ensures)
 
 pub apart-few-spec : {M : Type 1} → statement M
 apart-few-spec =

@@ -25,7 +25,7 @@ sub-copy-part : tie.Need-sub-copy-part
 sub-copy-part c = search needs
 
 copy-part-requires : tie.Need-copy-part-requires
-copy-part-requires c κs = let w = c .before .before .before .before .before .before .before .before .pre .0 in let r = moved-room (w .read) (c .before .before .before .before .before .before .before .before .args .persisted) (c .before .before .before .before .before .before .before .before .args .cursor) (c .before .before .before .before .before .before .before .before .args .has) (c .before .before .before .before .before .before .before .before .args .tip) (omega arith) (w .fits) in (omega (arith, w .read .store .up, w .read .store .ends), omega (arith, r, c .before .before .tip-len .ensures .0, c .before .before .before .before .before .before .before .before .pre .1))
+copy-part-requires c κs = let w = c .before .before .before .before .before .before .before .before .pre .0 in let r = moved-room (w .read) (c .before .before .before .before .before .before .before .before .args .persisted) (c .before .before .before .before .before .before .before .before .args .cursor) (c .before .before .before .before .before .before .before .before .args .has) (c .before .before .before .before .before .before .before .before .args .tip) (let h = c .before .before .before .before .before .before .before .before .good .1 .1 .1 .1 .1 .0 in omega arith) (w .fits) in (omega (arith, w .read .store .up, w .read .store .ends), omega (arith, r, c .before .before .tip-len .ensures .0, c .before .before .before .before .before .before .before .before .pre .1))
 
 put-front-requires : tie.Need-put-front-requires
 put-front-requires c κs = let w = c .before .before .before .before .before .before .before .before .before .before .before .before .pre .0 in let h = w .read .store .head in (omega (arith, long-need (w .read), c .before .before .before .before .before .before .tip-len .ensures .0, c .before .before .before .before .before .before .tip-len .ensures .1, kept (c .before .before .before .copy-part .ensures), c .before .before .before .before .before .before .before .before .before .before .before .before .pre .1), h .pSmall, h .bSmall, h .tSmall, h .kSmall, moved-small (w .read) (c .before .before .before .before .before .before .before .before .before .before .before .before .args .persisted) (c .before .before .before .before .before .before .before .before .before .before .before .before .args .cursor) (c .before .before .before .before .before .before .before .before .before .before .before .before .args .has) (c .before .before .before .before .before .before .before .before .before .before .before .before .args .tip) (w .small) (w .smallCursor))

@@ -1,0 +1,162 @@
+-- The laws of the check's one pass: frames, counts, rules of one record and rising ids. Assumes nothing.
+use mathlib.Core.Path.{_≡_, refl, ap, sym, _∙_}
+use mathlib.Core.Bool.{Bool, true, false, _&&_, _||_}
+use mathlib.Core.List.{List, [], _∷_}
+use Prim.Native.Nat.{ℕ, _+_, _-_, _*_, _≤_, _<_}
+use native.Mathlib.Omega.{arith}
+use lib.Dec.{eqb}
+use lib.ListN.{length}
+use Rattle.queue.specs.Frames.{recC}
+use Rattle.queue.specs.Forms.{formC, afterIn, endsLine, turn-in}
+use Rattle.queue.specs.Reads.{whole, listAt}
+use Rattle.queue.specs.ReadLaws.{none-left, false-true}
+use Rattle.queue.specs.Facts.{factsOf}
+use Rattle.queue.specs.Rules.{rightF, weight, sum}
+use Rattle.queue.specs.Sums.{noSums, Under, Added, SumsAs, Checked}
+use Rattle.queue.specs.paper.Records.{Bytes, Id, Rec}
+use Rattle.queue.specs.paper.Lists.{all?}
+use Rattle.queue.specs.paper.Ids.{cmpL}
+use Rattle.queue.specs.paper.Sound.{right?, rising?}
+use Rattle.queue.specs.declared.frame.Facts.{Facts}
+use Rattle.queue.specs.declared.frame.Finish.{Finish}
+use Rattle.queue.specs.declared.frame.Seen.{Seen}
+use Rattle.queue.specs.declared.scan.Sums.{Sums}
+use Rattle.queue.specs.declared.rules.Query.{Query}
+use Rattle.queue.specs.declared.rules.Query.the-variants.{Holders, HeldBytes, MinedHolders, MinedBytes}
+use Rattle.queue.proofs.Turns.{ReadsRec}
+use Rattle.queue.proofs.ScanLaws.{Framing, frames-in, frames-go, frames-short, frames-line, frames-end}
+
+and-assoc : (a b c : Bool) → ((a && b) && c) ≡ (a && (b && c))
+and-assoc true b c = refl
+and-assoc false b c = refl
+
+and-one : (a : Bool) → (a && true) ≡ a
+and-one true = refl
+and-one false = refl
+
+-- ---- rising ids: the last id, if this is not the first record
+unfoldable chain? : Id → List Rec → Bool
+chain? p [] = true
+chain? p (r ∷ l) = eqb (cmpL p (r .id)) 0 && chain? (r .id) l
+
+rising-chain : (r : Rec) (l : List Rec) → rising? (r ∷ l) ≡ chain? (r .id) l
+unfolding rising? chain?
+rising-chain r [] = refl
+rising-chain r (x ∷ l) = rw (rising-chain x l)
+
+unfoldable pub risesFrom : Bool → Bool → Id → List Rec → Bool
+risesFrom first b p [] = b
+risesFrom first b p (r ∷ l) = risesFrom false (b && (first || eqb (cmpL p (r .id)) 0)) (r .id) l
+
+rises-chain : (b : Bool) (p : Id) (l : List Rec) → risesFrom false b p l ≡ (b && chain? p l)
+unfolding risesFrom chain?
+rises-chain b p [] = sym (and-one b)
+rises-chain b p (r ∷ l) = rises-chain (b && eqb (cmpL p (r .id)) 0) (r .id) l ∙ and-assoc b (eqb (cmpL p (r .id)) 0) (chain? (r .id) l)
+
+rises-start : (p : Id) (l : List Rec) → risesFrom true true p l ≡ rising? l
+unfolding risesFrom rising?
+rises-start p [] = refl
+rises-start p (r ∷ l) = rises-chain true (r .id) l ∙ sym (rising-chain r l)
+
+-- ---- what is still to be counted completes the whole
+pub record Rest (k : ℕ) (c : Finish) (a : Sums) (prev : Id) (first : Bool) (l all : List Rec) : Type 0 where
+  pub holders : a .holders + sum Holders l ≡ sum Holders all
+  pub bytes : a .bytes + sum HeldBytes l ≡ sum HeldBytes all
+  pub mined : a .mined + sum MinedHolders l ≡ sum MinedHolders all
+  pub minedbytes : a .minedbytes + sum MinedBytes l ≡ sum MinedBytes all
+  pub right : (a .right && all? (right? k (c .0)) l) ≡ all? (right? k (c .0)) all
+  pub rises : risesFrom first (a .rises) prev l ≡ rising? all
+
+right-facts : (k c : ℕ) (r : Rec) → rightF k c (factsOf r) ≡ right? k c r
+unfolding rightF factsOf right?
+right-facts k c r = refl
+
+sum-on : (q : Query) (x : ℕ) {y t : ℕ} {f : Facts} (r : Rec) (l : List Rec) → f ≡ factsOf r → y ≡ x + weight q f → x + sum q (r ∷ l) ≡ t → y + sum q l ≡ t
+unfolding sum
+sum-on q x r l e g h = let z = ap (weight q) e in omega arith
+
+rest-start : (k : ℕ) (c : Finish) {a : Sums} (prev : Id) (l : List Rec) → a ≡ noSums → Rest k c a prev true l l
+rest-start k c prev l e = rw e (record { holders = omega arith; bytes = omega arith; mined = omega arith; minedbytes = omega arith; right = refl; rises = rises-start prev l })
+
+module _ {k : ℕ} {c : Finish} {a : Sums} {prev : Id} {first : Bool} {all : List Rec} where
+  rest-on : (r : Rec) (l : List Rec) {a′ : Sums} {f : Facts} {id : Id} {up : Bool} → Rest k c a prev first (r ∷ l) all → f ≡ factsOf r → id ≡ r .id → up ≡ (first || eqb (cmpL prev id) 0) → Added k c a f up a′ → Rest k c a′ id false l all
+  unfolding risesFrom
+  rest-on r l {a′} {f} {id} {up} x e i u d = record {
+    holders = sum-on Holders (a .holders) r l e (d .holders) (x .holders);
+    bytes = sum-on HeldBytes (a .bytes) r l e (d .bytes) (x .bytes);
+    mined = sum-on MinedHolders (a .mined) r l e (d .mined) (x .mined);
+    minedbytes = sum-on MinedBytes (a .minedbytes) r l e (d .minedbytes) (x .minedbytes);
+    right = ap (λ (b : Bool). b && all? (right? k (c .0)) l) (d .right ∙ ap (λ (b : Bool). a .right && b) (ap (rightF k (c .0)) e ∙ right-facts k (c .0) r))
+        ∙ and-assoc (a .right) (right? k (c .0) r) (all? (right? k (c .0)) l) ∙ x .right;
+    rises = ap (λ (b : Bool). risesFrom false b id l) (d .rises ∙ ap (λ (b : Bool). a .rises && b) u)
+        ∙ ap (λ (j : Id). risesFrom false (a .rises && (first || eqb (cmpL prev j) 0)) j l) i ∙ x .rises;
+  }
+
+  rest-end : Rest k c a prev first [] all → SumsAs k c a all
+  unfolding risesFrom sum
+  rest-end x = record { holders = omega (arith, x .holders); bytes = omega (arith, x .bytes); mined = omega (arith, x .mined); minedbytes = omega (arith, x .minedbytes); right = sym (and-one (a .right)) ∙ x .right; rises = x .rises }
+
+under-more : {a : Sums} {m n : ℕ} → m ≤ n → Under a m → Under a n
+under-more h u = record { holders = omega (arith, u .holders); bytes = omega (arith, u .bytes); mined = omega (arith, u .mined); minedbytes = omega (arith, u .minedbytes) }
+
+pub added : {k : ℕ} {c : Finish} {a : Sums} {f : Facts} {up : Bool} {r : Sums}
+    → r .holders ≡ a .holders + weight Holders f → r .bytes ≡ a .bytes + weight HeldBytes f → r .mined ≡ a .mined + weight MinedHolders f → r .minedbytes ≡ a .minedbytes + weight MinedBytes f
+    → r .right ≡ (a .right && rightF k (c .0) f) → r .rises ≡ (a .rises && up)
+    → weight Holders f < 4294967296 → weight HeldBytes f < 4294967296 → weight MinedHolders f < 4294967296 → weight MinedBytes f < 4294967296
+    → Added k c a f up r
+added h b m e g u h′ b′ m′ e′ = record {
+  holders = h;
+  bytes = b;
+  mined = m;
+  minedbytes = e;
+  right = g;
+  rises = u;
+  under = λ n x. record { holders = omega (arith, x .holders); bytes = omega (arith, x .bytes); mined = omega (arith, x .mined); minedbytes = omega (arith, x .minedbytes) };
+}
+
+-- ---- the loop
+module _ (hex : Bool) (s : Bytes) (n at k : ℕ) (c : Finish) where
+  pub record Checking (i left : ℕ) (a : Sums) (prev : Id) (first : Bool) : Type 0 where
+    pub frame : Framing hex s n at i left
+    pub few : left ≤ n
+    pub under : Under a ((n - left) * 4294967295)
+    pub rest : whole (formC hex recC) n s at ≡ true → Rest k c a prev first (listAt (formC hex recC) left s i) (listAt (formC hex recC) n s at)
+
+  pub check-start : {a : Sums} (prev : Id) → at ≤ length s → a ≡ noSums → Checking at n a prev true
+  check-start prev h e = record {
+    frame = record { up = omega arith; within = h; all = refl; rest = refl };
+    few = omega arith;
+    under = rw e (record { holders = omega arith; bytes = omega arith; mined = omega arith; minedbytes = omega arith });
+    rest = λ _. rest-start k c prev (listAt (formC hex recC) n s at) e;
+  }
+
+  module _ {i left m : ℕ} {a : Sums} {prev : Id} {first ok : Bool} {y : Seen} (x : Checking i left a prev first) (p : 0 < left) (r : ReadsRec hex s i ok m y) where
+    pub check-room : n < 4294967296 → Under a 18446744069414584319
+    check-room h = under-more (omega (arith, x .few)) (x .under)
+
+    pub check-bytes : ok ≡ true → y .facts .bytes < 4294967296
+    check-bytes t = r .good (omega arith) t .4 .small .bytes
+
+    pub check-go : {j : ℕ} {b up : Bool} {a′ : Sums} → ok ≡ true → b ≡ endsLine hex s i m → b ≡ true → j ≡ afterIn hex s i m → up ≡ (first || eqb (cmpL prev (y .id)) 0) → Added k c a (y .facts) up a′ → Checking j (left - 1) a′ (y .id) false
+    check-go {j} {b} {up} {a′} t e f g u d = record {
+      frame = frames-go (x .frame) p r t e f g;
+      few = omega (arith, x .few);
+      under = under-more (omega (arith, x .few)) (d .under ((n - left) * 4294967295) (x .under));
+      rest = λ w.
+          let v = turn-in hex left (x .frame .within) (x .frame .all ∙ w) p r in
+          rw g (rest-on (v .item) (listAt (formC hex recC) (left - 1) s (afterIn hex s i m)) (rw (v .list) at (x .rest w)) (v .is .0 .facts) (v .is .0 .id) u d);
+    }
+
+    pub check-short : {a′ : Sums} → ok ≡ false → Checked hex s at n k c (record { ok = false; next = 0; sums = a′ })
+    check-short t = record { many = record { is = frames-short (x .frame) p r t; end = λ z. false-true z }; sums = λ z. false-true z }
+
+    pub check-line : {b : Bool} {a′ : Sums} → ok ≡ true → b ≡ endsLine hex s i m → b ≡ false → Checked hex s at n k c (record { ok = false; next = 0; sums = a′ })
+    check-line t e f = record { many = record { is = frames-line (x .frame) p r t e f; end = λ z. false-true z }; sums = λ z. false-true z }
+
+  pub check-end : {i left : ℕ} {a : Sums} {prev : Id} {first : Bool} → Checking i left a prev first → left ≡ 0 → Checked hex s at n k c (record { ok = true; next = i; sums = a })
+  check-end {i} {left} x z =
+      let e = frames-end (x .frame) z in
+      record {
+        many = record { is = e .0; end = λ _. (e .1, x .frame .up, x .frame .within) };
+        sums = λ _. rest-end (rw (none-left (formC hex recC) s left i z .0) at (x .rest (sym (e .0))));
+      }

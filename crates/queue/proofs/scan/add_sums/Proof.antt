@@ -1,0 +1,68 @@
+use mathlib.Core.Path.{_≡_, refl, sym, ap, _∙_}
+use native.Mathlib.Omega.{arith}
+use mathlib.Core.Bool.{Bool, true, false, _&&_, _||_}
+use Prim.Native.Nat.{ℕ, _≤_, _+_, _-_, _*_, _<_}
+use lib.ListN.{length}
+use Rattle.queue.proofs.CheckLaws.{added}
+use borrow.Author.Needs.{needs}
+use Rattle.queue.proofs.scan.add_sums.Statement.{statement}
+use Rattle.queue.proofs.scan.add_sums.Tie as tie
+use Rattle.queue.proofs.scan.add_sums.Reads as reads
+use Rattle.queue.proofs.scan.add_sums.Lts as lts
+
+weigh-requires : tie.Need-weigh-requires
+weigh-requires c κs = c .pre .1
+
+add-h : tie.Need-add-h
+add-h c = omega (arith, c .before .before .pre .0 .holders, c .before .weigh .ensures .1)
+
+weigh-requires-2 : tie.Need-weigh-requires-2
+weigh-requires-2 c κs = c .before .before .pre .1
+
+add-b : tie.Need-add-b
+add-b c = omega (arith, c .before .before .before .before .pre .0 .bytes, c .before .weigh2 .ensures .1)
+
+weigh-requires-3 : tie.Need-weigh-requires-3
+weigh-requires-3 c κs = c .before .before .before .before .pre .1
+
+add-m : tie.Need-add-m
+add-m c = omega (arith, c .before .before .before .before .before .before .pre .0 .mined, c .before .weigh3 .ensures .1)
+
+weigh-requires-4 : tie.Need-weigh-requires-4
+weigh-requires-4 c κs = c .before .before .before .before .before .before .pre .1
+
+add-e : tie.Need-add-e
+add-e c = omega (arith, c .before .before .before .before .before .before .before .before .pre .0 .minedbytes, c .before .weigh4 .ensures .1)
+
+right-requires : tie.Need-right-requires
+right-requires c κs = search needs
+
+both-requires : tie.Need-both-requires
+both-requires c κs = search needs
+
+both-requires-2 : tie.Need-both-requires-2
+both-requires-2 c κs = search needs
+
+wrapping-add-u64-requires : tie.Need-wrapping-add-u64-requires
+wrapping-add-u64-requires c κs = search needs
+
+returns : tie.Need-returns
+returns c = added (ap (λ (x : ℕ). c .before .before .before .before .before .before .before .before .before .before .before .before .args .a .holders + x) (c .before .before .before .before .before .before .before .before .before .before .before .weigh .ensures .0)) (ap (λ (x : ℕ). c .before .before .before .before .before .before .before .before .before .before .before .before .args .a .bytes + x) (c .before .before .before .before .before .before .before .before .before .weigh2 .ensures .0)) (ap (λ (x : ℕ). c .before .before .before .before .before .before .before .before .before .before .before .before .args .a .mined + x) (c .before .before .before .before .before .before .before .weigh3 .ensures .0)) (ap (λ (x : ℕ). c .before .before .before .before .before .before .before .before .before .before .before .before .args .a .minedbytes + x) (c .before .before .before .before .before .weigh4 .ensures .0)) (c .before .before .both .ensures ∙ ap (λ (x : Bool). c .before .before .before .before .before .before .before .before .before .before .before .before .args .a .right && x) (c .before .before .before .right .ensures)) (c .before .both2 .ensures) (omega (arith, c .before .before .before .before .before .before .before .before .before .before .before .weigh .ensures .0, c .before .before .before .before .before .before .before .before .before .before .before .weigh .ensures .1)) (omega (arith, c .before .before .before .before .before .before .before .before .before .weigh2 .ensures .0, c .before .before .before .before .before .before .before .before .before .weigh2 .ensures .1)) (omega (arith, c .before .before .before .before .before .before .before .weigh3 .ensures .0, c .before .before .before .before .before .before .before .weigh3 .ensures .1)) (omega (arith, c .before .before .before .before .before .weigh4 .ensures .0, c .before .before .before .before .before .weigh4 .ensures .1))
+
+pub add-sums-spec : {M : Type 1} → statement M
+add-sums-spec =
+    tie.close
+    (tie.spec
+    weigh-requires
+    add-h
+    weigh-requires-2
+    add-b
+    weigh-requires-3
+    add-m
+    weigh-requires-4
+    add-e
+    right-requires
+    both-requires
+    both-requires-2
+    wrapping-add-u64-requires
+    returns)
