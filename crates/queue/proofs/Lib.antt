@@ -26,6 +26,7 @@ pub mod ReserveLaws
 pub mod StandLaws
 pub mod SnapshotLaws
 pub mod TouchLaws
+pub mod OwnLaws
 pub mod ReleaseLaws
 pub mod RebuildLaws
 pub mod TrimLaws

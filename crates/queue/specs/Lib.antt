@@ -37,6 +37,7 @@ pub mod Reopens
 pub mod Admitting
 pub mod Reserving
 pub mod Touching
+pub mod Owning
 pub mod Releasing
 pub mod Rebuilding
 pub mod Reconciling

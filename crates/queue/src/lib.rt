@@ -11,6 +11,7 @@ pub mod head;
 pub mod lent;
 pub mod limits;
 pub mod logic;
+pub mod own;
 pub mod pieces;
 pub mod put;
 pub mod reading;
@@ -24,6 +25,7 @@ pub mod scan;
 pub mod select;
 pub mod suspects;
 pub mod touch;
+pub mod verdicts;
 pub mod view;
 pub mod write;
 

@@ -36,7 +36,7 @@ fn place(s: &[u8], hex: bool, base: usize, i: usize) -> usize
 }
 
 // The row of the id at offset i of the frame at base, which is that of record number k.
-fn row_at(s: &[u8], hex: bool, base: usize, i: usize, k: u64) -> u64
+pub fn row_at(s: &[u8], hex: bool, base: usize, i: usize, k: u64) -> u64
     requires { ⌜ (i + 32 ≤ length (view hex (now s) base)) × (length (now s) < 4294967296) × (k < 4294967296) ⌝ }
     ensures { λ r. ⌜ (idR hex (now (s .entry)) r ≡ part 32 (view hex (now (s .entry)) base) i) × (noR r ≡ k) ⌝ }
 {
@@ -134,14 +134,14 @@ fn unheap(s: &[u8], hex: bool, v: &mut [u64])
 }
 
 // Heap sort. It is proved to keep the rows; that they are in order is looked at afterwards.
-fn order_rows(s: &[u8], hex: bool, v: &mut [u64])
+pub fn order_rows(s: &[u8], hex: bool, v: &mut [u64])
     ensures { λ _. ⌜ Shuffled (now (v .entry)) (now (v .exit)) ⌝ }
 {
     heap(s, hex, v);
     unheap(s, hex, v);
 }
 
-fn in_order(s: &[u8], hex: bool, v: &[u64]) -> bool
+pub fn in_order(s: &[u8], hex: bool, v: &[u64]) -> bool
     ensures { λ r. ⌜ (r ≡ true → InOrder hex (now (s .entry)) (now (v .entry))) ⌝ }
 {
     let mut i: usize = 1;
@@ -189,7 +189,7 @@ fn look_all(s: &[u8], hex: bool, v: &[u64], y: u64) -> bool
 }
 
 // The same, quickly where the rows are in order.
-fn look(s: &[u8], hex: bool, v: &[u64], ordered: bool, y: u64) -> bool
+pub fn look(s: &[u8], hex: bool, v: &[u64], ordered: bool, y: u64) -> bool
     requires { ⌜ (ordered ≡ true → InOrder hex (now s) (now v)) ⌝ }
     ensures { λ r. ⌜ r ≡ any? (later hex (now (s .entry)) (idR hex (now (s .entry)) y) (noR y)) (now (v .entry)) ⌝ }
 {
