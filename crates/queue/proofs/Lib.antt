@@ -25,6 +25,7 @@ pub mod AdmitLaws
 pub mod ReserveLaws
 pub mod StandLaws
 pub mod SnapshotLaws
+pub mod SortLaws
 pub mod TouchLaws
 pub mod OwnLaws
 pub mod ReleaseLaws

@@ -23,6 +23,7 @@ pub mod reserved;
 pub mod rules;
 pub mod scan;
 pub mod select;
+pub mod sorted;
 pub mod suspects;
 pub mod touch;
 pub mod verdicts;
