@@ -28,7 +28,9 @@ pub mod AdmitLaws
 pub mod ReserveLaws
 pub mod StandLaws
 pub mod SnapshotLaws
+pub mod SortLaws
 pub mod TouchLaws
+pub mod OwnLaws
 pub mod ReleaseLaws
 pub mod RebuildLaws
 pub mod TrimLaws

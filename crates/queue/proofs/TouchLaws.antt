@@ -208,14 +208,14 @@ module _ (s : Bytes) (base : ℕ) (x : Seen) (t : Bytes) (p : ℕ) where
       two″ e f = cc
 
 -- ---- own ids
-among-append : (i : Id) (a b : List Id) → among? i (a ++ b) ≡ (among? i a || among? i b)
+pub among-append : (i : Id) (a b : List Id) → among? i (a ++ b) ≡ (among? i a || among? i b)
 among-append i [] b = refl
 among-append i (x ∷ a) b = let e = among-append i a b in cases (same? i x) (λ t. rw t) (λ t. rw t e)
 
 unfoldable pub outF : Id → Unit {0} → List Rec → Bool
 outF i u l = among? i (queuedOutputs l)
 
-out-turn : (i : Id) (r : Rec) (l : List Rec) → outF i tt (r ∷ l) ≡ ((eqb (r .state) 0 && among? i (outputs (r .body))) || outF i tt l)
+pub out-turn : (i : Id) (r : Rec) (l : List Rec) → outF i tt (r ∷ l) ≡ ((eqb (r .state) 0 && among? i (outputs (r .body))) || outF i tt l)
 unfolding outF
 out-turn i r l = among-append i (cond (eqb (r .state) 0) (outputs (r .body)) []) (queuedOutputs l) ∙ cases (eqb (r .state) 0) (λ t. rw t) (λ t. rw t)
 

@@ -42,6 +42,7 @@ pub mod Admitting
 pub mod Clash
 pub mod Reserving
 pub mod Touching
+pub mod Owning
 pub mod Releasing
 pub mod Rebuilding
 pub mod Reconciling

@@ -13,6 +13,7 @@ pub mod lent;
 pub mod limits;
 pub mod logic;
 pub mod numbers;
+pub mod own;
 pub mod pieces;
 pub mod put;
 pub mod reading;
@@ -24,8 +25,10 @@ pub mod reserved;
 pub mod rules;
 pub mod scan;
 pub mod select;
+pub mod sorted;
 pub mod suspects;
 pub mod touch;
+pub mod verdicts;
 pub mod view;
 pub mod write;
 

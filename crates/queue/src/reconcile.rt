@@ -20,7 +20,7 @@ use super::release::release;
 use super::select::order;
 use super::select::put_ids;
 use super::touch::any_touched;
-use super::touch::judge_all;
+use super::verdicts::judge;
 use super::view::id_at;
 use super::write::put_moved;
 ghost use mathlib.Core.Path.{_≡_};
@@ -271,7 +271,7 @@ fn reconcile_lent(
     let h = o.head;
     let n = h.count as usize;
     let mut vs = [0u64; 3072];
-    judge_all(cur, o.start, h.count, t, k, caught, ids, m, &mut vs);
+    judge(cur, o.start, h.count, t, k, caught, ids, m, &mut vs);
     let mut ranks = [0u64; 2048];
     let mut times = [0u64; 2048];
     let mut places = [0usize; 2048];

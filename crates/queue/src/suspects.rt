@@ -203,7 +203,7 @@ fn look_all(s: &[u8], hex: bool, v: &[u64], y: u64) -> bool
 }
 
 // The same, quickly where the rows are in order.
-fn look(s: &[u8], hex: bool, v: &[u64], ordered: bool, y: u64) -> bool
+pub fn look(s: &[u8], hex: bool, v: &[u64], ordered: bool, y: u64) -> bool
     requires { ⌜ (ordered ≡ true → InOrder hex (now s) (now v)) ⌝ }
     ensures { λ r. ⌜ r ≡ any? (later hex (now (s .entry)) (idR hex (now (s .entry)) y) (noR y)) (now (v .entry)) ⌝ }
 {

@@ -5,6 +5,7 @@ use super::frame::Seen;
 use super::frame::id_read;
 use super::frame::rec_at;
 use super::logic::both;
+use super::own::all_set;
 use super::reading::Found;
 use super::reopen;
 use super::rules::pending;
@@ -14,7 +15,7 @@ use super::view::cmp_id;
 use super::view::id_at;
 ghost use mathlib.Core.Path.{_≡_};
 ghost use mathlib.Core.Bool.{true, false, _&&_};
-ghost use Prim.Native.Nat.{_+_, _≤_};
+ghost use Prim.Native.Nat.{_+_, _≤_, _<_};
 ghost use lib.Dec.{eqb};
 ghost use lib.ListN.{length, take};
 ghost use Rattle.queue.specs.Frames.{recC, idC};
@@ -22,6 +23,8 @@ ghost use Rattle.queue.specs.Reads.{whole, listAt};
 ghost use Rattle.queue.specs.Forms.{formC};
 ghost use Rattle.queue.specs.View.{view};
 ghost use Rattle.queue.specs.Reopens.{IdsRise, idsAt};
+ghost use Rattle.queue.specs.Reserving.{inputsOf};
+ghost use Rattle.queue.specs.Owning.{FlagsAre, QuickFor};
 ghost use Rattle.queue.specs.Touching.{appliedIn, EntriesRise, EntryAs, SeenHere, ConfirmedIs, ownIds, judgeF, verdictOf, InEntry, TouchIs, Judged, changed?};
 ghost use Rattle.queue.specs.paper.Lists.{any?, all?};
 ghost use Rattle.queue.specs.paper.Sound.{among?};
@@ -133,6 +136,29 @@ fn fine(s: &[u8], at: usize, n: u64, base: usize, x: Seen, ids: &[u8], m: u64) -
     true
 }
 
+// The same; by the flags of its inputs, which begin at g, where there are flags.
+fn all_owned(
+    s: &[u8],
+    at: usize,
+    n: u64,
+    base: usize,
+    x: Seen,
+    ids: &[u8],
+    m: u64,
+    quick: bool,
+    flags: &[u8],
+    g: usize,
+) -> bool
+    requires { ⌜ (at ≤ length (now s)) × (whole (formC false recC) n (now s) at ≡ true) × IdsRise (now ids) m × (x .at ≤ length (view false (now s) base)) × (whole idC (x .facts .ins) (view false (now s) base) (x .at) ≡ true) × QuickFor quick (ownIds (idsAt (now ids) m) (listAt (formC false recC) n (now s) at)) (listAt idC (x .facts .ins) (view false (now s) base) (x .at)) (now flags) g (x .facts .ins) ⌝ }
+    ensures { λ r. ⌜ r ≡ all? (λ i. among? i (ownIds (idsAt (now (ids .entry)) m) (listAt (formC false recC) n (now (s .entry)) at))) (listAt idC (x .facts .ins) (view false (now (s .entry)) base) (x .at)) ⌝ }
+{
+    let f = x.facts;
+    if quick {
+        return all_set(flags, g, f.ins);
+    }
+    fine(s, at, n, base, x, ids, m)
+}
+
 // What becomes of a record: 0 it stays, 1 it is confirmed by the applied entry at `at`, 2 Queued, 3 Conflicted.
 pub struct Verdict {
     pub what: u64,
@@ -154,7 +180,8 @@ fn judge(fine: bool, f: Facts) -> u64
     3
 }
 
-// The verdict on the record read at base, of the n records at `at`; t has k applied entries, ids m available ids.
+// The verdict on the record read at base, of the n records at `at`; t has k applied entries, ids m available ids, and the flags of
+// the record's inputs begin at g, where there are flags.
 // In one number: what, and four times the number of the applied entry.
 fn touched(
     s: &[u8],
@@ -167,8 +194,11 @@ fn touched(
     caught: bool,
     ids: &[u8],
     m: u64,
+    quick: bool,
+    flags: &[u8],
+    g: usize,
 ) -> u64
-    requires { ⌜ (at ≤ length (now s)) × (whole (formC false recC) n (now s) at ≡ true) × SeenHere (now s) base x × EntriesRise (now t) k × IdsRise (now ids) m ⌝ }
+    requires { ⌜ (at ≤ length (now s)) × (whole (formC false recC) n (now s) at ≡ true) × SeenHere (now s) base x × EntriesRise (now t) k × IdsRise (now ids) m × QuickFor quick (ownIds (idsAt (now ids) m) (listAt (formC false recC) n (now s) at)) (listAt idC (x .facts .ins) (view false (now s) base) (x .at)) (now flags) g (x .facts .ins) ⌝ }
     ensures { λ r. ⌜ TouchIs (now (s .entry)) at n base x (now (t .entry)) k caught (idsAt (now (ids .entry)) m) r ⌝ }
 {
     let id = x.id;
@@ -183,7 +213,7 @@ fn touched(
     if !both(caught, pending(f.state)) {
         return 0;
     }
-    let a = fine(s, at, n, base, x, ids, m);
+    let a = all_owned(s, at, n, base, x, ids, m, quick, flags, g);
     judge(a, f)
 }
 
@@ -202,7 +232,7 @@ pub fn verdict_of(t: &[u8], c: u64) -> Verdict
     Verdict { what: what, at: 0 }
 }
 
-// The verdicts on the n records at `at`, to the front of vs.
+// The verdicts on the n records at `at`, to the front of vs; quickly where there are flags of all inputs.
 pub fn judge_all(
     s: &[u8],
     at: usize,
@@ -212,17 +242,23 @@ pub fn judge_all(
     caught: bool,
     ids: &[u8],
     m: u64,
+    quick: bool,
+    flags: &[u8],
     vs: &mut [u64],
 )
-    requires { ⌜ (at ≤ length (now s)) × (whole (formC false recC) n (now s) at ≡ true) × EntriesRise (now t) k × IdsRise (now ids) m × (n ≤ length (now vs)) ⌝ }
+    requires { ⌜ (at ≤ length (now s)) × (whole (formC false recC) n (now s) at ≡ true) × EntriesRise (now t) k × IdsRise (now ids) m × (n ≤ length (now vs)) × (n < 4294967296) × (quick ≡ true → FlagsAre (λ z. among? z (ownIds (idsAt (now ids) m) (listAt (formC false recC) n (now s) at))) (inputsOf (listAt (formC false recC) n (now s) at)) (now flags)) ⌝ }
     ensures { λ _. ⌜ Judged (now (t .entry)) caught (ownIds (idsAt (now (ids .entry)) m) (listAt (formC false recC) n (now (s .entry)) at)) (appliedIn (now (t .entry)) k) (listAt (formC false recC) n (now (s .entry)) at) (take n (now (vs .exit))) ⌝ }
 {
     let mut i = at;
     let mut left = n;
     let mut j: usize = 0;
+    let mut g: usize = 0;
     while 0 < left {
         let x = rec_at(s, false, i);
-        vs[j] = touched(s, at, n, i, x, t, k, caught, ids, m);
+        let f = x.facts;
+        let c = touched(s, at, n, i, x, t, k, caught, ids, m, quick, flags, g);
+        vs[j] = c;
+        g = g + f.ins as usize;
         i = after_in(s, false, i, x.size);
         left = left - 1;
         j += 1;

@@ -17,13 +17,13 @@ use Rattle.queue.proofs.reconcile.reconcile_lent.Reads as reads
 use Rattle.queue.proofs.reconcile.reconcile_lent.Lts as lts
 use Rattle.queue.proofs.reconcile.reconcile_gone.Reads as reconcile-gone-reads
 use Rattle.queue.proofs.reconcile.release_all.Reads as release-all-reads
-use Rattle.queue.proofs.touch.judge_all.Reads as judge-all-reads
+use Rattle.queue.proofs.verdicts.judge.Reads as judge-reads
 
-slice-aggregate-judge-all : tie.Need-slice-aggregate-judge-all
-slice-aggregate-judge-all c = search needs
+slice-aggregate-judge : tie.Need-slice-aggregate-judge
+slice-aggregate-judge c = search needs
 
-judge-all-requires : tie.Need-judge-all-requires
-judge-all-requires c κs = let l = tally-asks (c .before .before .before .before .before .before .before .before .pre .0) in (l .0, l .1, c .before .before .before .before .before .before .before .before .pre .1 .entries, c .before .before .before .before .before .before .before .before .pre .1 .rise, few-records (c .before .before .before .before .before .before .before .before .pre .0))
+judge-requires : tie.Need-judge-requires
+judge-requires c κs = let l = tally-asks (c .before .before .before .before .before .before .before .before .pre .0) in (l .0, l .1, c .before .before .before .before .before .before .before .before .pre .1 .entries, c .before .before .before .before .before .before .before .before .pre .1 .rise, few-records (c .before .before .before .before .before .before .before .before .pre .0), c .before .before .before .before .before .before .before .before .pre .0 .read .store .head .countSmall)
 
 array-share-prefix-vs : tie.Need-array-share-prefix-vs
 array-share-prefix-vs c = omega (arith, few-records (c .before .before .before .before .before .before .before .before .before .before .pre .0))
@@ -44,7 +44,7 @@ slice-aggregate-release-all-5 : tie.Need-slice-aggregate-release-all-5
 slice-aggregate-release-all-5 c = search needs
 
 release-all-requires : tie.Need-release-all-requires
-release-all-requires c κs = (c .before .before .before .before .before .before .before .before .before .before .before .before .before .before .before .pre .0, c .before .before .before .before .before .before .before .before .before .before .before .before .before .before .before .pre .1, record { all = c .before .before .before .before .before .before .judge-all .ensures }, search needs, search needs)
+release-all-requires c κs = (c .before .before .before .before .before .before .before .before .before .before .before .before .before .before .before .pre .0, c .before .before .before .before .before .before .before .before .before .before .before .before .before .before .before .pre .1, record { all = c .before .before .before .before .before .before .judge .ensures }, search needs, search needs)
 
 array-share-prefix-vs-2 : tie.Need-array-share-prefix-vs-2
 array-share-prefix-vs-2 c = omega (arith, few-records (c .before .before .before .before .before .before .before .before .before .before .before .before .before .before .before .before .before .before .before .before .before .pre .0))
@@ -59,7 +59,7 @@ slice-aggregate-reconcile-gone-2 : tie.Need-slice-aggregate-reconcile-gone-2
 slice-aggregate-reconcile-gone-2 c = sym (length-take-le (c .before .before .before .before .before .before .before .release-all .result) _ (omega (arith, c .before .before .before .before .before .before .before .release-all .ensures .0, c .before .before .before .before .before .before .before .release-all .ensures .2)))
 
 reconcile-gone-requires : tie.Need-reconcile-gone-requires
-reconcile-gone-requires c κs = (c .before .before .before .before .before .before .before .before .before .before .before .before .before .before .before .before .before .before .before .before .before .before .before .before .pre .0, c .before .before .before .before .before .before .before .before .before .before .before .before .before .before .before .before .before .before .before .before .before .before .before .before .pre .1, record { all = c .before .before .before .before .before .before .before .before .before .before .before .before .before .before .before .judge-all .ensures }, c .before .before .before .before .before .before .before .before .release-all .ensures .1, c .before .before .before .before .before .before .before .before .before .before .before .before .before .before .before .before .before .before .before .before .before .before .before .before .pre .2)
+reconcile-gone-requires c κs = (c .before .before .before .before .before .before .before .before .before .before .before .before .before .before .before .before .before .before .before .before .before .before .before .before .pre .0, c .before .before .before .before .before .before .before .before .before .before .before .before .before .before .before .before .before .before .before .before .before .before .before .before .pre .1, record { all = c .before .before .before .before .before .before .before .before .before .before .before .before .before .before .before .judge .ensures }, c .before .before .before .before .before .before .before .before .release-all .ensures .1, c .before .before .before .before .before .before .before .before .before .before .before .before .before .before .before .before .before .before .before .before .before .before .before .before .pre .2)
 
 same-length : tie.Need-same-length
 same-length c = search needs
@@ -74,8 +74,8 @@ pub reconcile-lent-spec : {M : Type 1} → statement M
 reconcile-lent-spec =
     tie.close
     (tie.spec
-    slice-aggregate-judge-all
-    judge-all-requires
+    slice-aggregate-judge
+    judge-requires
     array-share-prefix-vs
     slice-aggregate-release-all
     slice-aggregate-release-all-2

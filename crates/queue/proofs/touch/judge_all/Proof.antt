@@ -9,6 +9,9 @@ use Rattle.queue.specs.Reads.{listAt}
 use Rattle.queue.specs.Reopens.{idsAt}
 use Rattle.queue.specs.Touching.{appliedIn, ownIds}
 use Rattle.queue.proofs.Turns.{seen}
+use Rattle.queue.specs.Reserving.{inputsOf}
+use Rattle.queue.specs.Owning.{FlagsFrom}
+use Rattle.queue.proofs.OwnLaws.{flags-from, quick-here, quick-next}
 use Rattle.queue.proofs.TouchLaws.{Judging, judging, judge-seen, judge-go, judge-end}
 use borrow.Author.Needs.{needs}
 use Rattle.queue.proofs.touch.judge_all.Statement.{statement}
@@ -20,46 +23,49 @@ use Rattle.queue.proofs.frame.rec_at.Reads as rec-at-reads
 use Rattle.queue.proofs.touch.touched.Reads as touched-reads
 
 abbrev Inv-loop : tie.InvT-loop
-Inv-loop s at n t k caught ids m vs₀ i₀ left₀ j₀ vs i left j = Judging t caught (ownIds (idsAt ids m) (listAt (formC false recC) n s at)) (appliedIn t k) s n at (length vs₀) i left j vs
+Inv-loop s at n t k caught ids m quick flags vs₀ i₀ left₀ j₀ g₀ vs i left j g = Judging t caught (ownIds (idsAt ids m) (listAt (formC false recC) n s at)) (appliedIn t k) s n at (length vs₀) i left j vs × (g + left * 65535 ≤ n * 65535) × (quick ≡ true → FlagsFrom (ownIds (idsAt ids m) (listAt (formC false recC) n s at)) (inputsOf (listAt (formC false recC) left s i)) flags g)
 
 abbrev μ-loop : tie.MeasureT-loop
-μ-loop s at n t k caught ids m vs₀ i₀ left₀ j₀ vs i left j = left
+μ-loop s at n t k caught ids m quick flags vs₀ i₀ left₀ j₀ g₀ vs i left j g = left
 
 loop-holds : tie.Need-loop-holds Inv-loop μ-loop
-loop-holds c = judging _ _ _ _ _ _ _ _ (c .before .before .before .before .pre .0) (c .before .before .before .before .pre .1)
+loop-holds c = (judging _ _ _ _ _ _ _ _ (c .before .before .before .before .before .pre .0) (c .before .before .before .before .before .pre .1), omega arith, λ e. flags-from _ _ _ (c .before .before .before .before .before .pre .6 e))
 
 rec-at-requires : tie.Need-rec-at-requires Inv-loop μ-loop
 rec-at-requires c κs = search needs
 
 touched-requires : tie.Need-touched-requires Inv-loop μ-loop
-touched-requires c κs = (c .before .before .before .before .before .before .before .pre .0, c .before .before .before .before .before .before .before .pre .1, (_, judge-seen (c .before .before .before .before .before .before .before .args .k) (idsAt (c .before .before .before .before .before .before .before .args .ids .now) (c .before .before .before .before .before .before .before .args .m)) (c .before .before .loop .inv) (c .before .loop-test .taken) (c .rec-at .ensures)), c .before .before .before .before .before .before .before .pre .2, c .before .before .before .before .before .before .before .pre .3)
+touched-requires c κs = (c .before .before .before .before .before .before .before .before .before .pre .0, c .before .before .before .before .before .before .before .before .before .pre .1, (_, judge-seen (c .before .before .before .before .before .before .before .before .before .args .k) (idsAt (c .before .before .before .before .before .before .before .before .before .args .ids .now) (c .before .before .before .before .before .before .before .before .before .args .m)) (c .before .before .before .loop .inv .0) (c .before .before .loop-test .taken) (c .before .rec-at .ensures)), c .before .before .before .before .before .before .before .before .before .pre .2, c .before .before .before .before .before .before .before .before .before .pre .3, quick-here (ownIds (idsAt (c .before .before .before .before .before .before .before .before .before .args .ids .now) (c .before .before .before .before .before .before .before .before .before .args .m)) (listAt (formC false recC) (c .before .before .before .before .before .before .before .before .before .args .n) (c .before .before .before .before .before .before .before .before .before .args .s .now) (c .before .before .before .before .before .before .before .before .before .args .at))) (c .before .before .before .before .before .before .before .before .before .args .flags .now) (c .before .before .before .loop .g) (c .before .before .before .before .before .before .before .before .before .args .quick) (c .before .before .before .loop .inv .0 .scan) (c .before .before .before .loop .inv .2) (c .before .before .loop-test .taken) (c .before .rec-at .ensures))
 
 mul-vs : tie.Need-mul-vs Inv-loop μ-loop
-mul-vs c = let h : c .before .before .before .loop .j < length (c .before .before .before .loop .vs) = omega (arith, c .before .before .before .loop .inv .count, c .before .before .before .loop .inv .long, c .before .before .before .before .before .before .before .before .pre .4, c .before .before .loop-test .taken) in let g = c .before .before .before .before .before .before .before .before .good in record { fits = omega (arith, c .before .before .before .loop .inv .long) }
+mul-vs c = let h : c .before .before .before .before .loop .j < length (c .before .before .before .before .loop .vs) = omega (arith, c .before .before .before .before .loop .inv .0 .count, c .before .before .before .before .loop .inv .0 .long, c .before .before .before .before .before .before .before .before .before .before .pre .4, c .before .before .before .loop-test .taken) in let g = c .before .before .before .before .before .before .before .before .before .before .good in record { fits = omega (arith, c .before .before .before .before .loop .inv .0 .long) }
 
 slice-write-vs : tie.Need-slice-write-vs Inv-loop μ-loop
-slice-write-vs c = omega (arith, c .before .before .before .loop .inv .count, c .before .before .before .loop .inv .long, c .before .before .before .before .before .before .before .before .pre .4, c .before .before .loop-test .taken)
+slice-write-vs c = omega (arith, c .before .before .before .before .loop .inv .0 .count, c .before .before .before .before .loop .inv .0 .long, c .before .before .before .before .before .before .before .before .before .before .pre .4, c .before .before .before .loop-test .taken)
+
+add-g : tie.Need-add-g Inv-loop μ-loop
+add-g c = omega (arith, c .before .before .before .before .loop .inv .1, c .before .before .before .before .before .before .before .before .before .before .pre .5, seen false (c .before .before .before .before .loop .inv .0 .scan) (c .before .before .before .loop-test .taken) (c .before .before .rec-at .ensures) .is .0 .small .ins)
 
 after-in-requires : tie.Need-after-in-requires Inv-loop μ-loop
-after-in-requires c κs = seen false (c .before .before .before .loop .inv .scan) (c .before .before .loop-test .taken) (c .before .rec-at .ensures) .is .1 .within
+after-in-requires c κs = seen false (c .before .before .before .before .loop .inv .0 .scan) (c .before .before .before .loop-test .taken) (c .before .before .rec-at .ensures) .is .1 .within
 
 sub-left : tie.Need-sub-left Inv-loop μ-loop
 sub-left c = search needs
 
 add-j : tie.Need-add-j Inv-loop μ-loop
-add-j c = omega (arith, c .before .before .before .before .loop .inv .count, c .before .before .before .loop-test .taken, c .before .before .before .before .before .before .before .before .before .pre .4, c .before .before .before .before .before .before .before .before .before .good .0)
+add-j c = omega (arith, c .before .before .before .before .before .loop .inv .0 .count, c .before .before .before .before .loop-test .taken, c .before .before .before .before .before .before .before .before .before .before .before .pre .5)
 
 loop-less : tie.Need-loop-less Inv-loop μ-loop
 loop-less c = search needs
 
 loop-again : tie.Need-loop-again Inv-loop μ-loop
-loop-again c = judge-go (c .before .before .before .before .before .before .before .before .before .args .k) (idsAt (c .before .before .before .before .before .before .before .before .before .args .ids .now) (c .before .before .before .before .before .before .before .before .before .args .m)) (c .before .before .before .before .loop .inv) (c .before .before .before .loop-test .taken) (c .before .before .rec-at .ensures) (c .before .before .before .before .before .before .before .before .before .pre .4) (c .before .touched .ensures) (c .after-in .ensures)
+loop-again c = (judge-go (c .before .before .before .before .before .before .before .before .before .before .before .args .k) (idsAt (c .before .before .before .before .before .before .before .before .before .before .before .args .ids .now) (c .before .before .before .before .before .before .before .before .before .before .before .args .m)) (c .before .before .before .before .before .loop .inv .0) (c .before .before .before .before .loop-test .taken) (c .before .before .before .rec-at .ensures) (c .before .before .before .before .before .before .before .before .before .before .before .pre .4) (c .before .touched .ensures) (c .after-in .ensures), omega (arith, c .before .before .before .before .before .loop .inv .1, c .before .before .before .before .loop-test .taken, seen false (c .before .before .before .before .before .loop .inv .0 .scan) (c .before .before .before .before .loop-test .taken) (c .before .before .before .rec-at .ensures) .is .0 .small .ins), quick-next (ownIds (idsAt (c .before .before .before .before .before .before .before .before .before .before .before .args .ids .now) (c .before .before .before .before .before .before .before .before .before .before .before .args .m)) (listAt (formC false recC) (c .before .before .before .before .before .before .before .before .before .before .before .args .n) (c .before .before .before .before .before .before .before .before .before .before .before .args .s .now) (c .before .before .before .before .before .before .before .before .before .before .before .args .at))) (c .before .before .before .before .before .before .before .before .before .before .before .args .flags .now) (c .before .before .before .before .before .loop .g) (c .before .before .before .before .before .before .before .before .before .before .before .args .quick) (c .before .before .before .before .before .loop .inv .0 .scan) (c .before .before .before .before .before .loop .inv .2) (c .before .before .before .before .loop-test .taken) (c .before .before .before .rec-at .ensures) (c .after-in .ensures))
 
 same-length : tie.Need-same-length Inv-loop μ-loop
-same-length c = search needs
+same-length c = c .before .loop .inv .0 .long
 
 returns : tie.Need-returns Inv-loop μ-loop
-returns c = judge-end (c .before .before .before .before .before .before .args .k) (idsAt (c .before .before .before .before .before .before .args .ids .now) (c .before .before .before .before .before .before .args .m)) (c .before .loop .inv) (omega arith)
+returns c = judge-end (c .before .before .before .before .before .before .before .args .k) (idsAt (c .before .before .before .before .before .before .before .args .ids .now) (c .before .before .before .before .before .before .before .args .m)) (c .before .loop .inv .0) (omega arith)
 
 pub judge-all-spec : {M : Type 1} → statement M
 judge-all-spec =
@@ -72,6 +78,7 @@ judge-all-spec =
     touched-requires
     mul-vs
     slice-write-vs
+    add-g
     after-in-requires
     sub-left
     add-j

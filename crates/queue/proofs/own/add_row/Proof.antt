@@ -1,0 +1,63 @@
+use mathlib.Core.Path.{_≡_, refl, sym, ap, _∙_}
+use native.Mathlib.Omega.{arith}
+use mathlib.Core.Bool.{Bool, true, false, _&&_, _||_}
+use Prim.Native.Nat.{ℕ, _≤_, _+_, _-_, _*_, _/_, _<_}
+use lib.ListN.{length, take, drop, getD}
+use Rattle.queue.specs.Frames.{recC, idC}
+use Rattle.queue.specs.Forms.{formC}
+use Rattle.queue.specs.View.{view}
+use Rattle.queue.specs.Reads.{listAt}
+use Rattle.queue.specs.Reopens.{idsAt}
+use Rattle.queue.specs.Reserving.{inputsOf}
+use Rattle.queue.proofs.OwnLaws.{row-room, row-new}
+use borrow.Author.Needs.{needs}
+use Rattle.queue.proofs.own.add_row.Statement.{statement}
+use Rattle.queue.proofs.own.add_row.Tie as tie
+use Rattle.queue.proofs.own.add_row.Reads as reads
+use Rattle.queue.proofs.own.add_row.Lts as lts
+use Rattle.queue.proofs.own.settle.Reads as settle-reads
+
+mul-v : tie.Need-mul-v
+mul-v c = search needs
+
+slice-write-v : tie.Need-slice-write-v
+slice-write-v c = search needs
+
+add-result : tie.Need-add-result
+add-result c = search needs
+
+same-length : tie.Need-same-length
+same-length c = search needs
+
+returns : tie.Need-returns
+returns c = (row-room (c .before .before .before .before .before .args .s .now) _ (c .before .before .before .before .before .args .flags .now) (c .before .before .before .before .before .args .v .now) (c .before .before .before .before .before .args .k) (c .before .before .before .before .before .args .w) (c .if1 .taken) refl, omega arith)
+
+settle-requires : tie.Need-settle-requires
+settle-requires c κs = (c .before .before .before .before .before .before .before .pre .0, c .before .before .before .before .before .before .before .pre .1, c .before .before .before .before .before .before .before .pre .2, c .before .before .before .before .before .before .before .pre .3, c .before .before .before .before .before .before .before .pre .4)
+
+slice-write-v-2 : tie.Need-slice-write-v-2
+slice-write-v-2 c = search needs
+
+same-length-2 : tie.Need-same-length-2
+same-length-2 c = search needs
+
+same-length-3 : tie.Need-same-length-3
+same-length-3 c = search needs
+
+returns-2 : tie.Need-returns-2
+returns-2 c = (row-new (c .before .before .before .before .before .before .before .before .before .before .before .before .args .s .now) _ (c .before .before .before .before .before .before .before .before .before .before .before .before .args .flags .now) (c .before .before .before .before .before .before .before .before .before .before .before .before .args .v .now) (c .before .before .before .before .before .before .before .before .before .before .before .before .args .k) (c .before .before .before .before .before .before .before .before .before .before .before .before .args .w) (omega (arith, c .before .before .before .before .before .before .before .if1 .left)) (c .before .before .before .before .settle .ensures) (omega (arith, c .before .before .before .before .before .before .before .before .before .before .before .before .pre .6)) refl, omega (arith, c .before .before .before .before .before .before .before .before .before .before .before .before .pre .6))
+
+pub add-row-spec : {M : Type 1} → statement M
+add-row-spec =
+    tie.close
+    (tie.spec
+    mul-v
+    slice-write-v
+    add-result
+    same-length
+    returns
+    settle-requires
+    slice-write-v-2
+    same-length-2
+    same-length-3
+    returns-2)

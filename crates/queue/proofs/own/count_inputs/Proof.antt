@@ -1,0 +1,65 @@
+use mathlib.Core.Path.{_≡_, refl, sym, ap, _∙_}
+use native.Mathlib.Omega.{arith}
+use mathlib.Core.Bool.{Bool, true, false, _&&_, _||_}
+use Prim.Native.Nat.{ℕ, _≤_, _+_, _-_, _*_, _/_, _<_}
+use lib.ListN.{length, take, drop, getD}
+use Rattle.queue.specs.Frames.{recC, idC}
+use Rattle.queue.specs.Forms.{formC}
+use Rattle.queue.specs.View.{view}
+use Rattle.queue.specs.Reads.{listAt}
+use Rattle.queue.specs.Reopens.{idsAt}
+use Rattle.queue.specs.Reserving.{inputsOf}
+use Rattle.queue.proofs.Turns.{Scan, start, seen}
+use Rattle.queue.proofs.OwnLaws.{inputsFrom, inputs-go, inputs-end}
+use borrow.Author.Needs.{needs}
+use Rattle.queue.proofs.own.count_inputs.Statement.{statement}
+use Rattle.queue.proofs.own.count_inputs.Tie as tie
+use Rattle.queue.proofs.own.count_inputs.Reads as reads
+use Rattle.queue.proofs.own.count_inputs.Lts as lts
+use Rattle.queue.proofs.forms.after_in.Reads as after-in-reads
+use Rattle.queue.proofs.frame.rec_at.Reads as rec-at-reads
+
+abbrev Inv-loop : tie.InvT-loop
+Inv-loop s at n i₀ left₀ total₀ i left total = Scan (formC false recC) inputsFrom s n at 0 i left total × (total + left * 65535 ≤ n * 65535)
+
+abbrev μ-loop : tie.MeasureT-loop
+μ-loop s at n i₀ left₀ total₀ i left total = left
+
+loop-holds : tie.Need-loop-holds Inv-loop μ-loop
+loop-holds c = (start (formC false recC) inputsFrom _ _ _ _ (c .before .pre .0) (c .before .pre .1), omega arith)
+
+rec-at-requires : tie.Need-rec-at-requires Inv-loop μ-loop
+rec-at-requires c κs = search needs
+
+add-total : tie.Need-add-total Inv-loop μ-loop
+add-total c = omega (arith, c .before .before .before .before .loop .inv .1, seen false (c .before .before .before .before .loop .inv .0) (c .before .before .before .loop-test .taken) (c .before .before .rec-at .ensures) .is .0 .small .ins, c .before .before .before .before .before .before .pre .2)
+
+after-in-requires : tie.Need-after-in-requires Inv-loop μ-loop
+after-in-requires c κs = seen false (c .before .before .before .before .loop .inv .0) (c .before .before .before .loop-test .taken) (c .before .before .rec-at .ensures) .is .1 .within
+
+sub-left : tie.Need-sub-left Inv-loop μ-loop
+sub-left c = search needs
+
+loop-less : tie.Need-loop-less Inv-loop μ-loop
+loop-less c = search needs
+
+loop-again : tie.Need-loop-again Inv-loop μ-loop
+loop-again c = (inputs-go (c .before .before .before .before .before .loop .inv .0) (c .before .before .before .before .loop-test .taken) (c .before .before .before .rec-at .ensures) (c .after-in .ensures), omega (arith, c .before .before .before .before .before .loop .inv .1, seen false (c .before .before .before .before .before .loop .inv .0) (c .before .before .before .before .loop-test .taken) (c .before .before .before .rec-at .ensures) .is .0 .small .ins))
+
+returns : tie.Need-returns Inv-loop μ-loop
+returns c = (inputs-end (c .before .loop .inv .0) (omega arith), omega (arith, c .before .loop .inv .1))
+
+pub count-inputs-spec : {M : Type 1} → statement M
+count-inputs-spec =
+    tie.close
+    (tie.spec
+    Inv-loop
+    μ-loop
+    loop-holds
+    rec-at-requires
+    add-total
+    after-in-requires
+    sub-left
+    loop-less
+    loop-again
+    returns)

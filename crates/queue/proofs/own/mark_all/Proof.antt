@@ -1,0 +1,75 @@
+use mathlib.Core.Path.{_≡_, refl, sym, ap, _∙_}
+use native.Mathlib.Omega.{arith}
+use mathlib.Core.Bool.{Bool, true, false, _&&_, _||_}
+use Prim.Native.Nat.{ℕ, _≤_, _+_, _-_, _*_, _/_, _<_}
+use lib.ListN.{length, take, drop, getD}
+use Rattle.queue.specs.Frames.{recC, idC}
+use Rattle.queue.specs.Forms.{formC}
+use Rattle.queue.specs.View.{view}
+use Rattle.queue.specs.Reads.{listAt}
+use Rattle.queue.specs.Reopens.{idsAt}
+use Rattle.queue.specs.Reserving.{inputsOf}
+use Rattle.queue.specs.Owning.{ownF}
+use Rattle.queue.proofs.Turns.{Scan, start, seen}
+use Rattle.queue.proofs.OwnLaws.{markR, marks-room, marks-go, marks-end}
+use borrow.Author.Needs.{needs}
+use Rattle.queue.proofs.own.mark_all.Statement.{statement}
+use Rattle.queue.proofs.own.mark_all.Tie as tie
+use Rattle.queue.proofs.own.mark_all.Reads as reads
+use Rattle.queue.proofs.own.mark_all.Lts as lts
+use Rattle.queue.proofs.forms.after_in.Reads as after-in-reads
+use Rattle.queue.proofs.frame.rec_at.Reads as rec-at-reads
+use Rattle.queue.proofs.own.mark_ids.Reads as mark-ids-reads
+
+abbrev Inv-loop : tie.InvT-loop
+Inv-loop s at n first ids m v ordered flags₀ i₀ left₀ g₀ flags i left g = Scan (formC false recC) (markR (ownF first (idsAt ids m) s v)) s n at (flags₀, 0) i left (flags, g) × (length flags ≡ length flags₀) × (g + length (inputsOf (listAt (formC false recC) left s i)) ≤ length flags₀)
+
+abbrev μ-loop : tie.MeasureT-loop
+μ-loop s at n first ids m v ordered flags₀ i₀ left₀ g₀ flags i left g = left
+
+loop-holds : tie.Need-loop-holds Inv-loop μ-loop
+loop-holds c = (start (formC false recC) _ _ _ _ _ (c .before .before .before .before .pre .0) (c .before .before .before .before .pre .1), refl, omega (arith, c .before .before .before .before .pre .5))
+
+rec-at-requires : tie.Need-rec-at-requires Inv-loop μ-loop
+rec-at-requires c κs = search needs
+
+mark-ids-requires : tie.Need-mark-ids-requires Inv-loop μ-loop
+mark-ids-requires c κs = let t = seen false (c .before .before .before .before .loop .inv .0) (c .before .before .before .loop-test .taken) (c .before .before .rec-at .ensures) in (t .is .0 .insIn, t .is .0 .insAll, c .before .before .before .before .before .before .before .before .before .pre .2, c .before .before .before .before .before .before .before .before .before .pre .3, c .before .before .before .before .before .before .before .before .before .pre .4, omega (arith, c .before .before .before .before .loop .inv .1, c .before .before .before .before .loop .inv .2, marks-room (ownF (c .before .before .before .before .before .before .before .before .before .args .first) (idsAt (c .before .before .before .before .before .before .before .before .before .args .ids .now) (c .before .before .before .before .before .before .before .before .before .args .m)) (c .before .before .before .before .before .before .before .before .before .args .s .now) (c .before .before .before .before .before .before .before .before .before .args .v .now)) (c .before .before .before .before .loop .inv .0) (c .before .before .before .loop-test .taken) (c .before .before .rec-at .ensures) refl))
+
+add-g : tie.Need-add-g Inv-loop μ-loop
+add-g c = let h = c .before .before .before .before .before .before .before .before .before .before .before .before .good in omega (arith, c .before .before .before .before .before .before .before .loop .inv .1, c .before .before .before .before .before .before .before .loop .inv .2, marks-room (ownF (c .before .before .before .before .before .before .before .before .before .before .before .before .args .first) (idsAt (c .before .before .before .before .before .before .before .before .before .before .before .before .args .ids .now) (c .before .before .before .before .before .before .before .before .before .before .before .before .args .m)) (c .before .before .before .before .before .before .before .before .before .before .before .before .args .s .now) (c .before .before .before .before .before .before .before .before .before .before .before .before .args .v .now)) (c .before .before .before .before .before .before .before .loop .inv .0) (c .before .before .before .before .before .before .loop-test .taken) (c .before .before .before .before .before .rec-at .ensures) refl)
+
+after-in-requires : tie.Need-after-in-requires Inv-loop μ-loop
+after-in-requires c κs = seen false (c .before .before .before .before .before .before .before .loop .inv .0) (c .before .before .before .before .before .before .loop-test .taken) (c .before .before .before .before .before .rec-at .ensures) .is .1 .within
+
+sub-left : tie.Need-sub-left Inv-loop μ-loop
+sub-left c = search needs
+
+loop-less : tie.Need-loop-less Inv-loop μ-loop
+loop-less c = search needs
+
+loop-again : tie.Need-loop-again Inv-loop μ-loop
+loop-again c = (marks-go (ownF (c .before .before .before .before .before .before .before .before .before .before .before .before .before .args .first) (idsAt (c .before .before .before .before .before .before .before .before .before .before .before .before .before .args .ids .now) (c .before .before .before .before .before .before .before .before .before .before .before .before .before .args .m)) (c .before .before .before .before .before .before .before .before .before .before .before .before .before .args .s .now) (c .before .before .before .before .before .before .before .before .before .before .before .before .before .args .v .now)) (c .before .before .before .before .before .before .before .before .loop .inv .0) (c .before .before .before .before .before .before .before .loop-test .taken) (c .before .before .before .before .before .before .rec-at .ensures) (c .after-in .ensures) (c .before .before .before .mark-ids .ensures), omega (arith, c .before .before .before .before .before .before .before .before .loop .inv .1), omega (arith, c .before .before .before .before .before .before .before .before .loop .inv .2, marks-room (ownF (c .before .before .before .before .before .before .before .before .before .before .before .before .before .args .first) (idsAt (c .before .before .before .before .before .before .before .before .before .before .before .before .before .args .ids .now) (c .before .before .before .before .before .before .before .before .before .before .before .before .before .args .m)) (c .before .before .before .before .before .before .before .before .before .before .before .before .before .args .s .now) (c .before .before .before .before .before .before .before .before .before .before .before .before .before .args .v .now)) (c .before .before .before .before .before .before .before .before .loop .inv .0) (c .before .before .before .before .before .before .before .loop-test .taken) (c .before .before .before .before .before .before .rec-at .ensures) (c .after-in .ensures)))
+
+same-length : tie.Need-same-length Inv-loop μ-loop
+same-length c = search needs
+
+returns : tie.Need-returns Inv-loop μ-loop
+returns c = marks-end (ownF (c .before .before .before .before .before .before .args .first) (idsAt (c .before .before .before .before .before .before .args .ids .now) (c .before .before .before .before .before .before .args .m)) (c .before .before .before .before .before .before .args .s .now) (c .before .before .before .before .before .before .args .v .now)) (c .before .loop .inv .0) (omega arith)
+
+pub mark-all-spec : {M : Type 1} → statement M
+mark-all-spec =
+    tie.close
+    (tie.spec
+    Inv-loop
+    μ-loop
+    loop-holds
+    rec-at-requires
+    mark-ids-requires
+    add-g
+    after-in-requires
+    sub-left
+    loop-less
+    loop-again
+    same-length
+    returns)

@@ -1,0 +1,49 @@
+use mathlib.Core.Path.{_≡_, refl, sym, ap, _∙_}
+use native.Mathlib.Omega.{arith}
+use mathlib.Core.Bool.{Bool, true, false, _&&_, _||_}
+use Prim.Native.Nat.{ℕ, _≤_, _+_, _-_, _*_, _/_, _<_}
+use lib.ListN.{length, take, drop, getD}
+use Rattle.queue.specs.Frames.{recC, idC}
+use Rattle.queue.specs.Forms.{formC}
+use Rattle.queue.specs.View.{view}
+use Rattle.queue.specs.Reads.{listAt}
+use Rattle.queue.specs.Reopens.{idsAt}
+use Rattle.queue.specs.Reserving.{inputsOf}
+use Rattle.queue.proofs.OwnLaws.{settled}
+use borrow.Author.Needs.{needs}
+use Rattle.queue.proofs.own.settle.Statement.{statement}
+use Rattle.queue.proofs.own.settle.Tie as tie
+use Rattle.queue.proofs.own.settle.Reads as reads
+use Rattle.queue.proofs.own.settle.Lts as lts
+use Rattle.queue.proofs.own.mark_all.Reads as mark-all-reads
+use Rattle.queue.proofs.suspects.in_order.Reads as in-order-reads
+use Rattle.queue.proofs.suspects.order_rows.Reads as order-rows-reads
+
+order-rows-requires : tie.Need-order-rows-requires
+order-rows-requires c κs = search needs
+
+in-order-requires : tie.Need-in-order-requires
+in-order-requires c κs = search needs
+
+mark-all-requires : tie.Need-mark-all-requires
+mark-all-requires c κs = (c .before .before .before .before .before .before .before .before .before .before .before .before .pre .0, c .before .before .before .before .before .before .before .before .before .before .before .before .pre .1, c .before .before .before .before .before .before .before .before .before .before .before .before .pre .2, c .before .before .before .before .before .before .before .before .before .before .before .before .pre .3, c .before .before .in-order .ensures, c .before .before .before .before .before .before .before .before .before .before .before .before .pre .4)
+
+same-length : tie.Need-same-length
+same-length c = search needs
+
+same-length-2 : tie.Need-same-length-2
+same-length-2 c = search needs
+
+returns : tie.Need-returns
+returns c = settled (c .before .before .before .before .before .before .before .before .before .before .before .before .before .before .before .args .s .now) _ (idsAt (c .before .before .before .before .before .before .before .before .before .before .before .before .before .before .before .args .ids .now) (c .before .before .before .before .before .before .before .before .before .before .before .before .before .before .before .args .m)) _ _ (c .before .before .before .before .before .before .before .before .before .order-rows .ensures) (c .before .before .mark-all .ensures)
+
+pub settle-spec : {M : Type 1} → statement M
+settle-spec =
+    tie.close
+    (tie.spec
+    order-rows-requires
+    in-order-requires
+    mark-all-requires
+    same-length
+    same-length-2
+    returns)

@@ -1,0 +1,81 @@
+use mathlib.Core.Path.{_≡_, refl, sym, ap, _∙_}
+use native.Mathlib.Omega.{arith}
+use lib.ListN.{length}
+use borrow.Author.Tests.{not-true, not-false}
+use Rattle.queue.specs.ReadLaws.{false-true}
+use Rattle.queue.proofs.OwnLaws.{small-is}
+use borrow.Author.Needs.{needs}
+use Rattle.queue.proofs.verdicts.judge.Statement.{statement}
+use Rattle.queue.proofs.verdicts.judge.Tie as tie
+use Rattle.queue.proofs.verdicts.judge.Reads as reads
+use Rattle.queue.proofs.verdicts.judge.Lts as lts
+use Rattle.queue.proofs.logic.both.Reads as both-reads
+use Rattle.queue.proofs.own.count_inputs.Reads as count-inputs-reads
+use Rattle.queue.proofs.touch.judge_all.Reads as judge-all-reads
+use Rattle.queue.proofs.verdicts.judge_few.Reads as judge-few-reads
+use Rattle.queue.proofs.verdicts.judge_many.Reads as judge-many-reads
+
+count-inputs-requires : tie.Need-count-inputs-requires
+count-inputs-requires c κs = (c .before .before .before .before .pre .0, c .before .before .before .before .pre .1, c .before .before .before .before .pre .5)
+
+both-requires : tie.Need-both-requires
+both-requires c κs = search needs
+
+both-requires-2 : tie.Need-both-requires-2
+both-requires-2 c κs = search needs
+
+judge-all-requires : tie.Need-judge-all-requires
+judge-all-requires c κs = (c .before .before .before .before .before .before .before .before .before .pre .0, c .before .before .before .before .before .before .before .before .before .pre .1, c .before .before .before .before .before .before .before .before .before .pre .2, c .before .before .before .before .before .before .before .before .before .pre .3, c .before .before .before .before .before .before .before .before .before .pre .4, c .before .before .before .before .before .before .before .before .before .pre .5, λ e. false-true e)
+
+same-length : tie.Need-same-length
+same-length c = search needs
+
+returns : tie.Need-returns
+returns c = c .before .before .judge-all .ensures
+
+judge-few-requires : tie.Need-judge-few-requires
+judge-few-requires c κs = (c .before .before .before .before .before .before .before .before .before .before .pre .0, c .before .before .before .before .before .before .before .before .before .before .pre .1, c .before .before .before .before .before .before .before .before .before .before .pre .2, c .before .before .before .before .before .before .before .before .before .before .pre .3, c .before .before .before .before .before .before .before .before .before .before .pre .4, c .before .before .before .before .before .before .before .before .before .before .pre .5, small-is (c .before .before .before .before .before .before .before .before .before .before .args .caught) (length (c .before .before .before .before .before .before .before .before .before .before .args .s .now)) 4294967296 (c .before .before .before .before .before .count-inputs .result) 262144 (c .before .before .before .both2 .ensures) (c .before .before .before .before .both .ensures) (not-false _ (c .before .before .if1 .left)) .0, c .before .before .before .before .before .count-inputs .ensures .0, c .before .if2 .taken)
+
+same-length-2 : tie.Need-same-length-2
+same-length-2 c = search needs
+
+returns-2 : tie.Need-returns-2
+returns-2 c = c .before .before .judge-few .ensures
+
+judge-many-requires : tie.Need-judge-many-requires
+judge-many-requires c κs = (c .before .before .before .before .before .before .before .before .before .before .before .pre .0, c .before .before .before .before .before .before .before .before .before .before .before .pre .1, c .before .before .before .before .before .before .before .before .before .before .before .pre .2, c .before .before .before .before .before .before .before .before .before .before .before .pre .3, c .before .before .before .before .before .before .before .before .before .before .before .pre .4, c .before .before .before .before .before .before .before .before .before .before .before .pre .5, small-is (c .before .before .before .before .before .before .before .before .before .before .before .args .caught) (length (c .before .before .before .before .before .before .before .before .before .before .before .args .s .now)) 4294967296 (c .before .before .before .before .before .before .count-inputs .result) 262144 (c .before .before .before .before .both2 .ensures) (c .before .before .before .before .before .both .ensures) (not-false _ (c .before .before .before .if1 .left)) .0, c .before .before .before .before .before .before .count-inputs .ensures .0, c .before .if3 .taken, (omega arith, omega arith, omega arith))
+
+same-length-3 : tie.Need-same-length-3
+same-length-3 c = search needs
+
+returns-3 : tie.Need-returns-3
+returns-3 c = c .before .before .judge-many .ensures
+
+judge-many-requires-2 : tie.Need-judge-many-requires-2
+judge-many-requires-2 c κs = (c .before .before .before .before .before .before .before .before .before .before .before .pre .0, c .before .before .before .before .before .before .before .before .before .before .before .pre .1, c .before .before .before .before .before .before .before .before .before .before .before .pre .2, c .before .before .before .before .before .before .before .before .before .before .before .pre .3, c .before .before .before .before .before .before .before .before .before .before .before .pre .4, c .before .before .before .before .before .before .before .before .before .before .before .pre .5, small-is (c .before .before .before .before .before .before .before .before .before .before .before .args .caught) (length (c .before .before .before .before .before .before .before .before .before .before .before .args .s .now)) 4294967296 (c .before .before .before .before .before .before .count-inputs .result) 262144 (c .before .before .before .before .both2 .ensures) (c .before .before .before .before .before .both .ensures) (not-false _ (c .before .before .before .if1 .left)) .0, c .before .before .before .before .before .before .count-inputs .ensures .0, small-is (c .before .before .before .before .before .before .before .before .before .before .before .args .caught) (length (c .before .before .before .before .before .before .before .before .before .before .before .args .s .now)) 4294967296 (c .before .before .before .before .before .before .count-inputs .result) 262144 (c .before .before .before .before .both2 .ensures) (c .before .before .before .before .before .both .ensures) (not-false _ (c .before .before .before .if1 .left)) .1, (omega arith, omega arith, omega arith))
+
+same-length-4 : tie.Need-same-length-4
+same-length-4 c = search needs
+
+returns-4 : tie.Need-returns-4
+returns-4 c = c .before .before .judge-many2 .ensures
+
+pub judge-spec : {M : Type 1} → statement M
+judge-spec =
+    tie.close
+    (tie.spec
+    count-inputs-requires
+    both-requires
+    both-requires-2
+    judge-all-requires
+    same-length
+    returns
+    judge-few-requires
+    same-length-2
+    returns-2
+    judge-many-requires
+    same-length-3
+    returns-3
+    judge-many-requires-2
+    same-length-4
+    returns-4)

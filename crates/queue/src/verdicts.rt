@@ -1,0 +1,139 @@
+// The verdicts of a reconciliation, worked out once, with tables as large as the number of inputs asks for.
+use super::logic::both;
+use super::own::count_inputs;
+use super::own::own_flags;
+use super::touch::judge_all;
+ghost use mathlib.Core.Path.{_≡_};
+ghost use mathlib.Core.Bool.{true, false};
+ghost use Prim.Native.Nat.{_≤_, _<_};
+ghost use lib.ListN.{length, take};
+ghost use Rattle.queue.specs.Frames.{recC};
+ghost use Rattle.queue.specs.Forms.{formC};
+ghost use Rattle.queue.specs.Reads.{whole, listAt};
+ghost use Rattle.queue.specs.Reopens.{IdsRise, idsAt};
+ghost use Rattle.queue.specs.Reserving.{inputsOf};
+ghost use Rattle.queue.specs.Touching.{appliedIn, EntriesRise, ownIds, Judged};
+
+// With flags for all inputs.
+fn judge_with(
+    s: &[u8],
+    at: usize,
+    n: u64,
+    t: &[u8],
+    k: u64,
+    caught: bool,
+    ids: &[u8],
+    m: u64,
+    total: u64,
+    v: &mut [u64],
+    flags: &mut [u8],
+    vs: &mut [u64],
+)
+    requires { ⌜ (at ≤ length (now s)) × (whole (formC false recC) n (now s) at ≡ true) × EntriesRise (now t) k × IdsRise (now ids) m × (n ≤ length (now vs)) × (n < 4294967296) × (length (now s) < 4294967296) × (total ≡ length (inputsOf (listAt (formC false recC) n (now s) at))) × (total ≤ length (now flags)) × (0 < length (now v)) ⌝ }
+    ensures { λ _. ⌜ Judged (now (t .entry)) caught (ownIds (idsAt (now (ids .entry)) m) (listAt (formC false recC) n (now (s .entry)) at)) (appliedIn (now (t .entry)) k) (listAt (formC false recC) n (now (s .entry)) at) (take n (now (vs .exit))) ⌝ }
+{
+    own_flags(s, at, n, ids, m, v, flags, total);
+    judge_all(s, at, n, t, k, caught, ids, m, true, flags, vs);
+}
+
+// With room for few inputs.
+fn judge_few(
+    s: &[u8],
+    at: usize,
+    n: u64,
+    t: &[u8],
+    k: u64,
+    caught: bool,
+    ids: &[u8],
+    m: u64,
+    total: u64,
+    vs: &mut [u64],
+)
+    requires { ⌜ (at ≤ length (now s)) × (whole (formC false recC) n (now s) at ≡ true) × EntriesRise (now t) k × IdsRise (now ids) m × (n ≤ length (now vs)) × (n < 4294967296) × (length (now s) < 4294967296) × (total ≡ length (inputsOf (listAt (formC false recC) n (now s) at))) × (total ≤ 8192) ⌝ }
+    ensures { λ _. ⌜ Judged (now (t .entry)) caught (ownIds (idsAt (now (ids .entry)) m) (listAt (formC false recC) n (now (s .entry)) at)) (appliedIn (now (t .entry)) k) (listAt (formC false recC) n (now (s .entry)) at) (take n (now (vs .exit))) ⌝ }
+{
+    let mut v = [0u64; 2048];
+    let mut flags = [0u8; 8192];
+    judge_with(
+        s,
+        at,
+        n,
+        t,
+        k,
+        caught,
+        ids,
+        m,
+        total,
+        &mut v,
+        &mut flags,
+        vs,
+    );
+}
+
+// With room for many: rows for the outputs, and flags.
+fn judge_many(
+    s: &[u8],
+    at: usize,
+    n: u64,
+    t: &[u8],
+    k: u64,
+    caught: bool,
+    ids: &[u8],
+    m: u64,
+    total: u64,
+    rows: usize,
+    room: usize,
+    vs: &mut [u64],
+)
+    requires { ⌜ (at ≤ length (now s)) × (whole (formC false recC) n (now s) at ≡ true) × EntriesRise (now t) k × IdsRise (now ids) m × (n ≤ length (now vs)) × (n < 4294967296) × (length (now s) < 4294967296) × (total ≡ length (inputsOf (listAt (formC false recC) n (now s) at))) × (total ≤ room) × ((room ≤ 262144) × (0 < rows) × (rows ≤ 65536)) ⌝ }
+    ensures { λ _. ⌜ Judged (now (t .entry)) caught (ownIds (idsAt (now (ids .entry)) m) (listAt (formC false recC) n (now (s .entry)) at)) (appliedIn (now (t .entry)) k) (listAt (formC false recC) n (now (s .entry)) at) (take n (now (vs .exit))) ⌝ }
+{
+    let mut v = [0u64; 65536];
+    let mut flags = [0u8; 262144];
+    judge_with(
+        s,
+        at,
+        n,
+        t,
+        k,
+        caught,
+        ids,
+        m,
+        total,
+        &mut v[..rows],
+        &mut flags[..room],
+        vs,
+    );
+}
+
+// The verdicts on the n records at `at`, to the front of vs. The large tables are made at two places that differ in two numbers:
+// the compiler then makes no single call of them, which it would take in here together with the tables.
+pub fn judge(
+    s: &[u8],
+    at: usize,
+    n: u64,
+    t: &[u8],
+    k: u64,
+    caught: bool,
+    ids: &[u8],
+    m: u64,
+    vs: &mut [u64],
+)
+    requires { ⌜ (at ≤ length (now s)) × (whole (formC false recC) n (now s) at ≡ true) × EntriesRise (now t) k × IdsRise (now ids) m × (n ≤ length (now vs)) × (n < 4294967296) ⌝ }
+    ensures { λ _. ⌜ Judged (now (t .entry)) caught (ownIds (idsAt (now (ids .entry)) m) (listAt (formC false recC) n (now (s .entry)) at)) (appliedIn (now (t .entry)) k) (listAt (formC false recC) n (now (s .entry)) at) (take n (now (vs .exit))) ⌝ }
+{
+    let total = count_inputs(s, at, n);
+    if !both(caught, both(s.len() < 4294967296, total <= 262144)) {
+        judge_all(s, at, n, t, k, caught, ids, m, false, ids, vs);
+        return;
+    }
+    if total <= 8192 {
+        judge_few(s, at, n, t, k, caught, ids, m, total, vs);
+        return;
+    }
+    if total <= 65536 {
+        judge_many(s, at, n, t, k, caught, ids, m, total, 32768, 65536, vs);
+        return;
+    }
+    judge_many(s, at, n, t, k, caught, ids, m, total, 65536, 262144, vs);
+}
