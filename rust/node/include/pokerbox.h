@@ -5,7 +5,7 @@
  *   cc unit.c $(pkg-config --cflags --libs pokerbox) -o unit
  * with PREFIX/lib/pkgconfig in PKG_CONFIG_PATH, or
  *   cc -IPREFIX/include unit.c -LPREFIX/lib -lpokerbox -o unit
- * Of other libraries it needs memmove and memset alone.
+ * It needs nothing else but the C library's memory functions.
  *
  * A byte slice is a pointer and a length. A pointer is never null, even with length 0. What is
  * written overlaps nothing else that is lent to the same call. Numbers in bytes are big-endian.
