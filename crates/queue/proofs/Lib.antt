@@ -1,5 +1,6 @@
 pub mod LoopLaws
 pub mod FrameLaws
+pub mod NearLaws
 pub mod PutLaws
 pub mod Turns
 pub mod ScanLaws

@@ -11,6 +11,7 @@ pub mod Hex
 pub mod Forms
 pub mod Areas
 pub mod Facts
+pub mod Near
 pub mod Rules
 pub mod Filter
 pub mod Suspects

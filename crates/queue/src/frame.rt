@@ -2,6 +2,7 @@
 use super::logic::all4;
 use super::logic::all8;
 use super::logic::both;
+use super::near::rec_near;
 use super::view::be;
 use super::view::fetch;
 use super::view::id_at;
@@ -466,7 +467,7 @@ pub fn rest_at(s: &[u8], hex: bool, base: usize, at: usize) -> RestR
     }
 }
 
-pub fn rec_at(s: &[u8], hex: bool, base: usize) -> Seen
+fn rec_any(s: &[u8], hex: bool, base: usize) -> Seen
     ensures { λ r. ⌜ Reads recC (view hex (now (s .entry)) base) 0 (r .ok) (r .size) (SeenAs (view hex (now (s .entry)) base) r) ⌝ }
 {
     let a = tag_at(s, hex, base, 0, 2);
@@ -515,6 +516,22 @@ pub fn rec_at(s: &[u8], hex: bool, base: usize) -> Seen
         content: h.content,
         size: e.next,
     }
+}
+
+// A record. Most are read the short way.
+pub fn rec_at(s: &[u8], hex: bool, base: usize) -> Seen
+    ensures { λ r. ⌜ Reads recC (view hex (now (s .entry)) base) 0 (r .ok) (r .size) (SeenAs (view hex (now (s .entry)) base) r) ⌝ }
+{
+    if hex {
+        return rec_any(s, true, base);
+    }
+    if size(s, false, base) < 400 {
+        return rec_any(s, false, base);
+    }
+    if fetch(s, false, base, 0) != 2 {
+        return rec_any(s, false, base);
+    }
+    rec_near(s, base)
 }
 
 pub fn limits_at(s: &[u8], hex: bool, base: usize, at: usize) -> Lim

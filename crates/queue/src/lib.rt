@@ -12,6 +12,7 @@ pub mod head;
 pub mod lent;
 pub mod limits;
 pub mod logic;
+pub mod near;
 pub mod numbers;
 pub mod own;
 pub mod pieces;

@@ -1,55 +1,54 @@
 use mathlib.Core.Path.{_≡_, refl, sym, ap, _∙_}
 use native.Mathlib.Omega.{arith}
-use Rattle.queue.proofs.FrameLaws.{rec-read}
+use mathlib.Core.Bool.{Bool, true, false, _&&_}
+use Prim.Native.Nat.{ℕ, _≤_, _+_, _-_, _*_, _<_}
 use borrow.Author.Needs.{needs}
 use Rattle.queue.proofs.frame.rec_at.Statement.{statement}
 use Rattle.queue.proofs.frame.rec_at.Tie as tie
 use Rattle.queue.proofs.frame.rec_at.Reads as reads
 use Rattle.queue.proofs.frame.rec_at.Lts as lts
-use Rattle.queue.proofs.frame.id_read.Reads as id-read-reads
-use Rattle.queue.proofs.frame.num.Reads as num-reads
-use Rattle.queue.proofs.frame.rest_at.Reads as rest-at-reads
-use Rattle.queue.proofs.frame.tag_at.Reads as tag-at-reads
-use Rattle.queue.proofs.frame.terms_at.Reads as terms-at-reads
-use Rattle.queue.proofs.logic.all4.Reads as all4-reads
 
-tag-at-requires : tie.Need-tag-at-requires
-tag-at-requires c κs = search needs
-
-id-read-requires : tie.Need-id-read-requires
-id-read-requires c κs = search needs
-
-num-requires : tie.Need-num-requires
-num-requires c κs = search needs
-
-num-requires-2 : tie.Need-num-requires-2
-num-requires-2 c κs = search needs
-
-terms-at-requires : tie.Need-terms-at-requires
-terms-at-requires c κs = search needs
-
-rest-at-requires : tie.Need-rest-at-requires
-rest-at-requires c κs = search needs
-
-all4-requires : tie.Need-all4-requires
-all4-requires c κs = search needs
-
-all4-requires-2 : tie.Need-all4-requires-2
-all4-requires-2 c κs = search needs
+rec-any-requires : tie.Need-rec-any-requires
+rec-any-requires c κs = search needs
 
 returns : tie.Need-returns
-returns c = rec-read _ _ _ (c .before .before .before .before .before .before .before .before .before .before .before .before .before .before .tag-at .ensures) (c .before .before .before .before .before .before .before .before .before .before .before .before .before .id-read .ensures) (c .before .before .before .before .before .before .before .before .before .before .before .before .num .ensures) (c .before .before .before .before .before .before .before .before .before .before .before .num2 .ensures) (c .before .before .before .before .before .before .before .before .before .before .terms-at .ensures) (c .before .before .before .before .before .before .before .before .before .rest-at .ensures) (c .before .all42 .ensures ∙ rw (c .before .before .all4 .ensures)) refl refl refl refl refl refl refl refl refl refl
+returns c = rw (c .before .if1 .taken) (c .rec-any .ensures)
+
+size-requires : tie.Need-size-requires
+size-requires c κs = search needs
+
+rec-any-requires-2 : tie.Need-rec-any-requires-2
+rec-any-requires-2 c κs = search needs
+
+returns-2 : tie.Need-returns-2
+returns-2 c = rw (c .before .before .before .if1 .left) (c .rec-any2 .ensures)
+
+fetch-requires : tie.Need-fetch-requires
+fetch-requires c κs = omega (arith, c .before .size .ensures .0, c .if2 .left)
+
+rec-any-requires-3 : tie.Need-rec-any-requires-3
+rec-any-requires-3 c κs = search needs
+
+returns-3 : tie.Need-returns-3
+returns-3 c = rw (c .before .before .before .before .before .if1 .left) (c .rec-any3 .ensures)
+
+rec-near-requires : tie.Need-rec-near-requires
+rec-near-requires c κs = ((omega arith, omega (arith, c .before .before .before .size .ensures .0, c .before .before .if2 .left), c .before .before .before .size .ensures .2), sym (c .before .fetch .ensures) ∙ c .if3 .left)
+
+returns-4 : tie.Need-returns-4
+returns-4 c = rw (c .before .before .before .before .before .if1 .left) (c .rec-near .ensures)
 
 pub rec-at-spec : {M : Type 1} → statement M
 rec-at-spec =
     tie.close
     (tie.spec
-    tag-at-requires
-    id-read-requires
-    num-requires
-    num-requires-2
-    terms-at-requires
-    rest-at-requires
-    all4-requires
-    all4-requires-2
-    returns)
+    rec-any-requires
+    returns
+    size-requires
+    rec-any-requires-2
+    returns-2
+    fetch-requires
+    rec-any-requires-3
+    returns-3
+    rec-near-requires
+    returns-4)

@@ -1,0 +1,26 @@
+-- The laws of the readers near a frame's start. Assumes nothing.
+use mathlib.Core.Path.{_≡_, refl, sym}
+use mathlib.Core.Bool.{Bool, true, false, _&&_}
+use Prim.Native.Nat.{ℕ, _+_, _*_, _≤_, _<_}
+use native.Mathlib.Omega.{arith}
+use lib.ListN.{length}
+use Rattle.queue.specs.Reads.{Span, Counted}
+use Rattle.queue.specs.ReadLaws.{Small, false-true}
+use Rattle.queue.specs.Facts.{NumAt}
+use Rattle.queue.specs.paper.Records.{Bytes}
+
+pub span-near : {v : Bytes} {at n : ℕ} → at + n ≤ length v → Small v → Span v at n true (at + n)
+span-near h s = record { good = λ _. (refl, h, s); bad = λ t. false-true (sym t) }
+
+and-one : (a : Bool) → a ≡ (a && true)
+and-one true = refl
+and-one false = refl
+
+pub counted-near : {v : Bytes} {at start len : ℕ} {ok : Bool} → NumAt 1 v at ok start len → start + len ≤ length v → Small v → Counted v at 1 1 ok len start (start + len)
+counted-near {v} {at} {start} {len} {ok} x h s = record {
+  ok₁ = ok;
+  ok₂ = true;
+  both = and-one ok;
+  count = x .0;
+  items = record { good = λ _. (omega arith, omega arith, s); bad = λ t. false-true (sym t) };
+}

@@ -1,0 +1,28 @@
+use mathlib.Core.Path.{_≡_, refl, sym, ap, _∙_}
+use native.Mathlib.Omega.{arith}
+use mathlib.Core.Bool.{Bool, true, false, _&&_}
+use Prim.Native.Nat.{ℕ, _≤_, _+_, _-_, _*_, _<_}
+use Rattle.queue.proofs.FrameLaws.{num-good}
+use Rattle.queue.proofs.NearLaws.{span-near}
+use borrow.Author.Needs.{needs}
+use Rattle.queue.proofs.near.num_near.Statement.{statement}
+use Rattle.queue.proofs.near.num_near.Tie as tie
+use Rattle.queue.proofs.near.num_near.Reads as reads
+use Rattle.queue.proofs.near.num_near.Lts as lts
+
+be-requires : tie.Need-be-requires
+be-requires c κs = (c .before .pre .0, c .before .pre .1 .1)
+
+add-t6 : tie.Need-add-t6
+add-t6 c = search needs
+
+returns : tie.Need-returns
+returns c = (num-good (span-near (c .before .before .pre .1 .1) (c .before .before .pre .1 .2)) refl (c .be .ensures), refl)
+
+pub num-near-spec : {M : Type 1} → statement M
+num-near-spec =
+    tie.close
+    (tie.spec
+    be-requires
+    add-t6
+    returns)

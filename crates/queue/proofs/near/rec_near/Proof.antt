@@ -1,0 +1,48 @@
+use mathlib.Core.Path.{_≡_, refl, sym, ap, _∙_}
+use native.Mathlib.Omega.{arith}
+use mathlib.Core.Bool.{Bool, true, false, _&&_}
+use Prim.Native.Nat.{ℕ, _≤_, _+_, _-_, _*_, _<_}
+use Rattle.queue.proofs.FrameLaws.{tag-good, id-good, rec-read}
+use Rattle.queue.proofs.NearLaws.{span-near}
+use borrow.Author.Needs.{needs}
+use Rattle.queue.proofs.near.rec_near.Statement.{statement}
+use Rattle.queue.proofs.near.rec_near.Tie as tie
+use Rattle.queue.proofs.near.rec_near.Reads as reads
+use Rattle.queue.proofs.near.rec_near.Lts as lts
+
+id-at-requires : tie.Need-id-at-requires
+id-at-requires c κs = omega (arith, c .before .pre .0 .1)
+
+num-near-requires : tie.Need-num-near-requires
+num-near-requires c κs = (omega arith, (omega arith, omega (arith, c .before .before .pre .0 .1), c .before .before .pre .0 .2))
+
+num-near-requires-2 : tie.Need-num-near-requires-2
+num-near-requires-2 c κs = (omega arith, (omega (arith, c .num-near .ensures .1), omega (arith, c .num-near .ensures .1, c .before .before .before .pre .0 .1), c .before .before .before .pre .0 .2))
+
+terms-near-requires : tie.Need-terms-near-requires
+terms-near-requires c κs = (omega (arith, c .before .num-near .ensures .1, c .num-near2 .ensures .1), omega (arith, c .before .num-near .ensures .1, c .num-near2 .ensures .1, c .before .before .before .before .pre .0 .1), c .before .before .before .before .pre .0 .2)
+
+rest-near-requires : tie.Need-rest-near-requires
+rest-near-requires c κs = (omega (arith, c .before .before .num-near .ensures .1, c .before .num-near2 .ensures .1, c .terms-near .ensures .1), omega (arith, c .before .before .num-near .ensures .1, c .before .num-near2 .ensures .1, c .terms-near .ensures .1, c .before .before .before .before .before .pre .0 .1), c .before .before .before .before .before .pre .0 .2)
+
+all4-requires : tie.Need-all4-requires
+all4-requires c κs = search needs
+
+all4-requires-2 : tie.Need-all4-requires-2
+all4-requires-2 c κs = search needs
+
+returns : tie.Need-returns
+returns c = rec-read _ _ _ (tag-good (omega (arith, c .before .before .before .before .before .before .before .before .before .before .before .before .before .before .pre .0 .1)) refl (c .before .before .before .before .before .before .before .before .before .before .before .before .before .before .pre .1)) (id-good (span-near (omega (arith, c .before .before .before .before .before .before .before .before .before .before .before .before .before .before .pre .0 .1)) (c .before .before .before .before .before .before .before .before .before .before .before .before .before .before .pre .0 .2)) refl (c .before .before .before .before .before .before .before .before .before .before .before .before .id-at .ensures)) (c .before .before .before .before .before .before .before .before .before .before .before .num-near .ensures .0) (c .before .before .before .before .before .before .before .before .before .before .num-near2 .ensures .0) (c .before .before .before .before .before .before .before .before .before .terms-near .ensures .0) (c .before .before .before .before .before .before .before .before .rest-near .ensures) (c .all42 .ensures ∙ rw (c .before .all4 .ensures)) refl refl refl refl refl refl refl refl refl refl
+
+pub rec-near-spec : {M : Type 1} → statement M
+rec-near-spec =
+    tie.close
+    (tie.spec
+    id-at-requires
+    num-near-requires
+    num-near-requires-2
+    terms-near-requires
+    rest-near-requires
+    all4-requires
+    all4-requires-2
+    returns)

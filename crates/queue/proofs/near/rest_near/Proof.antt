@@ -1,0 +1,39 @@
+use mathlib.Core.Path.{_≡_, refl, sym, ap, _∙_}
+use native.Mathlib.Omega.{arith}
+use mathlib.Core.Bool.{Bool, true, false, _&&_}
+use Prim.Native.Nat.{ℕ, _≤_, _+_, _-_, _*_, _<_}
+use Rattle.queue.proofs.FrameLaws.{rest-read}
+use borrow.Author.Needs.{needs}
+use Rattle.queue.proofs.near.rest_near.Statement.{statement}
+use Rattle.queue.proofs.near.rest_near.Tie as tie
+use Rattle.queue.proofs.near.rest_near.Reads as reads
+use Rattle.queue.proofs.near.rest_near.Lts as lts
+
+place-near-requires : tie.Need-place-near-requires
+place-near-requires c κs = (omega (arith, c .before .pre .0), omega (arith, c .before .pre .1), c .before .pre .2)
+
+num-near-requires : tie.Need-num-near-requires
+num-near-requires c κs = (omega arith, (omega (arith, c .place-near .ensures .1, c .before .before .pre .0), omega (arith, c .place-near .ensures .1, c .before .before .pre .1), c .before .before .pre .2))
+
+num-near-requires-2 : tie.Need-num-near-requires-2
+num-near-requires-2 c κs = (omega arith, (omega (arith, c .num-near .ensures .1, c .before .place-near .ensures .1, c .before .before .before .pre .0), omega (arith, c .num-near .ensures .1, c .before .place-near .ensures .1, c .before .before .before .pre .1), c .before .before .before .pre .2))
+
+body-at-requires : tie.Need-body-at-requires
+body-at-requires c κs = search needs
+
+all4-requires : tie.Need-all4-requires
+all4-requires c κs = search needs
+
+returns : tie.Need-returns
+returns c = rest-read _ _ (c .before .before .before .before .before .place-near .ensures .0) (c .before .before .before .before .num-near .ensures .0) (c .before .before .before .num-near2 .ensures .0) (c .before .before .body-at .ensures) (c .before .all4 .ensures) refl refl refl refl refl
+
+pub rest-near-spec : {M : Type 1} → statement M
+rest-near-spec =
+    tie.close
+    (tie.spec
+    place-near-requires
+    num-near-requires
+    num-near-requires-2
+    body-at-requires
+    all4-requires
+    returns)

@@ -1,0 +1,56 @@
+use mathlib.Core.Path.{_≡_, refl, sym, ap, _∙_}
+use native.Mathlib.Omega.{arith}
+use mathlib.Core.Bool.{Bool, true, false, _&&_}
+use Prim.Native.Nat.{ℕ, _≤_, _+_, _-_, _*_, _<_}
+use Rattle.queue.proofs.FrameLaws.{terms-read}
+use Rattle.queue.proofs.NearLaws.{span-near}
+use borrow.Author.Needs.{needs}
+use Rattle.queue.proofs.near.terms_near.Statement.{statement}
+use Rattle.queue.proofs.near.terms_near.Tie as tie
+use Rattle.queue.proofs.near.terms_near.Reads as reads
+use Rattle.queue.proofs.near.terms_near.Lts as lts
+
+num-near-requires : tie.Need-num-near-requires
+num-near-requires c κs = (omega arith, (omega (arith, c .before .pre .0), omega (arith, c .before .pre .1), c .before .pre .2))
+
+opt-near-requires : tie.Need-opt-near-requires
+opt-near-requires c κs = (omega arith, (omega (arith, c .num-near .ensures .1, c .before .before .pre .0), omega (arith, c .num-near .ensures .1, c .before .before .pre .1), c .before .before .pre .2))
+
+opt-near-requires-2 : tie.Need-opt-near-requires-2
+opt-near-requires-2 c κs = (omega arith, (omega (arith, c .opt-near .ensures .1, c .before .num-near .ensures .1, c .before .before .before .pre .0), omega (arith, c .opt-near .ensures .1, c .before .num-near .ensures .1, c .before .before .before .pre .1), c .before .before .before .pre .2))
+
+num-near-requires-2 : tie.Need-num-near-requires-2
+num-near-requires-2 c κs = (omega arith, (omega (arith, c .opt-near2 .ensures .1, c .before .opt-near .ensures .1, c .before .before .num-near .ensures .1, c .before .before .before .before .pre .0), omega (arith, c .opt-near2 .ensures .1, c .before .opt-near .ensures .1, c .before .before .num-near .ensures .1, c .before .before .before .before .pre .1), c .before .before .before .before .pre .2))
+
+label-near-requires : tie.Need-label-near-requires
+label-near-requires c κs = (omega (arith, c .num-near2 .ensures .1, c .before .opt-near2 .ensures .1, c .before .before .opt-near .ensures .1, c .before .before .before .num-near .ensures .1, c .before .before .before .before .before .pre .0), omega (arith, c .num-near2 .ensures .1, c .before .opt-near2 .ensures .1, c .before .before .opt-near .ensures .1, c .before .before .before .num-near .ensures .1, c .before .before .before .before .before .pre .1), c .before .before .before .before .before .pre .2)
+
+add-num-near : tie.Need-add-num-near
+add-num-near c = omega (arith, c .before .label-near .ensures .1, c .before .before .num-near2 .ensures .1, c .before .before .before .opt-near2 .ensures .1, c .before .before .before .before .opt-near .ensures .1, c .before .before .before .before .before .num-near .ensures .1, c .before .before .before .before .before .before .before .pre .0)
+
+num-near-requires-3 : tie.Need-num-near-requires-3
+num-near-requires-3 c κs = (omega arith, (omega (arith, c .before .label-near .ensures .1, c .before .before .num-near2 .ensures .1, c .before .before .before .opt-near2 .ensures .1, c .before .before .before .before .opt-near .ensures .1, c .before .before .before .before .before .num-near .ensures .1, c .before .before .before .before .before .before .before .pre .0), omega (arith, c .before .label-near .ensures .1, c .before .before .num-near2 .ensures .1, c .before .before .before .opt-near2 .ensures .1, c .before .before .before .before .opt-near .ensures .1, c .before .before .before .before .before .num-near .ensures .1, c .before .before .before .before .before .before .before .pre .1), c .before .before .before .before .before .before .before .pre .2))
+
+all8-requires : tie.Need-all8-requires
+all8-requires c κs = search needs
+
+add-t11 : tie.Need-add-t11
+add-t11 c = omega (arith, c .before .before .num-near3 .ensures .1, c .before .before .before .before .label-near .ensures .1, c .before .before .before .before .before .num-near2 .ensures .1, c .before .before .before .before .before .before .opt-near2 .ensures .1, c .before .before .before .before .before .before .before .opt-near .ensures .1, c .before .before .before .before .before .before .before .before .num-near .ensures .1, c .before .before .before .before .before .before .before .before .before .before .pre .0)
+
+returns : tie.Need-returns
+returns c = (terms-read _ (c .before .before .before .before .before .before .before .before .num-near .ensures .0) (c .before .before .before .before .before .before .before .opt-near .ensures .0) (c .before .before .before .before .before .before .opt-near2 .ensures .0) (c .before .before .before .before .before .num-near2 .ensures .0) (c .before .before .before .before .label-near .ensures .0) (span-near (omega (arith, c .before .before .before .before .label-near .ensures .1, c .before .before .before .before .before .num-near2 .ensures .1, c .before .before .before .before .before .before .opt-near2 .ensures .1, c .before .before .before .before .before .before .before .opt-near .ensures .1, c .before .before .before .before .before .before .before .before .num-near .ensures .1, c .before .before .before .before .before .before .before .before .before .before .pre .1)) (c .before .before .before .before .before .before .before .before .before .before .pre .2)) (c .before .before .num-near3 .ensures .0) (span-near (omega (arith, c .before .before .num-near3 .ensures .1, c .before .before .before .before .label-near .ensures .1, c .before .before .before .before .before .num-near2 .ensures .1, c .before .before .before .before .before .before .opt-near2 .ensures .1, c .before .before .before .before .before .before .before .opt-near .ensures .1, c .before .before .before .before .before .before .before .before .num-near .ensures .1, c .before .before .before .before .before .before .before .before .before .before .pre .1)) (c .before .before .before .before .before .before .before .before .before .before .pre .2)) (c .before .all8 .ensures), omega (arith, c .before .before .num-near3 .ensures .1, c .before .before .before .before .label-near .ensures .1, c .before .before .before .before .before .num-near2 .ensures .1, c .before .before .before .before .before .before .opt-near2 .ensures .1, c .before .before .before .before .before .before .before .opt-near .ensures .1, c .before .before .before .before .before .before .before .before .num-near .ensures .1))
+
+pub terms-near-spec : {M : Type 1} → statement M
+terms-near-spec =
+    tie.close
+    (tie.spec
+    num-near-requires
+    opt-near-requires
+    opt-near-requires-2
+    num-near-requires-2
+    label-near-requires
+    add-num-near
+    num-near-requires-3
+    all8-requires
+    add-t11
+    returns)
