@@ -11,8 +11,8 @@ use lib.Seq.{drop-drop, length-take-le}
 use borrow.Author.Tests.{lt-ltb, le-ltb, ltb-true, ltb-false, eq-eqb, ne-eqb}
 use Rattle.queue.specs.Codec as codec
 use Rattle.queue.specs.Codec.{Codec, cases, All, encs}
-use Rattle.queue.specs.Lists.{all-map}
-use Rattle.queue.specs.ListLaws.{find-only}
+use Rattle.queue.specs.Lists.{Pairwise, all-map}
+use Rattle.queue.specs.ListLaws.{find-only, find-count}
 use Rattle.queue.specs.Splice.{Put, splice, be}
 use Rattle.queue.specs.Frames.{termsC, placeC, recC}
 use Rattle.queue.specs.Ids.{part}
@@ -90,6 +90,21 @@ module _ (cur next out id : Bytes) {a : Area} (i : AreaIs cur a) (t : a .ok ≡ 
       unfolding cancelOf
       cancel-rest {o} c = let g = i .good t in let z = c (g .0) (g .1) ∙ ap (λ y. told entryBytes next out (cancel y (g .0))) (key l e) in
           rw (g .1, enough, eq-eqb (length id) 32 l) z
+
+-- ---- one record of an id
+none-count : (p : Rec → Bool) (l : List Rec) → All (λ b. p b ≡ true → ⊥) l → count p l ≡ 0
+none-count p [] h = refl
+none-count p (b ∷ l) h = let i = none-count p l (h .1) in cases (p b) (λ t. absurd (h .0 t)) (λ t. rw t (omega arith))
+
+once-count : (p : Rec → Bool) (l : List Rec) → Pairwise (λ a b. p a ≡ true → p b ≡ true → ⊥) l → count p l ≤ 1
+once-count p [] h = omega arith
+once-count p (a ∷ l) h = cases (p a)
+    (λ t. let i = none-count p l (all-map l (λ b k. k t) (h .0)) in rw t (omega arith))
+    (λ t. let i = once-count p l (h .1) in rw t (omega arith))
+
+count-long : (p : Rec → Bool) (l : List Rec) → count p l ≤ length l
+count-long p [] = omega arith
+count-long p (a ∷ l) = let i = count-long p l in cases (p a) (λ t. rw t (omega arith)) (λ t. rw t (omega arith))
 
 -- ---- from the record found on
 module _ {s : Bytes} {a : Area} {id : Id} {at : ℕ} (w : FoundIn s a id at) {ok : Bool} {y : Seen} (x : ReadsRec false s at ok (y .size) y) where
@@ -178,6 +193,16 @@ module _ {s : Bytes} {a : Area} {id : Id} {at : ℕ} {x : Seen} (w : HeldIn s a 
   refuses : ltb top (w .q .counter + count (named? id) (w .q .recs)) ≡ true → cancel id (w .q) ≡ refused 15
   unfolding cancel
   refuses h = rw (w .found, w .unmined, w .held, h)
+
+  -- no other record has the id
+  pub one-hit : (1 ≡ count (picked Named id) (listAt (formC false recC) (a .open .head .count) s (a .open .start))) × (1 ≤ a .open .head .count)
+  unfolding picked
+  one-hit =
+      let k = find-count (named? id) (w .q .recs) (w .r) (w .found) in
+      let u = once-count (named? id) (w .q .recs) (named-once id (w .q .recs) (fit (w .read) .sound .rising)) in
+      let v = count-long (named? id) (w .q .recs) in
+      let n = w .read .store .count in
+      (rw (w .read .store .list) (omega arith), omega arith)
 
   module _ {m : ℕ} (c : m ≡ count (picked Named id) (listAt (formC false recC) (a .open .head .count) s (a .open .start))) (f : m ≤ a .open .head .count) where
     hits-is : m ≡ count (named? id) (w .q .recs)

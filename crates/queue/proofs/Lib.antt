@@ -16,6 +16,7 @@ pub mod FinishLaws
 pub mod FrontLaws
 pub mod ReadingLaws
 pub mod WriteLaws
+pub mod FloorLaws
 pub mod SelectLaws
 pub mod MergeLaws
 pub mod CallLaws

@@ -186,7 +186,7 @@ fn cancel_held(
     let o = a.open;
     let h = o.head;
     let c = h.counter;
-    let m = hits(cur, o.start, h.count, Change::Named, id);
+    let m: u64 = 1;
     if 18446744073709551615 - c.0 < m {
         return Answer::Refused(15);
     }

@@ -37,7 +37,7 @@ pub struct Span {
     pub next: usize,
 }
 
-// The one loop for all counts.
+// What the records count for, for one question.
 pub fn tally(s: &[u8], hex: bool, at: usize, n: u64, q: Query) -> u64
     requires { ⌜ (at ≤ length (now s)) × (whole (formC hex recC) n (now s) at ≡ true) × (n < 4294967296) ⌝ }
     ensures { λ r. ⌜ (r ≡ sum q (listAt (formC hex recC) n (now (s .entry)) at)) × (r ≤ n * 4294967295) ⌝ }

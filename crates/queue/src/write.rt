@@ -11,16 +11,21 @@ use super::head::put_front;
 use super::head::tip_len;
 use super::put::copy_part;
 use super::put::fill_zero;
+use super::rules::Query;
 use super::view::id_at;
 ghost use mathlib.Core.Path.{_≡_};
 ghost use mathlib.Core.Bool.{true, false};
-ghost use Prim.Native.Nat.{_+_, _≤_, _<_};
+ghost use mathlib.Core.Logic.{_⊎_};
+ghost use Prim.Native.Nat.{ℕ, _+_, _≤_, _<_};
+ghost use lib.Dec.{ltb, leb};
 ghost use lib.ListN.{length};
 ghost use Rattle.queue.specs.Frames.{recC};
 ghost use Rattle.queue.specs.Reads.{listAt};
 ghost use Rattle.queue.specs.Forms.{formC};
 ghost use Rattle.queue.specs.Fronts.{tipOf};
-ghost use Rattle.queue.specs.Finishing.{picked};
+ghost use Rattle.queue.specs.Rules.{sum};
+ghost use Rattle.queue.specs.CallsAs.{AreaIn};
+ghost use Rattle.queue.specs.Finishing.{picked, above};
 ghost use Rattle.queue.specs.Writes.{TipIs, HeadIn, MovedFrom, MovedTo, EndedFrom, EndedTo};
 ghost use Rattle.queue.specs.paper.Lists.{count};
 
@@ -66,6 +71,21 @@ pub fn put_moved(
     fill_zero(dst, e, a.need);
 }
 
+// The floor where m more records are finished; what the check counted says whether any is forgotten.
+fn floor_of(s: &[u8], a: Area, m: u64) -> u64
+    requires { ⌜ AreaIn (now s) a × (m ≤ a .open .head .count) × (a .open .head .counter .0 + m < 18446744073709551616) ⌝ }
+    ensures { λ r. ⌜ ((sum Query.Tombstones (listAt (formC false recC) (a .open .head .count) (now (s .entry)) (a .open .start)) + m ≤ a .open .head .t) × (r ≡ 0)) ⊎ ((x : ℕ) → ltb (above (a .open .head .counter .0) m (listAt (formC false recC) (a .open .head .count) (now (s .entry)) (a .open .start)) x) (a .open .head .t) ≡ leb r x) ⌝ }
+{
+    let x = a.open;
+    let h = x.head;
+    let u = x.sums;
+    let n = h.counter;
+    if h.count - u.holders + m <= h.t {
+        return 0;
+    }
+    floor(s, x.start, h.count, n.0, m, h.t)
+}
+
 // The queue of src with those picked finished, m of them, and the lowest finish numbers beyond T forgotten.
 pub fn put_ended(
     src: &[u8],
@@ -86,7 +106,7 @@ pub fn put_ended(
     let cursor = h.cursor;
     let tip = tip_at(src, h);
     let to = 45 + tip_len(h.tip);
-    let f = floor(src, x.start, h.count, n.0, m, h.t);
+    let f = floor_of(src, a, m);
     let w = rewrite(
         src,
         x.start,

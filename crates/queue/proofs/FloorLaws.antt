@@ -1,0 +1,29 @@
+-- The laws of a floor in an area that was checked. Assumes nothing.
+use mathlib.Core.Path.{_≡_, sym, ap, _∙_}
+use mathlib.Core.Bool.{false}
+use Prim.Native.Nat.{ℕ, _-_, _≤_}
+use Rattle.queue.specs.Frames.{recC}
+use Rattle.queue.specs.Forms.{formC}
+use Rattle.queue.specs.Reads.{listAt}
+use Rattle.queue.specs.Facts.{factsOf}
+use Rattle.queue.specs.Rules.{weight, sum}
+use Rattle.queue.specs.Opens.{AreaAs}
+use Rattle.queue.specs.paper.Records.{Bytes, Queue}
+use Rattle.queue.specs.declared.area.Area.{Area}
+use Rattle.queue.specs.declared.rules.Query.the-variants.{Tombstones}
+use Rattle.queue.proofs.OpenLaws.{list-length, held-few, tombs-are}
+
+-- how many tombstones there are
+module _ {s : Bytes} {a : Area} {q : Queue} (w : AreaAs s a q) where
+  pub held-here : a .open .sums .holders ≤ a .open .head .count
+  held-here =
+      let st = w .store in
+      held-few (a .open .head .p) (a .open .head .b) (a .open .head .t) (a .open .head .k) (a .open .head .count) (a .open .head .counter) (a .open .sums) (listAt (formC false recC) (a .open .head .count) s (a .open .start)) (st .sums)
+      (list-length (formC false recC) (a .open .head .count) s (a .open .start) (st .all))
+
+  pub tombs-here : sum Tombstones (listAt (formC false recC) (a .open .head .count) s (a .open .start)) ≡ a .open .head .count - a .open .sums .holders
+  unfolding sum weight factsOf
+  tombs-here =
+      let st = w .store in
+      tombs-are (a .open .head .p) (a .open .head .b) (a .open .head .t) (a .open .head .k) (a .open .head .count) (a .open .head .counter) (a .open .sums) (listAt (formC false recC) (a .open .head .count) s (a .open .start)) (st .sums)
+      (list-length (formC false recC) (a .open .head .count) s (a .open .start) (st .all))
