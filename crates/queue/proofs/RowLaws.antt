@@ -83,7 +83,7 @@ module _ (hex : Bool) (s : Bytes) (x y : ℕ) {a b : ℕ} (p : a ≡ length (vie
 
 -- ---- the order of rows
 module _ (hex : Bool) (s : Bytes) where
-  up-by : {X : Type 0} (x y : ℕ) → upTo hex s x y ≡ true → (cmpL (idR hex s x) (idR hex s y) ≡ 0 → X) → (idR hex s x ≡ idR hex s y → noR x ≤ noR y → X) → X
+  pub up-by : {X : Type 0} (x y : ℕ) → upTo hex s x y ≡ true → (cmpL (idR hex s x) (idR hex s y) ≡ 0 → X) → (idR hex s x ≡ idR hex s y → noR x ≤ noR y → X) → X
   unfolding upTo
   up-by x y h f g =
       let c = cmpL (idR hex s x) (idR hex s y) in
@@ -119,7 +119,7 @@ module _ (hex : Bool) (s : Bytes) where
       (λ t. rw (eq-eqb (cmpL (idR hex s y) (idR hex s x)) 1 e, t))
       (λ t. let k = ltb-false (noR y) (noR x) t in false-true (sym h ∙ up-same x y (sym q) k))
 
-  later-no : (y x : ℕ) → upTo hex s x y ≡ true → later hex s (idR hex s y) (noR y) x ≡ false
+  pub later-no : (y x : ℕ) → upTo hex s x y ≡ true → later hex s (idR hex s y) (noR y) x ≡ false
   unfolding later
   later-no y x h = cases (same? (idR hex s y) (idR hex s x))
       (λ t. rw t (up-by x y h
@@ -200,7 +200,7 @@ module _ (hex : Bool) (s : Bytes) (v : List ℕ) where
       let e : i + suc d ≡ (i + d) + 1 = omega arith in
       rw e (up-trans hex s (getD v i 0) (getD v (i + d) 0) (getD v (i + d + 1) 0) (apart-by o d i (omega arith)) (o .next (i + d) (omega arith)))
 
-  rising : InOrder hex s v → (i j : ℕ) → i ≤ j → j < length v → upTo hex s (getD v i 0) (getD v j 0) ≡ true
+  pub rising : InOrder hex s v → (i j : ℕ) → i ≤ j → j < length v → upTo hex s (getD v i 0) (getD v j 0) ≡ true
   rising o i j h l = let e : i + (j - i) ≡ j = omega arith in rw e at (apart-by o (j - i) i (omega arith))
 
   pub cut-start : (y : ℕ) → Cut hex s v y 0 (length v)
