@@ -33,6 +33,7 @@ pub mod SnapshotLaws
 pub mod SortLaws
 pub mod TouchLaws
 pub mod OwnLaws
+pub mod RankLaws
 pub mod ReleaseLaws
 pub mod RebuildLaws
 pub mod TrimLaws

@@ -108,7 +108,7 @@ any-count p (x ∷ v) = cases (p x)
     (λ t. rw t (sym (lt-ltb 0 (1 + count p v) (omega arith))))
     (λ t. let e : 0 + count p v ≡ count p v = omega arith in rw (t, e) (any-count p v))
 
-shuffled-any : (p : ℕ → Bool) {v w : List ℕ} → Shuffled v w → any? p w ≡ any? p v
+pub shuffled-any : (p : ℕ → Bool) {v w : List ℕ} → Shuffled v w → any? p w ≡ any? p v
 shuffled-any p {v} {w} s = any-count p w ∙ ap (ltb 0) (s .same (λ a. one (p a))) ∙ sym (any-count p v)
 
 any-append : (p : ℕ → Bool) (a b : List ℕ) → any? p (a ++ b) ≡ (any? p a || any? p b)

@@ -119,7 +119,7 @@ module _ (hex : Bool) (s : Bytes) where
       (λ t. rw (eq-eqb (cmpL (idR hex s y) (idR hex s x)) 1 e, t))
       (λ t. let k = ltb-false (noR y) (noR x) t in false-true (sym h ∙ up-same x y (sym q) k))
 
-  later-no : (y x : ℕ) → upTo hex s x y ≡ true → later hex s (idR hex s y) (noR y) x ≡ false
+  pub later-no : (y x : ℕ) → upTo hex s x y ≡ true → later hex s (idR hex s y) (noR y) x ≡ false
   unfolding later
   later-no y x h = cases (same? (idR hex s y) (idR hex s x))
       (λ t. rw t (up-by x y h

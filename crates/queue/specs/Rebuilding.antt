@@ -2,15 +2,16 @@
 use mathlib.Core.Path.{_≡_}
 use mathlib.Core.Bool.{Bool, true, false, cond, _&&_, _||_}
 use mathlib.Core.List.{List, [], _∷_, _++_}
-use Prim.Native.Nat.{ℕ, _+_, _-_}
+use Prim.Native.Nat.{ℕ, _+_, _-_, _<_}
 use lib.Dec.{leb, eqb}
-use lib.ListN.{length, take, drop}
+use lib.ListN.{length, take, drop, getD}
 use Rattle.queue.specs.Splice.{be}
 use Rattle.queue.specs.Frames.{recC}
 use Rattle.queue.specs.Reads.{listAt}
 use Rattle.queue.specs.Forms.{formC}
 use Rattle.queue.specs.Reopens.{leadBytes}
 use Rattle.queue.specs.SelectAs.{idAt}
+use Rattle.queue.specs.Suspects.{idR, noR, Shuffled, InOrder}
 use Rattle.queue.specs.Releasing.{nextL}
 use Rattle.queue.specs.paper.Records.{Bytes, Id, Rec, mined}
 use Rattle.queue.specs.paper.Lists.{filter, map}
@@ -19,6 +20,18 @@ use Rattle.queue.specs.paper.Changing.{finished, releaseOne}
 use Rattle.queue.specs.declared.frame.Seen.{Seen}
 use Rattle.queue.specs.declared.frame.Facts.{Facts}
 use Rattle.queue.specs.declared.touch.Verdict.{Verdict}
+
+-- a row for each of the records at these places: its id, and its rank from 1 on; and such rows in order
+pub record RankRows (s : Bytes) (gone rows : List ℕ) : Type 0 where
+  pub long : length rows ≡ length gone
+  pub at : (j : ℕ) → j < length gone → (idR false s (getD rows j 0) ≡ idAt s (getD gone j 0)) × (noR (getD rows j 0) ≡ j + 1)
+
+pub record Ranked (s : Bytes) (gone rows : List ℕ) : Type 0 where
+  pub first : List ℕ
+  pub are : RankRows s gone first
+  pub kept : Shuffled first rows
+  pub order : InOrder false s rows
+  pub small : length s < 4294967296
 
 -- state, reason and mark after a verdict; n is the finish number of a released record, else 0
 unfoldable pub stateN : ℕ → ℕ → Facts → ℕ

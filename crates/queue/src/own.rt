@@ -289,3 +289,25 @@ pub fn own_flags(
     let k = add_queued(s, at, n, ids, m, v, flags);
     settle(s, at, n, ids, m, &mut v[..k], flags);
 }
+
+// The same for few inputs: each has one caller, so that the compiler makes one function of it and its tables (verdicts).
+pub fn few_flags(
+    s: &[u8],
+    at: usize,
+    n: u64,
+    ids: &[u8],
+    m: u64,
+    v: &mut [u64],
+    flags: &mut [u8],
+    total: u64,
+)
+    requires { ⌜ (at ≤ length (now s)) × (whole (formC false recC) n (now s) at ≡ true) × (length (now s) < 4294967296) × IdsRise (now ids) m × (total ≡ length (inputsOf (listAt (formC false recC) n (now s) at))) × (total ≤ length (now flags)) × (0 < length (now v)) ⌝ }
+    ensures { λ _. ⌜ FlagsAre (λ z. among? z (ownIds (idsAt (now (ids .entry)) m) (listAt (formC false recC) n (now (s .entry)) at))) (inputsOf (listAt (formC false recC) n (now (s .entry)) at)) (now (flags .exit)) ⌝ }
+{
+    mark_all(s, at, n, true, ids, m, v, false, flags);
+    if all_set(flags, 0, total) {
+        return;
+    }
+    let k = add_queued(s, at, n, ids, m, v, flags);
+    settle(s, at, n, ids, m, &mut v[..k], flags);
+}

@@ -11,6 +11,12 @@ use super::put::copy_part;
 use super::put::put_be;
 use super::put::put_u8;
 use super::reopen::put_lead;
+use super::suspects::Order;
+use super::suspects::bisect;
+use super::suspects::cmp_rows;
+use super::suspects::in_order;
+use super::suspects::order_rows;
+use super::suspects::row_at;
 use super::touch::Verdict;
 use super::touch::verdict_of;
 use super::view::cmp_id;
@@ -18,7 +24,7 @@ use super::view::id_at;
 ghost use mathlib.Core.Path.{_≡_};
 ghost use mathlib.Core.Bool.{true, false};
 ghost use Prim.Native.Nat.{_+_, _≤_, _<_};
-ghost use lib.ListN.{length, take};
+ghost use lib.ListN.{length, set};
 ghost use Rattle.queue.specs.Codec.{All, encs};
 ghost use Rattle.queue.specs.Arguments.{Small};
 ghost use Rattle.queue.specs.Splice.{Put};
@@ -28,7 +34,7 @@ ghost use Rattle.queue.specs.Forms.{formC};
 ghost use Rattle.queue.specs.Reopens.{PartsIn};
 ghost use Rattle.queue.specs.SelectAs.{idAt};
 ghost use Rattle.queue.specs.Touching.{InEntry};
-ghost use Rattle.queue.specs.Rebuilding.{stateN, reasonN, markN, placeN, placeLen, tailN, tailLen, nextBytes, nextLen, stayF, stepN, numberN, keptL};
+ghost use Rattle.queue.specs.Rebuilding.{RankRows, Ranked, stateN, reasonN, markN, placeN, placeLen, tailN, tailLen, nextBytes, nextLen, stayF, stepN, numberN, keptL};
 ghost use Rattle.queue.specs.paper.Lists.{map};
 ghost use Rattle.queue.specs.paper.Changing.{placeIn};
 
@@ -47,6 +53,62 @@ fn rank_in(s: &[u8], gone: &[usize], id: [u8; 32]) -> u64
         j += 1;
     }
     0
+}
+
+// A row for each of the records at these places: where its id stands, and its rank, from 1 on.
+fn rank_rows(s: &[u8], gone: &[usize], rows: &mut [u64])
+    requires { ⌜ All (λ p. p + 33 ≤ length (now s)) (now gone) × (length (now gone) ≤ 2048) × (length (now s) < 4294967296) × (length (now rows) ≡ length (now gone)) ⌝ }
+    ensures { λ _. ⌜ RankRows (now (s .entry)) (now (gone .entry)) (now (rows .exit)) ⌝ }
+{
+    let mut j: usize = 0;
+    while j < gone.len() {
+        let w = row_at(s, false, gone[j], 1, j as u64 + 1);
+        put_rank(rows, j, w);
+        j += 1;
+    }
+}
+
+fn put_rank(rows: &mut [u64], j: usize, w: u64)
+    requires { ⌜ j < length (now rows) ⌝ }
+    ensures { λ _. ⌜ now (rows .exit) ≡ set (now (rows .entry)) j w ⌝ }
+{
+    rows[j] = w;
+}
+
+// These rows in the order of their ids; false where they are not: then a rank is looked for by a scan.
+pub fn order_ranks(s: &[u8], gone: &[usize], rows: &mut [u64]) -> bool
+    requires { ⌜ All (λ p. p + 33 ≤ length (now s)) (now gone) × (length (now gone) ≤ 2048) ⌝ }
+    ensures { λ r. ⌜ (r ≡ true → Ranked (now (s .entry)) (now (gone .entry)) (now (rows .exit))) ⌝ }
+{
+    if 4294967296 <= s.len() {
+        return false;
+    }
+    if rows.len() != gone.len() {
+        return false;
+    }
+    rank_rows(s, gone, rows);
+    order_rows(s, Order::Ids(false), rows);
+    in_order(s, false, rows)
+}
+
+// The rank of the record read at base, as rank_in has it; by bisection where the rows are in order.
+fn rank_of(s: &[u8], gone: &[usize], rows: &[u64], ordered: bool, base: usize, id: [u8; 32]) -> u64
+    requires { ⌜ (All (λ p. p + 33 ≤ length (now s)) (now gone) × (length (now gone) ≤ 2048)) × (ordered ≡ true → Ranked (now s) (now gone) (now rows)) × (base + 33 ≤ length (now s)) × (idAt (now s) base ≡ id) ⌝ }
+    ensures { λ r. ⌜ (r ≡ placeIn id (map (idAt (now (s .entry))) (now (gone .entry)))) × (r ≤ length (now (gone .entry))) ⌝ }
+{
+    if !ordered {
+        return rank_in(s, gone, id);
+    }
+    let y = row_at(s, false, base, 1, 0);
+    let b = bisect(s, false, rows, y);
+    if rows.len() <= b {
+        return 0;
+    }
+    let w = rows[b];
+    if cmp_rows(s, false, y, w) != 1 {
+        return 0;
+    }
+    w % 4294967296
 }
 
 // State, reason and mark after a verdict; n is the finish number of one that is released, else 0.
@@ -203,12 +265,14 @@ pub fn put_all(
     t: &[u8],
     vs: &[u64],
     gone: &[usize],
+    rows: &[u64],
+    ordered: bool,
     counter: Finish,
     floor: Finish,
     dst: &mut [u8],
     to: usize,
 ) -> Done
-    requires { ⌜ (at ≤ length (now src)) × (whole (formC false recC) n (now src) at ≡ true) × ((length (now vs) ≡ n) × All (InEntry (now t)) (now vs) × Small (now t)) × (All (λ p. p + 33 ≤ length (now src)) (now gone) × (length (now gone) ≤ 2048)) × (counter .0 + length (now gone) < 18446744073709551616) × (n < 4294967296) × (to + length (encs recC (keptL (now src) at n (now t) (now vs) (now gone) (counter .0) (floor .0))) ≤ length (now dst)) ⌝ }
+    requires { ⌜ (at ≤ length (now src)) × (whole (formC false recC) n (now src) at ≡ true) × ((length (now vs) ≡ n) × All (InEntry (now t)) (now vs) × Small (now t)) × (All (λ p. p + 33 ≤ length (now src)) (now gone) × (length (now gone) ≤ 2048) × (ordered ≡ true → Ranked (now src) (now gone) (now rows))) × (counter .0 + length (now gone) < 18446744073709551616) × (n < 4294967296) × (to + length (encs recC (keptL (now src) at n (now t) (now vs) (now gone) (counter .0) (floor .0))) ≤ length (now dst)) ⌝ }
     ensures { λ r. ⌜ Put (now (dst .entry)) to (encs recC (keptL (now (src .entry)) at n (now (t .entry)) (now (vs .entry)) (now (gone .entry)) (counter .0) (floor .0))) (length (encs recC (keptL (now (src .entry)) at n (now (t .entry)) (now (vs .entry)) (now (gone .entry)) (counter .0) (floor .0)))) (r .at) (now (dst .exit)) × (r .kept ≡ length (keptL (now (src .entry)) at n (now (t .entry)) (now (vs .entry)) (now (gone .entry)) (counter .0) (floor .0))) ⌝ }
 {
     let mut i = at;
@@ -221,7 +285,7 @@ pub fn put_all(
         let f = x.facts;
         let id = x.id;
         let v = verdict_of(t, vs[j]);
-        let number = number_of(counter, rank_in(src, gone, id));
+        let number = number_of(counter, rank_of(src, gone, rows, ordered, i, id));
         let stay = stays(number, floor, f);
         o = put_step(src, i, x, t, v, number, stay, dst, o);
         kept = kept + one_if(stay);

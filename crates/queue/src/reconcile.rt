@@ -14,6 +14,7 @@ use super::logic::either;
 use super::put::fill_zero;
 use super::put::put_be;
 use super::put::put_u8;
+use super::rebuild::order_ranks;
 use super::rebuild::put_all;
 use super::release::gather_mined;
 use super::release::release;
@@ -112,7 +113,7 @@ fn floor_for(s: &[u8], a: Area, g: u64) -> u64
     floor(s, o.start, h.count, n.0, g, h.t)
 }
 
-// The queue of src after its reconciliation, with the records at the places gone released.
+// The queue of src after its reconciliation, with the records at the places gone released; rows has room for their ranks.
 fn put_whole(
     src: &[u8],
     a: Area,
@@ -126,6 +127,7 @@ fn put_whole(
     window: u64,
     vs: &[u64],
     gone: &[usize],
+    rows: &mut [u64],
     dst: &mut [u8],
 )
     requires { ⌜ AreaIn (now src) a × LentTo (height .0) tip (now t) k caught (now ids) m window × JudgedIn (now src) a (now t) k caught (now ids) m (now vs) × GoneAre (now src) (asked (height .0) tip (now t) k caught (now ids) m window) (now gone) × (a .open .head .counter .0 + length (now gone) < 18446744073709551616) × ChangedIs (now src) (asked (height .0) tip (now t) k caught (now ids) m window) true × (a .need ≤ length (now dst)) ⌝ }
@@ -137,7 +139,21 @@ fn put_whole(
     let g = gone.len() as u64;
     let to = 45 + tip_len(true);
     let f = floor_for(src, a, g);
-    let w = put_all(src, o.start, h.count, t, vs, gone, n, Finish(f), dst, to);
+    let ordered = order_ranks(src, gone, rows);
+    let w = put_all(
+        src,
+        o.start,
+        h.count,
+        t,
+        vs,
+        gone,
+        rows,
+        ordered,
+        n,
+        Finish(f),
+        dst,
+        to,
+    );
     let marks = Marks {
         persisted: height,
         revision: std::num::wrapping_add_u64(h.revision, 1),
@@ -211,6 +227,7 @@ fn reconcile_gone(
     window: u64,
     vs: &[u64],
     gone: &[usize],
+    rows: &mut [u64],
     out: &mut [u8],
 ) -> Answer
     requires { ⌜ AreaIn (now cur) a × LentTo (height .0) tip (now t) k caught (now ids) m window × JudgedIn (now cur) a (now t) k caught (now ids) m (now vs) × GoneAre (now cur) (asked (height .0) tip (now t) k caught (now ids) m window) (now gone) × (a .need ≤ length (now next)) ⌝ }
@@ -242,6 +259,7 @@ fn reconcile_gone(
             window,
             vs,
             gone,
+            rows,
             next,
         );
         return Answer::Done(Kind::Whole);
@@ -307,6 +325,7 @@ fn reconcile_lent(
         window,
         &vs[..n],
         &gone[..g],
+        &mut ranks[..g],
         out,
     )
 }

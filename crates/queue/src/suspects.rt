@@ -45,7 +45,7 @@ pub fn row_at(s: &[u8], hex: bool, base: usize, i: usize, k: u64) -> u64
 }
 
 // The order of two rows' ids. 0: the first is lower; 1: the same; 2: higher. A row too near the end has no id.
-fn cmp_rows(s: &[u8], hex: bool, x: u64, y: u64) -> u8
+pub fn cmp_rows(s: &[u8], hex: bool, x: u64, y: u64) -> u8
     ensures { λ r. ⌜ r ≡ cmpL (idR hex (now (s .entry)) x) (idR hex (now (s .entry)) y) ⌝ }
 {
     let p = (x / 4294967296) as usize;
@@ -169,7 +169,7 @@ pub fn in_order(s: &[u8], hex: bool, v: &[u64]) -> bool
 }
 
 // How many rows are not behind y.
-fn bisect(s: &[u8], hex: bool, v: &[u64], y: u64) -> usize
+pub fn bisect(s: &[u8], hex: bool, v: &[u64], y: u64) -> usize
     requires { ⌜ InOrder hex (now s) (now v) ⌝ }
     ensures { λ r. ⌜ Cut hex (now (s .entry)) (now (v .entry)) y r r ⌝ }
 {

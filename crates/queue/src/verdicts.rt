@@ -1,6 +1,7 @@
 // The verdicts of a reconciliation, worked out once, with tables as large as the number of inputs asks for.
 use super::logic::both;
 use super::own::count_inputs;
+use super::own::few_flags;
 use super::own::own_flags;
 use super::touch::judge_all;
 ghost use mathlib.Core.Path.{_≡_};
@@ -36,7 +37,29 @@ fn judge_with(
     judge_all(s, at, n, t, k, caught, ids, m, true, flags, vs);
 }
 
-// With room for few inputs.
+// The same for few inputs.
+fn few_with(
+    s: &[u8],
+    at: usize,
+    n: u64,
+    t: &[u8],
+    k: u64,
+    caught: bool,
+    ids: &[u8],
+    m: u64,
+    total: u64,
+    v: &mut [u64],
+    flags: &mut [u8],
+    vs: &mut [u64],
+)
+    requires { ⌜ (at ≤ length (now s)) × (whole (formC false recC) n (now s) at ≡ true) × EntriesRise (now t) k × IdsRise (now ids) m × (n ≤ length (now vs)) × (n < 4294967296) × (length (now s) < 4294967296) × (total ≡ length (inputsOf (listAt (formC false recC) n (now s) at))) × (total ≤ length (now flags)) × (0 < length (now v)) ⌝ }
+    ensures { λ _. ⌜ Judged (now (t .entry)) caught (ownIds (idsAt (now (ids .entry)) m) (listAt (formC false recC) n (now (s .entry)) at)) (appliedIn (now (t .entry)) k) (listAt (formC false recC) n (now (s .entry)) at) (take n (now (vs .exit))) ⌝ }
+{
+    few_flags(s, at, n, ids, m, v, flags, total);
+    judge_all(s, at, n, t, k, caught, ids, m, true, flags, vs);
+}
+
+// With room for few: rows for the outputs, and flags.
 fn judge_few(
     s: &[u8],
     at: usize,
@@ -47,14 +70,16 @@ fn judge_few(
     ids: &[u8],
     m: u64,
     total: u64,
+    rows: usize,
+    room: usize,
     vs: &mut [u64],
 )
-    requires { ⌜ (at ≤ length (now s)) × (whole (formC false recC) n (now s) at ≡ true) × EntriesRise (now t) k × IdsRise (now ids) m × (n ≤ length (now vs)) × (n < 4294967296) × (length (now s) < 4294967296) × (total ≡ length (inputsOf (listAt (formC false recC) n (now s) at))) × (total ≤ 8192) ⌝ }
+    requires { ⌜ (at ≤ length (now s)) × (whole (formC false recC) n (now s) at ≡ true) × EntriesRise (now t) k × IdsRise (now ids) m × (n ≤ length (now vs)) × (n < 4294967296) × (length (now s) < 4294967296) × (total ≡ length (inputsOf (listAt (formC false recC) n (now s) at))) × (total ≤ room) × ((room ≤ 8192) × (0 < rows) × (rows ≤ 2048)) ⌝ }
     ensures { λ _. ⌜ Judged (now (t .entry)) caught (ownIds (idsAt (now (ids .entry)) m) (listAt (formC false recC) n (now (s .entry)) at)) (appliedIn (now (t .entry)) k) (listAt (formC false recC) n (now (s .entry)) at) (take n (now (vs .exit))) ⌝ }
 {
     let mut v = [0u64; 2048];
     let mut flags = [0u8; 8192];
-    judge_with(
+    few_with(
         s,
         at,
         n,
@@ -64,8 +89,8 @@ fn judge_few(
         ids,
         m,
         total,
-        &mut v,
-        &mut flags,
+        &mut v[..rows],
+        &mut flags[..room],
         vs,
     );
 }
@@ -106,8 +131,8 @@ fn judge_many(
     );
 }
 
-// The verdicts on the n records at `at`, to the front of vs. The large tables are made at two places that differ in two numbers:
-// the compiler then makes no single call of them, which it would take in here together with the tables.
+// The verdicts on the n records at `at`, to the front of vs. Each function with tables is called at two places that differ in two
+// numbers: the compiler then makes no single call of them, which it would take in here together with the tables.
 pub fn judge(
     s: &[u8],
     at: usize,
@@ -127,8 +152,12 @@ pub fn judge(
         judge_all(s, at, n, t, k, caught, ids, m, false, ids, vs);
         return;
     }
+    if total <= 1024 {
+        judge_few(s, at, n, t, k, caught, ids, m, total, 1024, 1024, vs);
+        return;
+    }
     if total <= 8192 {
-        judge_few(s, at, n, t, k, caught, ids, m, total, vs);
+        judge_few(s, at, n, t, k, caught, ids, m, total, 2048, 8192, vs);
         return;
     }
     if total <= 65536 {

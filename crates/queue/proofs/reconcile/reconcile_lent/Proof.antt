@@ -58,8 +58,14 @@ array-share-prefix-gone c = search needs
 slice-aggregate-reconcile-gone-2 : tie.Need-slice-aggregate-reconcile-gone-2
 slice-aggregate-reconcile-gone-2 c = sym (length-take-le (c .before .before .before .before .before .before .before .release-all .result) _ (omega (arith, c .before .before .before .before .before .before .before .release-all .ensures .0, c .before .before .before .before .before .before .before .release-all .ensures .2)))
 
+array-borrow-prefix-ranks : tie.Need-array-borrow-prefix-ranks
+array-borrow-prefix-ranks c = omega (arith, c .before .before .before .before .before .before .before .release-all .ensures .0)
+
+slice-aggregate-reconcile-gone-3 : tie.Need-slice-aggregate-reconcile-gone-3
+slice-aggregate-reconcile-gone-3 c = sym (length-take-le (c .before .before .before .before .before .before .before .before .release-all .result) _ (omega (arith, c .before .before .before .before .before .before .before .before .release-all .ensures .0)))
+
 reconcile-gone-requires : tie.Need-reconcile-gone-requires
-reconcile-gone-requires c κs = (c .before .before .before .before .before .before .before .before .before .before .before .before .before .before .before .before .before .before .before .before .before .before .before .before .pre .0, c .before .before .before .before .before .before .before .before .before .before .before .before .before .before .before .before .before .before .before .before .before .before .before .before .pre .1, record { all = c .before .before .before .before .before .before .before .before .before .before .before .before .before .before .before .judge .ensures }, c .before .before .before .before .before .before .before .before .release-all .ensures .1, c .before .before .before .before .before .before .before .before .before .before .before .before .before .before .before .before .before .before .before .before .before .before .before .before .pre .2)
+reconcile-gone-requires c κs = (c .before .before .before .before .before .before .before .before .before .before .before .before .before .before .before .before .before .before .before .before .before .before .before .before .before .pre .0, c .before .before .before .before .before .before .before .before .before .before .before .before .before .before .before .before .before .before .before .before .before .before .before .before .before .pre .1, record { all = c .before .before .before .before .before .before .before .before .before .before .before .before .before .before .before .before .judge .ensures }, c .before .before .before .before .before .before .before .before .before .release-all .ensures .1, c .before .before .before .before .before .before .before .before .before .before .before .before .before .before .before .before .before .before .before .before .before .before .before .before .before .pre .2)
 
 same-length : tie.Need-same-length
 same-length c = search needs
@@ -68,7 +74,7 @@ same-length-2 : tie.Need-same-length-2
 same-length-2 c = search needs
 
 returns : tie.Need-returns
-returns c = c .before .before .before .before .reconcile-gone .ensures
+returns c = c .before .before .before .before .before .reconcile-gone .ensures
 
 pub reconcile-lent-spec : {M : Type 1} → statement M
 reconcile-lent-spec =
@@ -87,6 +93,8 @@ reconcile-lent-spec =
     slice-aggregate-reconcile-gone
     array-share-prefix-gone
     slice-aggregate-reconcile-gone-2
+    array-borrow-prefix-ranks
+    slice-aggregate-reconcile-gone-3
     reconcile-gone-requires
     same-length
     same-length-2

@@ -1,34 +1,45 @@
 use mathlib.Core.Path.{_≡_, refl, sym, ap, _∙_}
 use native.Mathlib.Omega.{arith}
-use lib.Seq.{length-take-le}
+use Prim.Native.Nat.{ℕ}
+use lib.ListN.{length-replicate}
+use Rattle.queue.proofs.SuspectLaws.{part-long, part-some}
+use Rattle.queue.proofs.OwnLaws.{part-holds}
 use borrow.Author.Needs.{needs}
 use Rattle.queue.proofs.verdicts.judge_few.Statement.{statement}
 use Rattle.queue.proofs.verdicts.judge_few.Tie as tie
 use Rattle.queue.proofs.verdicts.judge_few.Reads as reads
 use Rattle.queue.proofs.verdicts.judge_few.Lts as lts
-use Rattle.queue.proofs.verdicts.judge_with.Reads as judge-with-reads
+use Rattle.queue.proofs.verdicts.few_with.Reads as few-with-reads
 
-slice-aggregate-judge-with : tie.Need-slice-aggregate-judge-with
-slice-aggregate-judge-with c = search needs
+array-borrow-prefix-v : tie.Need-array-borrow-prefix-v
+array-borrow-prefix-v c = omega (arith, length-replicate {A = ℕ} 2048 0, c .before .before .before .before .pre .9 .2)
 
-slice-aggregate-judge-with-2 : tie.Need-slice-aggregate-judge-with-2
-slice-aggregate-judge-with-2 c = search needs
+slice-aggregate-few-with : tie.Need-slice-aggregate-few-with
+slice-aggregate-few-with c = sym (part-long _ (length-replicate {A = ℕ} 2048 0) (c .before .before .before .before .before .pre .9 .2))
 
-judge-with-requires : tie.Need-judge-with-requires
-judge-with-requires c κs = (c .before .before .before .before .before .before .before .pre .0, c .before .before .before .before .before .before .before .pre .1, c .before .before .before .before .before .before .before .pre .2, c .before .before .before .before .before .before .before .pre .3, c .before .before .before .before .before .before .before .pre .4, c .before .before .before .before .before .before .before .pre .5, c .before .before .before .before .before .before .before .pre .6, c .before .before .before .before .before .before .before .pre .7, omega (arith, c .before .before .before .before .before .before .before .pre .8), omega arith)
+array-borrow-prefix-flags : tie.Need-array-borrow-prefix-flags
+array-borrow-prefix-flags c = omega (arith, length-replicate {A = ℕ} 8192 0, c .before .before .before .before .before .pre .9 .0)
+
+slice-aggregate-few-with-2 : tie.Need-slice-aggregate-few-with-2
+slice-aggregate-few-with-2 c = sym (part-long _ (length-replicate {A = ℕ} 8192 0) (c .before .before .before .before .before .before .pre .9 .0))
+
+few-with-requires : tie.Need-few-with-requires
+few-with-requires c κs = (c .before .before .before .before .before .before .before .pre .0, c .before .before .before .before .before .before .before .pre .1, c .before .before .before .before .before .before .before .pre .2, c .before .before .before .before .before .before .before .pre .3, c .before .before .before .before .before .before .before .pre .4, c .before .before .before .before .before .before .before .pre .5, c .before .before .before .before .before .before .before .pre .6, c .before .before .before .before .before .before .before .pre .7, part-holds _ (length-replicate {A = ℕ} 8192 0) (c .before .before .before .before .before .before .before .pre .9 .0) (c .before .before .before .before .before .before .before .pre .8), part-some _ (length-replicate {A = ℕ} 2048 0) (c .before .before .before .before .before .before .before .pre .9 .2) (c .before .before .before .before .before .before .before .pre .9 .1))
 
 same-length : tie.Need-same-length
 same-length c = search needs
 
 returns : tie.Need-returns
-returns c = c .before .before .before .before .judge-with .ensures
+returns c = c .before .before .before .before .few-with .ensures
 
 pub judge-few-spec : {M : Type 1} → statement M
 judge-few-spec =
     tie.close
     (tie.spec
-    slice-aggregate-judge-with
-    slice-aggregate-judge-with-2
-    judge-with-requires
+    array-borrow-prefix-v
+    slice-aggregate-few-with
+    array-borrow-prefix-flags
+    slice-aggregate-few-with-2
+    few-with-requires
     same-length
     returns)
