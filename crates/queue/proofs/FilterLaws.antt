@@ -1,4 +1,4 @@
--- The filter's laws, and the passes that use it: inputs in one record only, finish numbers of one tombstone only. Assumes nothing.
+-- The filter's laws, and the pass that uses it: inputs in one record only. Finish numbers by counts. Assumes nothing.
 use mathlib.Core.Path.{_≡_, refl, ap, ap₂, sym, _∙_, subst}
 use mathlib.Core.Bool.{Bool, true, false, cond, not, _&&_, _||_}
 use mathlib.Core.List.{List, [], _∷_}
@@ -95,7 +95,7 @@ module _ (t : List ℕ) (h : ℕ) (p : 0 < length t) where
       rw (mark-size t h, k, at-slot) (eq-eqb (bitOr (bitOr v (maskL h)) (maskL g)) (bitOr v (maskL h)) (or-more v (maskL h) (maskL g) (rw k at f))))
       (λ q. rw (mark-size t h, other g (eqb-false (slotL (length t) g) (slotL (length t) h) q)) e)
 
--- ---- one key, and none
+-- ---- one key
 module _ {K : Type 0} {own : K → Bool} {hash H : K → ℕ} (y : K) (only : (x : K) → own x ≡ true → y ≡ x) {t : List ℕ} {h : ℕ} (e : h ≡ hash y) {b : Bool} (q : b ≡ marked t h) where
   pub pass-seen : {c : ℕ} → b ≡ true → c ≡ H y → Passed own hash H t (ltb 1 c) t
   pass-seen {c} f g = record {
@@ -114,9 +114,6 @@ module _ {K : Type 0} {own : K → Bool} {hash H : K → ℕ} (y : K) (only : (x
     one = λ u x o m. false-true (sym f ∙ q ∙ ap (marked t) e ∙ ap (λ (z : K). marked t (hash z)) (only x o) ∙ m);
     new = λ u x o. subst (λ (z : K). marked t′ (hash z) ≡ true) (only x o) (ap (λ (v : List ℕ). marked v (hash y)) g ∙ ap (marked (markL t h)) (sym e) ∙ mark-here t h p);
   }
-
-pub pass-none : {K : Type 0} {own : K → Bool} {hash H : K → ℕ} {t : List ℕ} → ((x : K) → own x ≡ false) → Passed own hash H t false t
-pass-none n = record { size = refl; old = λ _ m. m; two = λ u. false-true u; one = λ u x o m. false-true (sym (n x) ∙ o); new = λ u x o. false-true (sym (n x) ∙ o) }
 
 -- ---- the ids of a record: those before i are passed
 pub record Passing (H : Id → ℕ) (v : Bytes) (all : List Id) (t₀ : List ℕ) (i left : ℕ) (t : List ℕ) : Type 0 where

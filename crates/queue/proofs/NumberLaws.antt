@@ -19,6 +19,7 @@ use Rattle.queue.specs.ReadLaws.{false-true, none-left}
 use Rattle.queue.specs.Facts.{factsOf}
 use Rattle.queue.specs.Rules.{weight, sum, aboveF}
 use Rattle.queue.specs.Finishing.{newAbove, above}
+use Rattle.queue.specs.Filter.{marked, markL}
 use Rattle.queue.specs.Numbers.{numberF, numbersOf, timesIn, overIn, Differ, Steps}
 use Rattle.queue.specs.Suspects.{Shuffled}
 use Rattle.queue.specs.paper.Records.{Bytes, Rec}
@@ -28,7 +29,7 @@ use Rattle.queue.specs.declared.frame.Facts.{Facts}
 use Rattle.queue.specs.declared.frame.Seen.{Seen}
 use Rattle.queue.specs.declared.rules.Query.the-variants.{Tombstones}
 use Rattle.queue.proofs.Turns.{Scan, on, end, ReadsRec, seen, see}
-use Rattle.queue.proofs.FilterLaws.{distinct-yes, distinct-no}
+use Rattle.queue.proofs.FilterLaws.{mark-here, mark-old, mark-size, distinct-yes, distinct-no}
 
 -- ---- what the numbers say of the records
 pub numbers-long : (l : List Rec) → length (numbersOf l) ≡ tombstones l
@@ -172,6 +173,38 @@ pub steps-up : (v : List ℕ) {i : ℕ} → ((j : ℕ) → j + 1 < i → getD v 
 steps-up v k h = record {
   up = λ _. record { yes = λ _. rises-one v (λ j l. k j (omega arith)); no = λ f. false-true (sym f) };
   same = λ z. absurd (let y : ⊥ = omega arith in y);
+}
+
+-- ---- new to a filter: those before i are marked
+pub record Fresh (v t : List ℕ) (i : ℕ) : Type 0 where
+  pub met : (m : ℕ) → timesIn m (drop i v) < timesIn m v → marked t m ≡ true
+  pub few : (m : ℕ) → timesIn m v ≤ 1 + timesIn m (drop i v)
+
+pub fresh-start : (v t : List ℕ) → Fresh v t 0
+fresh-start v t = record { met = λ m h. absurd (let z : ⊥ = omega arith in z); few = λ m. omega arith }
+
+pub fresh-go : (v t : List ℕ) (i : ℕ) {b : Bool} {t′ : List ℕ} → Fresh v t i → i < length v → 0 < length t → b ≡ marked t (getD v i 0) → b ≡ false → t′ ≡ markL t (getD v i 0) → Fresh v t′ (i + 1)
+fresh-go v t i {b} {t′} f h p e n g =
+    let x = getD v i 0 in
+    let cut : (m : ℕ) → timesIn m (drop i v) ≡ one (eqb x m) + timesIn m (drop (i + 1) v) = λ m. rw (drop-cons v i 0 h, add-one) in
+    rw g (record {
+      met = λ m l. let k = cut m in cases (eqb x m)
+          (λ u. ap (marked (markL t x)) (sym (eqb-true x m u)) ∙ mark-here t x p)
+          (λ u. let z = rw u at k in mark-old t x p m (f .met m (omega arith)));
+      few = λ m. let k = cut m in cases (eqb x m)
+          (λ u.
+          let z = rw u at k in
+          let q : x ≡ m = eqb-true x m u in
+          cases (ltb (timesIn m (drop i v)) (timesIn m v))
+          (λ w. false-true (sym (rw q at (sym e ∙ n)) ∙ f .met m (ltb-true (timesIn m (drop i v)) (timesIn m v) w)))
+          (λ w. let y = ltb-false (timesIn m (drop i v)) (timesIn m v) w in omega arith))
+          (λ u. let z = rw u at k in let y = f .few m in omega arith);
+    })
+
+pub fresh-end : (v t : List ℕ) {i : ℕ} → Fresh v t i → length v ≤ i → Differ v true
+fresh-end v t {i} f h = record {
+  yes = λ _ m. let y = f .few m in let k : timesIn m (drop i v) ≡ 0 = ap (timesIn m) (drop-of-length-le v h) in omega arith;
+  no = λ z. false-true (sym z);
 }
 
 -- ---- each compared with all

@@ -1,4 +1,6 @@
 // The finish numbers of tombstones in a table: are they distinct, and which of them stay?
+use super::filter::mark;
+use super::filter::seen;
 use super::forms::after_in;
 use super::frame::Facts;
 use super::frame::rec_at;
@@ -95,6 +97,23 @@ fn steps(v: &[u64]) -> u8
     1
 }
 
+// Is each number new to the filter t? Then they are distinct; if not, they may be.
+fn fresh(v: &[u64], t: &mut [u64]) -> bool
+    requires { ⌜ 0 < length (now t) ⌝ }
+    ensures { λ r. ⌜ (r ≡ true → Differ (now (v .entry)) true) ⌝ }
+{
+    let mut i: usize = 0;
+    while i < v.len() {
+        let x = v[i];
+        if seen(t, x) {
+            return false;
+        }
+        mark(t, x);
+        i += 1;
+    }
+    true
+}
+
 // Each compared with all: only for a table that is not in order, which there is none of.
 fn differ_all(v: &[u64]) -> bool
     ensures { λ r. ⌜ Differ (now (v .entry)) r ⌝ }
@@ -109,10 +128,14 @@ fn differ_all(v: &[u64]) -> bool
     true
 }
 
-// Are the numbers distinct? They are put in order, so that equal ones stand side by side.
+// Are the numbers distinct? If the filter does not say so, they are put in order, so that equal ones stand side by side.
 fn differ(v: &mut [u64]) -> bool
     ensures { λ r. ⌜ Differ (now (v .entry)) r ⌝ }
 {
+    let mut t = [0u64; 2048];
+    if fresh(v, &mut t) {
+        return true;
+    }
     let none = [0u8; 1];
     order_rows(&none, Order::Numbers, v);
     let r = steps(v);

@@ -3,15 +3,25 @@ use native.Mathlib.Omega.{arith}
 use mathlib.Core.Bool.{Bool, true, false, _&&_, _||_}
 use Prim.Native.Nat.{ℕ, _≤_, _+_, _-_, _*_, _/_, _%_, _<_}
 use lib.ListN.{length, take, drop, getD}
+use native.Mathlib.Nat.{zero-lt-suc}
 use Rattle.queue.proofs.NumberLaws.{differ-before}
 use borrow.Author.Needs.{needs}
 use Rattle.queue.proofs.numbers.differ.Statement.{statement}
 use Rattle.queue.proofs.numbers.differ.Tie as tie
 use Rattle.queue.proofs.numbers.differ.Reads as reads
 use Rattle.queue.proofs.numbers.differ.Lts as lts
-use Rattle.queue.proofs.numbers.differ_all.Reads as differ-all-reads
-use Rattle.queue.proofs.numbers.steps.Reads as steps-reads
-use Rattle.queue.proofs.suspects.order_rows.Reads as order-rows-reads
+
+slice-aggregate-fresh : tie.Need-slice-aggregate-fresh
+slice-aggregate-fresh c = search needs
+
+fresh-requires : tie.Need-fresh-requires
+fresh-requires c κs = zero-lt-suc _
+
+same-length : tie.Need-same-length
+same-length c = search needs
+
+returns : tie.Need-returns
+returns c = c .before .before .fresh .ensures (c .if1 .taken)
 
 slice-aggregate-order-rows : tie.Need-slice-aggregate-order-rows
 slice-aggregate-order-rows c = search needs
@@ -22,38 +32,42 @@ order-rows-requires c κs = search needs
 steps-requires : tie.Need-steps-requires
 steps-requires c κs = search needs
 
-same-length : tie.Need-same-length
-same-length c = search needs
-
-returns : tie.Need-returns
-returns c = differ-before (c .before .before .before .before .before .order-rows .ensures) (c .before .steps .ensures .up (c .if1 .taken))
-
 same-length-2 : tie.Need-same-length-2
 same-length-2 c = search needs
 
 returns-2 : tie.Need-returns-2
-returns-2 c = differ-before (c .before .before .before .before .before .before .order-rows .ensures) (c .before .before .steps .ensures .same (c .if2 .taken))
-
-differ-all-requires : tie.Need-differ-all-requires
-differ-all-requires c κs = search needs
+returns-2 c = differ-before (c .before .before .before .before .before .order-rows .ensures) (c .before .steps .ensures .up (c .if2 .taken))
 
 same-length-3 : tie.Need-same-length-3
 same-length-3 c = search needs
 
 returns-3 : tie.Need-returns-3
-returns-3 c = differ-before (c .before .before .before .before .before .before .before .before .order-rows .ensures) (c .differ-all .ensures)
+returns-3 c = differ-before (c .before .before .before .before .before .before .order-rows .ensures) (c .before .before .steps .ensures .same (c .if3 .taken))
+
+differ-all-requires : tie.Need-differ-all-requires
+differ-all-requires c κs = search needs
+
+same-length-4 : tie.Need-same-length-4
+same-length-4 c = search needs
+
+returns-4 : tie.Need-returns-4
+returns-4 c = differ-before (c .before .before .before .before .before .before .before .before .order-rows .ensures) (c .differ-all .ensures)
 
 pub differ-spec : {M : Type 1} → statement M
 differ-spec =
     tie.close
     (tie.spec
+    slice-aggregate-fresh
+    fresh-requires
+    same-length
+    returns
     slice-aggregate-order-rows
     order-rows-requires
     steps-requires
-    same-length
-    returns
     same-length-2
     returns-2
-    differ-all-requires
     same-length-3
-    returns-3)
+    returns-3
+    differ-all-requires
+    same-length-4
+    returns-4)
