@@ -1,4 +1,7 @@
-//! The same work by the exported calls and by `PrivateTransactionQueue`, as a table of medians.
+//! The same work by the exported calls and by `PrivateTransactionQueue`, as a table of times; then how the library's times grow.
+//! `--short` prints the ratios of the growth alone, `--full` the full units.
+
+mod growth;
 
 mod commit;
 
@@ -32,20 +35,34 @@ const MOST: usize = 201;
 const ENOUGH: Duration = Duration::from_millis(200);
 
 fn main() {
-    let folder = std::env::args()
-        .nth(1)
-        .map_or(std::env::temp_dir(), PathBuf::from);
+    let mut args = std::env::args().skip(1);
+    let first = args.next();
+    match first.as_deref() {
+        Some("--short") => return growth::ratios(ENOUGH),
+        Some("--full") => return growth::full_units(ENOUGH),
+        _ => (),
+    }
+    let folder = first.map_or(std::env::temp_dir(), PathBuf::from);
     let path = folder.join(format!("pokerbox-bench-{}.json", std::process::id()));
     // K 2 and B 1 MiB: room for the records, without much unused area.
-    let limits = Limits::checked(1_024, 1 << 20, 1_024, 2).expect("limits in range");
-    println!(
-        "Limits P {}, B {}, T {}, K {}: an area of {} bytes. Microseconds, medians of {LEAST} to {MOST} runs.\n",
-        limits.pending, limits.bytes, limits.tombstones, limits.inputs, limits.need()
-    );
-    for (records, tombstones) in [(10, 0), (100, 0), (1_000, 0), (1_000, 1_024)] {
+    let roomy = [1_024, 1 << 20, 1_024, 2];
+    // Limits that fit the load.
+    let close = [1_024, 310_000, 64, 2];
+    for (limits, records, tombstones) in [
+        (roomy, 10, 0),
+        (roomy, 100, 0),
+        (roomy, 1_000, 0),
+        (roomy, 1_000, 1_024),
+        (close, 1_000, 0),
+    ] {
+        let [p, b, t, k] = limits;
+        let limits = Limits::checked(p, b, t, k).expect("limits in range");
         Bench::new(limits, records, tombstones, &path).run();
     }
     let _ = std::fs::remove_file(&path);
+    println!("### Growth\n");
+    growth::ratios(ENOUGH);
+    growth::full_units(ENOUGH);
 }
 
 /// One queue on both sides.
@@ -65,11 +82,18 @@ struct Bench<'a> {
     path: &'a Path,
 }
 
-/// Microseconds; none where a side has no such work.
+/// Microseconds, the least and the median.
+#[derive(Clone, Copy)]
+struct Time {
+    least: f64,
+    median: f64,
+}
+
+/// None where a side has no such work.
 struct Row {
     work: String,
-    library: Option<f64>,
-    oracle: Option<f64>,
+    library: Option<Time>,
+    oracle: Option<Time>,
 }
 
 fn record(n: usize, state: State) -> Record {
@@ -136,8 +160,8 @@ fn with_mined(queue: &Queue, id: &Id) -> Queue {
     queue
 }
 
-/// The median time of `work`, each run after `ready`.
-fn median(mut ready: impl FnMut(), mut work: impl FnMut()) -> f64 {
+/// The times of `work`, each run after `ready`.
+fn time(mut ready: impl FnMut(), mut work: impl FnMut()) -> Time {
     let mut times = Vec::new();
     let start = Instant::now();
     while times.len() < LEAST || (times.len() < MOST && start.elapsed() < ENOUGH) {
@@ -147,7 +171,11 @@ fn median(mut ready: impl FnMut(), mut work: impl FnMut()) -> f64 {
         times.push(begin.elapsed());
     }
     times.sort();
-    times[times.len() / 2].as_secs_f64() * 1e6
+    let micros = |at: usize| times[at].as_secs_f64() * 1e6;
+    Time {
+        least: micros(0),
+        median: micros(times.len() / 2),
+    }
 }
 
 impl<'a> Bench<'a> {
@@ -188,10 +216,17 @@ impl<'a> Bench<'a> {
     fn run(&mut self) {
         assert_eq!(raw::sound(&self.area), Ok(()));
         let pending = self.queue.pending().count();
+        let limits = &self.queue.limits;
         println!(
-            "### {pending} records, {} tombstones\n",
-            self.queue.tombstones().count()
+            "### {pending} records, {} tombstones, P {}, B {}, T {}, K {}: an area of {} bytes\n",
+            self.queue.tombstones().count(),
+            limits.pending,
+            limits.bytes,
+            limits.tombstones,
+            limits.inputs,
+            limits.need()
         );
+        println!("Microseconds, least (median) of {LEAST} to {MOST} runs.\n");
         println!("| work | library | Rust | library / Rust |\n|---|---:|---:|---:|");
         let mut rows = self.changing();
         if is_exported("admit") {
@@ -204,26 +239,30 @@ impl<'a> Bench<'a> {
         rows.extend(self.parts());
         rows.extend(self.readings());
         for row in rows {
-            let number = |value: Option<f64>| match value {
-                Some(value) if value < 10.0 => format!("{value:.2}"),
-                Some(value) => format!("{value:.0}"),
+            let number = |value: f64| match value {
+                value if value < 10.0 => format!("{value:.2}"),
+                value => format!("{value:.0}"),
+            };
+            let both = |time: Option<Time>| match time {
+                Some(time) => format!("{} ({})", number(time.least), number(time.median)),
                 None => "-".into(),
             };
             let ratio = row.library.zip(row.oracle);
-            let ratio = ratio.map(|(library, oracle)| library / oracle.max(0.01));
-            let (library, oracle) = (number(row.library), number(row.oracle));
+            let ratio = ratio.map(|(library, oracle)| library.least / oracle.least.max(0.01));
             println!(
-                "| {} | {library} | {oracle} | {} |",
+                "| {} | {} | {} | {} |",
                 row.work,
-                number(ratio)
+                both(row.library),
+                both(row.oracle),
+                ratio.map_or("-".into(), number)
             );
         }
         println!();
     }
 
     /// The Rust's time of a work that starts with the queue.
-    fn oracle(&self, work: impl Fn(&PrivateTransactionQueue)) -> Option<f64> {
-        Some(median(
+    fn oracle(&self, work: impl Fn(&PrivateTransactionQueue)) -> Option<Time> {
+        Some(time(
             || inspect::set_whole_store(&self.oracle, self.store.clone()),
             || work(&self.oracle),
         ))
@@ -237,13 +276,13 @@ impl<'a> Bench<'a> {
         let mut rows = Vec::new();
         rows.push(Row {
             work: "fresh".into(),
-            oracle: Some(median(
+            oracle: Some(time(
                 || (),
                 || {
                     black_box(PrivateTransactionQueue::default());
                 },
             )),
-            library: Some(median(
+            library: Some(time(
                 || (),
                 || raw::fresh(p, b, t, k, &mut self.next).expect("fresh"),
             )),
@@ -254,7 +293,7 @@ impl<'a> Bench<'a> {
                 queue.cancel(&id).expect("cancelled");
                 black_box(inspect::json(queue));
             }),
-            library: Some(median(
+            library: Some(time(
                 || (),
                 || {
                     let out = &mut self.out;
@@ -269,7 +308,7 @@ impl<'a> Bench<'a> {
                 assert_eq!(queue.expire(DUE, 0).expect("expired").len(), 1);
                 black_box(inspect::json(queue));
             }),
-            library: Some(median(
+            library: Some(time(
                 || (),
                 || {
                     let out = &mut self.out;
@@ -280,14 +319,14 @@ impl<'a> Bench<'a> {
         });
         rows.push(Row {
             work: "reopen (one) and image / JSON".into(),
-            oracle: Some(median(
+            oracle: Some(time(
                 || inspect::set_whole_store(&self.oracle, self.mined_store.clone()),
                 || {
                     assert_eq!(self.oracle.reopen_rolled_back(&ids), Ok(true));
                     black_box(inspect::json(&self.oracle));
                 },
             )),
-            library: Some(median(
+            library: Some(time(
                 || (),
                 || {
                     let out = &mut self.out;
@@ -299,7 +338,7 @@ impl<'a> Bench<'a> {
         rows.push(Row {
             work: "set_cursor (no image)".into(),
             oracle: self.oracle(|queue| queue.set_observation_cursor(7, None)),
-            library: Some(median(
+            library: Some(time(
                 || (),
                 || {
                     raw::set_cursor(&self.area, &mut self.next, 7, 0, &[]).expect("set");
@@ -308,13 +347,13 @@ impl<'a> Bench<'a> {
         });
         rows.push(Row {
             work: "open".into(),
-            oracle: Some(median(
+            oracle: Some(time(
                 || (),
                 || {
                     black_box(PrivateTransactionQueue::open(self.path).expect("opened"));
                 },
             )),
-            library: Some(median(
+            library: Some(time(
                 || (),
                 || {
                     raw::open(&self.image, &mut self.next).expect("opened");
@@ -354,7 +393,7 @@ impl<'a> Bench<'a> {
                 admitted.expect("admitted");
                 black_box(inspect::json(queue));
             }),
-            library: Some(median(
+            library: Some(time(
                 || (),
                 || {
                     let out = &mut self.out;
@@ -392,7 +431,7 @@ impl<'a> Bench<'a> {
                 assert!(done.expect("reconciled").changed);
                 black_box(inspect::json(queue));
             }),
-            library: Some(median(
+            library: Some(time(
                 || (),
                 || {
                     let out = &mut self.out;
@@ -410,16 +449,16 @@ impl<'a> Bench<'a> {
         let mut rows = Vec::new();
         rows.push(Row {
             work: "part: sound, the area's check alone".into(),
-            library: Some(median(|| (), || raw::sound(&self.area).expect("sound"))),
+            library: Some(time(|| (), || raw::sound(&self.area).expect("sound"))),
             oracle: None,
         });
         rows.push(Row {
             work: "part: a plain copy of the area / the store's clone".into(),
-            library: Some(median(
+            library: Some(time(
                 || (),
                 || self.next.copy_from_slice(black_box(&self.area)),
             )),
-            oracle: Some(median(
+            oracle: Some(time(
                 || (),
                 || {
                     black_box(inspect::whole_store(black_box(&self.oracle)));
@@ -428,7 +467,7 @@ impl<'a> Bench<'a> {
         });
         rows.push(Row {
             work: "part: cancel alone, with its check".into(),
-            library: Some(median(
+            library: Some(time(
                 || (),
                 || {
                     raw::cancel(&self.area, &mut self.next, &self.id, &mut self.out).expect("done");
@@ -440,7 +479,7 @@ impl<'a> Bench<'a> {
         });
         rows.push(Row {
             work: "part: image with its check / JSON".into(),
-            library: Some(median(
+            library: Some(time(
                 || (),
                 || {
                     raw::image(&self.area, &mut self.out, &mut 0).expect("an image");
@@ -458,7 +497,7 @@ impl<'a> Bench<'a> {
             self.next.copy_from_slice(&self.area);
             rows.push(Row {
                 work: format!("part: {work}"),
-                library: Some(median(
+                library: Some(time(
                     || (),
                     || {
                         let _ = black_box(raw::settle(&self.area, &mut self.next, kind, outcome));
@@ -479,8 +518,8 @@ impl<'a> Bench<'a> {
             ($name:literal, $library:expr, $oracle:expr) => {
                 rows.push(Row {
                     work: $name.into(),
-                    library: Some(median(|| (), || $library.expect("answered"))),
-                    oracle: Some(median(
+                    library: Some(time(|| (), || $library.expect("answered"))),
+                    oracle: Some(time(
                         || (),
                         || {
                             black_box($oracle);
@@ -560,7 +599,7 @@ impl<'a> Bench<'a> {
         );
         rows.push(Row {
             work: "signed_bytes".into(),
-            library: Some(median(
+            library: Some(time(
                 || (),
                 || raw::signed_bytes(area, &id, &mut value, &mut 0).expect("answered"),
             )),

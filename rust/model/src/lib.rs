@@ -6,12 +6,14 @@
 //! - [`frame`], [`area`], [`image`]: the encodings.
 //! - [`rules`]: each call as a function on queues.
 //! - [`calls`]: each call as the exported function of that name has it, on lent bytes.
+//! - [`load`]: large sound queues with chosen ids, to measure with.
 //! - [`random`]: random sound queues and damaged bytes for tests.
 
 pub mod area;
 pub mod calls;
 pub mod frame;
 pub mod image;
+pub mod load;
 pub mod random;
 pub mod rules;
 pub mod sound;

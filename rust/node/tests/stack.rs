@@ -1,6 +1,6 @@
 //! The stack that calls use: every exported call, on small queues and on large ones, in a thread
-//! with little stack. `POKERBOX_STACK` sets another number of bytes, to find how few are enough;
-//! with too few the process ends.
+//! with little stack. `POKERBOX_STACK` sets another number of bytes, to find how few are enough,
+//! and `POKERBOX_STACK_TOP` one for the full unit; with too few the process ends.
 
 // Of the shared module `every` this test needs a part.
 #![allow(dead_code)]
@@ -9,17 +9,21 @@ mod common;
 mod every;
 
 use every::Args;
+use model::load::{self, Ids, Load};
 use model::random::{self, Rng};
 use model::{area, calls, image, Limits, Queue, State};
 use pokerbox::raw;
 
-/// 132 KiB are enough, 128 KiB are not. An area with more than 2,048 suspects needs more (docs/DECISIONS.md).
+/// While the queue has at most 8,192 inputs.
 const STACK: usize = 160 * 1024;
 
-fn stack() -> usize {
-    match std::env::var("POKERBOX_STACK") {
+/// At the top limits.
+const TOP: usize = 1_000_000;
+
+fn stack(name: &str, bytes: usize) -> usize {
+    match std::env::var(name) {
         Ok(text) => text.parse().expect("a number of bytes"),
-        Err(_) => STACK,
+        Err(_) => bytes,
     }
 }
 
@@ -95,9 +99,13 @@ impl Lent {
     }
 }
 
-fn in_little_stack(mut lent: Lent) {
+fn in_little_stack(lent: Lent) {
+    in_stack(stack("POKERBOX_STACK", STACK), lent);
+}
+
+fn in_stack(bytes: usize, mut lent: Lent) {
     let expected = lent.numbers(false);
-    let thread = std::thread::Builder::new().stack_size(stack());
+    let thread = std::thread::Builder::new().stack_size(bytes);
     let given = thread.spawn(move || lent.numbers(true)).expect("a thread");
     assert_eq!(given.join().expect("no panic"), expected);
 }
@@ -112,8 +120,7 @@ fn small_queues() {
     }
 }
 
-/// Some hundred records, some of them with up to 128 inputs. The time of the area's check can grow
-/// with the square of the number of inputs, so that most have few.
+/// Some hundred records, some of them with up to 128 inputs.
 #[test]
 fn large_limits() {
     let limits = Limits::checked(1_024, 65_536, 1_024, 128).expect("limits in range");
@@ -135,4 +142,35 @@ fn many_records() {
     let mut rng = Rng::new(1);
     let queue = random::queue(&mut rng, limits);
     in_little_stack(Lent::new(&mut rng, queue));
+}
+
+/// Chained records at the top limits: no input is available, each is looked for among the outputs.
+fn chained(queued: u64, mined: u64, tombstones: u64, ids: Ids) -> Lent {
+    let queue = load::queue(&Load {
+        limits: [1_024, 16_777_216, 1_024, 128],
+        queued,
+        mined,
+        tombstones,
+        boxes: 128,
+        bytes: 100,
+        ids,
+    });
+    Lent::new(&mut Rng::new(1), queue)
+}
+
+/// 8,192 inputs, with ids of all kinds.
+#[test]
+fn few_inputs() {
+    for ids in [Ids::Random, Ids::Ends, Ids::Filter, Ids::Chained] {
+        in_little_stack(chained(40, 24, 100, ids));
+    }
+}
+
+/// 262,144 inputs and as many outputs.
+#[test]
+fn full_unit() {
+    let bytes = stack("POKERBOX_STACK_TOP", TOP);
+    for ids in [Ids::Chained, Ids::Filter] {
+        in_stack(bytes, chained(1_024, 1_024, 1_024, ids));
+    }
 }

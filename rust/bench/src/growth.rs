@@ -1,0 +1,230 @@
+//! How the library's times grow, and with which ids: the rows that ratios and bounds are wanted for.
+
+use std::time::{Duration, Instant};
+
+use compare::side::{Library, Side};
+use model::calls::ReconcileArgs;
+use model::load::{self, Ids, Load};
+use model::random::nth_id;
+use model::{area, image, Id, State};
+use pokerbox::raw;
+
+pub const ALL: [(Ids, &str); 5] = [
+    (Ids::Random, "random ids"),
+    (Ids::Front, "first 24 bytes alike"),
+    (Ids::Ends, "first and last 8 bytes alike"),
+    (Ids::Filter, "chosen against the filter"),
+    (Ids::Chained, "chained records"),
+];
+
+/// The least and the median time of `work`, in seconds.
+pub fn times(enough: Duration, mut work: impl FnMut()) -> (f64, f64) {
+    let mut times = Vec::new();
+    let start = Instant::now();
+    while times.len() < 3 || (times.len() < 201 && start.elapsed() < enough) {
+        let begin = Instant::now();
+        work();
+        times.push(begin.elapsed().as_secs_f64());
+        // A long work is timed once.
+        if start.elapsed() > 10 * enough {
+            break;
+        }
+    }
+    times.sort_by(f64::total_cmp);
+    (times[0], times[times.len() / 2])
+}
+
+/// One queue, and what the calls are lent.
+pub struct Lent {
+    area: Vec<u8>,
+    next: Vec<u8>,
+    out: Vec<u8>,
+    image: Vec<u8>,
+    id: Id,
+    mined: Vec<u8>,
+    /// All inputs, rising; every second one.
+    inputs: Vec<Id>,
+    enough: Duration,
+}
+
+impl Lent {
+    pub fn new(load: &Load, enough: Duration) -> Self {
+        let queue = load::queue(load);
+        let area = area::encode(&queue);
+        assert_eq!(raw::sound(&area), Ok(()));
+        let first = |state: State| {
+            let mut records = queue.records.iter();
+            records.find(|record| record.state == state)
+        };
+        let id = first(State::Queued).map_or([0; 32], |record| record.id);
+        let mined = first(State::Mined).map_or(vec![], |record| record.id.to_vec());
+        let holders = queue.records.iter().filter_map(|r| r.holder.as_ref());
+        let mut inputs: Vec<Id> = holders.flat_map(|h| h.inputs.clone()).collect();
+        inputs.sort();
+        let image = image::encode(&queue);
+        Lent {
+            next: vec![0; area.len()],
+            out: vec![0; 2 * image.len() + 1_000],
+            area,
+            image,
+            id,
+            mined,
+            inputs,
+            enough,
+        }
+    }
+
+    pub fn sound(&self) -> (f64, f64) {
+        times(self.enough, || raw::sound(&self.area).expect("sound"))
+    }
+
+    pub fn copy(&mut self) -> (f64, f64) {
+        times(self.enough, || {
+            self.next.copy_from_slice(std::hint::black_box(&self.area));
+        })
+    }
+
+    /// One record found in a block; of the inputs every `step`-th is unavailable, none for 0.
+    pub fn reconcile(&mut self, step: usize, with_image: bool) -> (f64, f64) {
+        let kept = self.inputs.iter().enumerate();
+        let kept = kept.filter(|(at, _)| step == 0 || at % step != 0);
+        let available: Vec<u8> = kept.flat_map(|(_, id)| *id).collect();
+        let (block, height) = (nth_id(0), 101u32);
+        let applied = [&self.id[..], &height.to_be_bytes(), &block].concat();
+        let args = ReconcileArgs {
+            height,
+            tip: &block,
+            applied: &applied,
+            caught_up: 1,
+            available: &available,
+            window: 720,
+        };
+        times(self.enough, || {
+            let number = Library.reconcile(&self.area, &mut self.next, &args, &mut self.out);
+            assert_eq!(number, 102);
+            if with_image {
+                raw::image(&self.next, &mut self.out, &mut 0).expect("an image");
+            }
+        })
+    }
+
+    /// Every call on this queue, by name.
+    pub fn every(&mut self) -> Vec<(&'static str, (f64, f64))> {
+        let mut rows = vec![("sound", self.sound())];
+        let (mut value, enough) = (0, self.enough);
+        macro_rules! timed {
+            ($name:literal, $work:expr) => {
+                let work = || {
+                    std::hint::black_box($work.expect("answered"));
+                };
+                rows.push(($name, times(enough, work)));
+            };
+        }
+        {
+            let (area, out, id) = (&self.area, &mut self.out, &self.id);
+            timed!("revision", raw::revision(area, &mut value));
+            timed!("deadline_due", raw::deadline_due(area, 0, 0, &mut value));
+            timed!("record_ids", raw::record_ids(area, out));
+            timed!("list", raw::list(area, out));
+            timed!("entry", raw::entry(area, id, out));
+            timed!("selection_entries", raw::selection_entries(area, out));
+            timed!("due", raw::due(area, 5, 0, out));
+            timed!("confirmations", raw::confirmations(area, out));
+            timed!("reserved_inputs", raw::reserved_inputs(area, out));
+            timed!("reservation_snapshot", raw::reservation_snapshot(area, out));
+            timed!("guard_snapshot", raw::guard_snapshot(area, out));
+        }
+        {
+            let (area, next, out) = (&self.area, &mut self.next, &mut self.out);
+            let (id, mined) = (&self.id, &self.mined);
+            timed!("cancel", raw::cancel(area, next, id, out));
+            timed!("expire", raw::expire(area, next, 5, 0, out));
+            timed!("reopen", raw::reopen(area, next, mined));
+            timed!("set_cursor", raw::set_cursor(area, next, 7, 0, &[]));
+        }
+        rows.push(("reconcile, all available", self.reconcile(0, false)));
+        rows.push(("reconcile, half unavailable", self.reconcile(2, false)));
+        rows.push(("reconcile, none available", self.reconcile(1, false)));
+        let (area, next, out) = (&self.area, &mut self.next, &mut self.out);
+        next.copy_from_slice(area);
+        timed!("settle", raw::settle(area, next, 2, 0));
+        timed!("image", raw::image(area, out, &mut 0));
+        timed!("open", raw::open(&self.image, next));
+        rows
+    }
+}
+
+const TOP: [u64; 4] = [1_024, 16_777_216, 1_024, 128];
+
+/// A full unit at the top limits; there is room for one more pending record.
+pub fn full(ids: Ids) -> Load {
+    Load {
+        limits: TOP,
+        queued: 1_023,
+        mined: 1_024,
+        tombstones: 1_024,
+        boxes: 128,
+        bytes: 8_000,
+        ids,
+    }
+}
+
+/// Records of two inputs, as in the table above.
+pub fn plain(queued: u64, ids: Ids) -> Load {
+    Load {
+        limits: [1_024, 1 << 20, 1_024, 2],
+        queued,
+        mined: 0,
+        tombstones: 0,
+        boxes: 2,
+        bytes: 300,
+        ids,
+    }
+}
+
+/// The same number of records with more inputs each.
+fn wide(boxes: u64) -> Load {
+    Load {
+        mined: 0,
+        boxes,
+        ..full(Ids::Random)
+    }
+}
+
+fn ratio(name: &str, value: f64, most: f64) {
+    let verdict = if value <= most { "yes" } else { "no" };
+    println!("| {name} | {value:.2} | {most} | {verdict} |");
+}
+
+/// The ratios alone.
+pub fn ratios(enough: Duration) {
+    println!("| ratio of least times | is | at most | reached |\n|---|---:|---:|---|");
+    for (queued, most) in [(10, 0.7), (1_000, 1.0)] {
+        let mut lent = Lent::new(&plain(queued, Ids::Random), enough);
+        let (sound, copy) = (lent.sound().0, lent.copy().0);
+        ratio(
+            &format!("sound / copy, {queued} records"),
+            sound / copy,
+            most,
+        );
+    }
+    for (ids, name) in ALL {
+        let mut lent = Lent::new(&plain(1_000, ids), enough);
+        let (half, one) = (lent.reconcile(2, true).0, lent.reconcile(0, true).0);
+        let name = format!("reconcile, half unavailable / one found, {name}");
+        ratio(&name, half / one, 2.0);
+    }
+    let [few, many] = [32, 128].map(|boxes| Lent::new(&wide(boxes), enough).sound().0);
+    ratio("sound, 1,023 x 128 / 1,023 x 32 inputs", many / few, 6.0);
+}
+
+/// A full unit with each kind of ids, in milliseconds: least and median.
+pub fn full_units(enough: Duration) {
+    for (ids, name) in ALL {
+        println!("\n### A full unit at the top limits, {name}\n");
+        println!("| call | least, ms | median, ms |\n|---|---:|---:|");
+        for (call, (least, median)) in Lent::new(&full(ids), enough).every() {
+            println!("| {call} | {:.1} | {:.1} |", least * 1e3, median * 1e3);
+        }
+    }
+}
