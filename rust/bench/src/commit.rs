@@ -8,7 +8,7 @@ use pokerbox::{Height, InputId, Limits, OutputId, TimeMs, TxId};
 use reference::private_queue::inspect;
 use reference::private_queue::PrivateTransactionQueue;
 
-use crate::{median, Bench, Row};
+use crate::{time, Bench, Row, Time};
 
 impl Bench<'_> {
     /// A cancellation, written into the folder that the bench was given.
@@ -21,7 +21,7 @@ impl Bench<'_> {
     }
 
     /// The record is queued again before each run.
-    fn library_commit(&self) -> f64 {
+    fn library_commit(&self) -> Time {
         let folder = self.path.with_extension("store");
         let path = folder.join("image");
         std::fs::create_dir(&folder).expect("a folder for the store");
@@ -33,12 +33,12 @@ impl Bench<'_> {
             .borrow_mut()
             .cancel(given.id)
             .expect("a pending record");
-        let time = median(
+        let taken = time(
             || drop(store.borrow_mut().admit(&given).expect("admitted")),
             || drop(store.borrow_mut().cancel(given.id).expect("cancelled")),
         );
         std::fs::remove_dir_all(folder).expect("removed");
-        time
+        taken
     }
 
     fn admission_of_id(&self) -> pokerbox::Admission {
@@ -59,16 +59,16 @@ impl Bench<'_> {
         }
     }
 
-    fn oracle_commit(&self) -> f64 {
+    fn oracle_commit(&self) -> Time {
         let path = self.path.with_extension("commit.json");
         let mut oracle = PrivateTransactionQueue::default();
         inspect::set_path(&mut oracle, &path);
         let id = hex(&self.id);
-        let time = median(
+        let taken = time(
             || inspect::set_whole_store(&oracle, self.store.clone()),
             || drop(oracle.cancel(&id).expect("cancelled")),
         );
         std::fs::remove_file(path).expect("removed");
-        time
+        taken
     }
 }

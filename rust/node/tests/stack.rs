@@ -158,10 +158,16 @@ fn chained(queued: u64, mined: u64, tombstones: u64, ids: Ids) -> Lent {
     Lent::new(&mut Rng::new(1), queue)
 }
 
-/// 8,192 inputs. Ids chosen against the filter would make more suspects than the area's check has room for here.
+/// 8,192 inputs, whatever their ids.
 #[test]
 fn few_inputs() {
-    for ids in [Ids::Random, Ids::Chained] {
+    for ids in [
+        Ids::Random,
+        Ids::Front,
+        Ids::Ends,
+        Ids::Filter,
+        Ids::Chained,
+    ] {
         in_little_stack(chained(40, 24, 100, ids));
     }
 }
