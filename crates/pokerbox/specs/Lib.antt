@@ -4,4 +4,5 @@ pub mod Runs
 pub mod Theorem
 pub mod Refusals
 pub mod Refusing
+pub mod Before
 pub mod Examples
