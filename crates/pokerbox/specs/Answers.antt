@@ -1,8 +1,8 @@
 -- Each call on lent bytes answers and leaves what the plain machine works out; and what it works out is kept.
 use mathlib.Core.Path.{_≡_, refl}
-use mathlib.Core.Bool.{Bool, true, false, _||_}
+use mathlib.Core.Bool.{Bool, true, false, not, _||_}
 use mathlib.Core.Option.{Option, some}
-use mathlib.Core.List.{List, [], _++_}
+use mathlib.Core.List.{List, []}
 use Prim.Native.Nat.{ℕ, _+_, _<_, min}
 use lib.Dec.{ltb, leb}
 use lib.ListN.{length}
@@ -16,12 +16,12 @@ use Rattle.queue.specs.Areas.{readArea}
 use Rattle.queue.specs.Sounds.{Fit}
 use Rattle.queue.specs.Keeps.{Kept, Leaves, Wholly, setCursor-leaves, cancel-leaves, expire-leaves, reopen-leaves, cancel-wholly, expire-wholly, reopen-wholly}
 use Rattle.queue.specs.Admits.{admit-leaves, admit-wholly}
-use Rattle.queue.specs.Reconciles.{reconcile-leaves, Near, reconcile-near}
+use Rattle.queue.specs.Reconciles.{reconcile-leaves, Near, reconcile-near, reconcileTo}
 use Rattle.queue.specs.Arguments.{AdmitLent, admission-ok, ReconcileLent, reconciling-ok, given-id}
 use Rattle.queue.specs.paper.Records.{Bytes, Id, Rec, Queue}
-use Rattle.queue.specs.paper.Lists.{isSome, any?, map}
+use Rattle.queue.specs.paper.Lists.{isSome, any?, isEmpty?}
 use Rattle.queue.specs.paper.Sound.{need}
-use Rattle.queue.specs.paper.Changing.{Out, refused, done, top, topHeight, moved, Reconciling, touch, orElse, released, someReleased?, queuedOutputs, reconcileTo, reconcileOn, admit, cancel, expire, reconcile, reopen, setCursor}
+use Rattle.queue.specs.paper.Changing.{Out, refused, done, top, topHeight, moved, Reconciling, touch, admit, cancel, expire, reconcile, reopen, setCursor, ownOf, touchedRecs, toRelease}
 use Rattle.queue.specs.paper.Calls.{id?, items, given, entryBytes, idsBytes, releasedBytes, nothingBytes, Call, admitting, cancelling, expiring, reconciling, reopening, settingCursor, admission, reconciliation, shape?, overK?, worked, rules, work, onLent, callOf}
 use Rattle.pokerbox.specs.paper.Claim.{CallOk, mover}
 
@@ -70,17 +70,14 @@ SameRecs q (done Cursor x a) = x .recs ≡ q .recs
 
 reconcile-recs : (c : Reconciling) (q : Queue) → SameRecs q (reconcile c q)
 unfolding reconcile moved
-reconcile-recs c q = on (c .available ++ queuedOutputs (q .recs))
+reconcile-recs c q = go (any? (λ r. isSome (touch c (ownOf c q) r)) (q .recs)) (touchedRecs c q) (toRelease c q)
   where
     go : (changed : Bool) (l : List Rec) (ids : List Id) → SameRecs q (reconcileTo c q changed l ids)
     go changed l ids = cases (ltb top (q .counter + length ids))
         (λ t. rw t tt)
-        (λ t. cases (changed || someReleased? ids)
+        (λ t. cases (changed || not (isEmpty? ids))
         (λ u. rw (t, u) tt)
         (λ u. cases (leb (min (q .persisted + 32) topHeight) (c .height)) (λ v. rw (t, u, v)) (λ v. rw (t, u, v))))
-
-    on : (own : List Id) → SameRecs q (reconcileOn c q own)
-    on own = go (any? (λ r. isSome (touch c own r)) (q .recs)) (map (λ r. orElse r (touch c own r)) (q .recs)) (released c (q .limits) (map (λ r. orElse r (touch c own r)) (q .recs)))
 
 near-goods : {A : Type 0} (near : Bool) (q : Queue) (o : Out A) → Leaves q o → Near o → SameRecs q o → Goods near q o
 near-goods near q (refused n) h d e = tt

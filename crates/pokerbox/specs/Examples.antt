@@ -10,14 +10,15 @@ use Rattle.queue.specs.declared.Answer.{Answer}
 use Rattle.queue.specs.Codec.{All}
 use Rattle.queue.specs.paper.Records.{Bytes, Limits}
 use Rattle.queue.specs.paper.Lists.{map}
-use Rattle.queue.specs.paper.Ids.{cmpL}
+use Rattle.queue.specs.paper.Ids.{cmpL, rise?}
 use Rattle.queue.specs.paper.Sound.{inRange, need, used?, clash?}
 use Rattle.queue.specs.paper.Area.{termsBytes, placeBytes}
-use Rattle.queue.specs.paper.Changing.{committed, moved, newRec, admit, finished, finishThose, forget, cancel, reconcile, touch, releases, released}
-use Rattle.queue.specs.paper.Calls.{number, items, rise?, entryBytes, idsBytes, releasedBytes, Call, admitting, cancelling, reconciling, work}
+use Rattle.queue.specs.paper.Changing.{committed, moved, newRec, admit, finished, finishThose, forget, cancel, reconcile, touch, releases, touchedRecs, toRelease}
+use Rattle.queue.specs.paper.Calls.{number, items, entryBytes, idsBytes, releasedBytes, Call, admitting, cancelling, reconciling, work}
 use Rattle.pokerbox.specs.paper.Machine.{kept, failed, cutBefore, cutAfter, Lent, Step, call, cut, Told, run, Plain, restart, plainStep, World, worldStep}
-use Rattle.pokerbox.specs.paper.Claim.{Small, CallOk, movedLast, imageCursor, Holds, world, Claim}
-use Rattle.pokerbox.specs.Theorem.{the-claim, imageRoom, RoomyOk, roomy}
+use Rattle.pokerbox.specs.paper.Claim.{Small, CallOk, movedLast, Holds, Claim}
+use Rattle.pokerbox.specs.Runs.{imageCursor}
+use Rattle.pokerbox.specs.Theorem.{the-claim, imageRoom, RoomyOk, roomy, world}
 
 abbrev m : Limits
 m = record { P = 1; B = 4; T = 1; K = 1 }
@@ -100,7 +101,7 @@ all = (map numbers (run (plainStep m) start steps .0), map shown (take 4 steps �
 -- After four steps the bound is reached, 131 to 100. After the cut before the rename the record is pending still, at 100; at the
 -- end it is cancelled, and nothing is claimed of the cursor.
 plain-says : all ≡ (wanted, ((true, (131, 100)), 0 ∷ []) ∷ ((false, (100, 100)), 0 ∷ []) ∷ ((false, (132, 100)), 4 ∷ []) ∷ [])
-unfolding plainStep work admit cancel reconcile need clash? items used? entryBytes newRec termsBytes placeBytes committed cmpL rise? released releases touch releasedBytes idsBytes moved finished finishThose forget
+unfolding plainStep work admit cancel reconcile need clash? items used? entryBytes newRec termsBytes placeBytes committed cmpL rise? touchedRecs toRelease releases touch releasedBytes idsBytes moved finished finishThose forget
 plain-says = refl
 
 -- ---- the claim of this list

@@ -2,7 +2,6 @@ pub mod paper
 pub mod Answers
 pub mod Runs
 pub mod Theorem
-pub mod Refusals
 pub mod Refusing
 pub mod Before
 pub mod Examples

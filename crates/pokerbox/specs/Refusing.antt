@@ -1,9 +1,9 @@
 -- Demand 1: every exported call gives back the number of the first of its checks that holds, or its result; and a refusal other
--- than 17 leaves what is lent as it was (statements in Refusals).
+-- than 17 leaves what is lent as it was (statements in paper/Refusals).
 use mathlib.Core.Path.{_≡_, refl, ap, sym, _∙_}
 use mathlib.Core.Bool.{Bool, true, false, cond, not, _&&_, _||_}
 use mathlib.Core.Option.{Option, none, some}
-use mathlib.Core.List.{List, [], _∷_, _++_}
+use mathlib.Core.List.{List, [], _∷_}
 use Prim.Native.Nat.{ℕ, _+_, min}
 use native.Mathlib.Omega.{arith}
 use lib.Dec.{ltb, leb, eqb}
@@ -16,14 +16,15 @@ use Rattle.queue.specs.declared.Answer.the-variants.{Refused, Done}
 use Rattle.queue.specs.Codec.{cases}
 use Rattle.queue.specs.Lists.{and-true}
 use Rattle.queue.specs.Areas.{readArea, readImage}
+use Rattle.queue.specs.Reconciles.{reconcileTo}
 use Rattle.queue.specs.paper.Records.{Bytes, Id, Limits, Held, Rec, Queue}
-use Rattle.queue.specs.paper.Lists.{isSome, maybe, any?, count, find, map}
+use Rattle.queue.specs.paper.Lists.{isSome, maybe, any?, count, find, isEmpty?}
 use Rattle.queue.specs.paper.Sound.{inRange, need, holder?, pending?, mined?, labelLen, clash?}
 use Rattle.queue.specs.paper.Area.{imageBytes, over}
-use Rattle.queue.specs.paper.Changing.{Out, refused, done, top, topHeight, named?, reached?, Admission, pendings, pendingBytes, admitNew, admit, cancel, due?, expire, Reconciling, touch, orElse, released, someReleased?, queuedOutputs, reconcileTo, reconcile, listed?, reopen, setCursor}
+use Rattle.queue.specs.paper.Changing.{Out, refused, done, top, topHeight, named?, reached?, Admission, pendings, pendingBytes, admitNew, admit, cancel, due?, expire, Reconciling, touch, reconcile, listed?, reopen, setCursor, ownOf, touchedRecs, toRelease}
 use Rattle.queue.specs.paper.Calls.{id?, entryBytes, idsBytes, releasedBytes, nothingBytes, items, given, Call, admitting, cancelling, expiring, reconciling, reopening, settingCursor, AdmitArgs, admission, ReconcileArgs, reconciliation, shape?, overK?, Worked, worked, rules, work, nextArea, onLent, callOf, freshOf, soundOf, settleShape?, settleOf, readOf, numberOf, lookUp, entryOf, signedPart, signedBytesOf}
 use Rattle.image.specs.paper.Image.{imageOf, openOf}
-use Rattle.pokerbox.specs.Refusals.{Checks, firstOf, refusal, Answers, unsound?, on, answer, known?, toRelease, ruleChecks, callChecks, settleChecks, Demand1}
+use Rattle.pokerbox.specs.paper.Refusals.{Checks, firstOf, refusal, Answers, unsound?, on, answer, known?, ruleChecks, callChecks, settleChecks, Demand1}
 
 refused-17 : {n : ℕ} → Refused 17 ≡ Refused n → n ≡ 17
 refused-17 {n} e = let z : _≡_ {A = ℕ} 17 n = cc in sym z
@@ -127,7 +128,7 @@ expire-right now height q room = cases (any? (due? now height) (q .recs))
 reconcile-right : (a : ReconcileArgs) (q : Queue) (room : ℕ) → Right (rules (reconciling a) q room) (ruleChecks (reconciling a) q room)
 unfolding reconcile
 reconcile-right a q room =
-    to (any? (λ r. isSome (touch c (c .available ++ queuedOutputs (q .recs)) r)) (q .recs)) (map (λ r. orElse r (touch c (c .available ++ queuedOutputs (q .recs)) r)) (q .recs)) (toRelease c q)
+    to (any? (λ r. isSome (touch c (ownOf c q) r)) (q .recs)) (touchedRecs c q) (toRelease c q)
   where
     c : Reconciling
     c = reconciliation a
@@ -136,7 +137,7 @@ reconcile-right a q room =
         → Right (worked releasedBytes q room (reconcileTo (reconciliation a) q changed l ids)) ((15, ltb top (q .counter + length ids)) ∷ (4, ltb room (length (answer releasedBytes (reconcileTo (reconciliation a) q changed l ids)))) ∷ [])
     to changed l ids = cases (ltb top (q .counter + length ids))
         (λ t. rw t (first 15 releasedBytes q room _ refl))
-        (λ t. cases (changed || someReleased? ids)
+        (λ t. cases (changed || not (isEmpty? ids))
         (λ u. rw (t, u) (recheck (last releasedBytes q _ room Whole _) refl))
         (λ u. cases (leb (min (q .persisted + 32) topHeight) (reconciliation a .height))
         (λ v. rw (t, u, v) (recheck (last releasedBytes q _ room Cursor _) refl))

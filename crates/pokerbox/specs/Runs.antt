@@ -19,15 +19,29 @@ use Rattle.queue.specs.Plain.{image-plain}
 use Rattle.queue.specs.Sounds.{Fit, fit-sound, fit-ok}
 use Rattle.queue.specs.Bound.{fits-need, reads-size, fit-stands, fit-over, fit-image}
 use Rattle.queue.specs.Keeps.{fresh-fit, settled-fit}
+use Rattle.queue.specs.paper.Lists.{maybe}
 use Rattle.queue.specs.paper.Records.{Bytes, Limits, Queue}
 use Rattle.queue.specs.paper.Sound.{inRange, need}
 use Rattle.queue.specs.paper.Area.{areaBytes, imageBytes, over}
 use Rattle.queue.specs.paper.Changing.{moved}
-use Rattle.queue.specs.paper.Calls.{Call, Worked, work, nextArea, onLent, fresh, freshOf, settleOf}
+use Rattle.queue.specs.paper.Calls.{Call, Worked, work, nextArea, fresh, freshOf, settleOf, byKind}
 use Rattle.image.specs.paper.Image.{imageOf, openOf}
-use Rattle.pokerbox.specs.paper.Machine.{Fate, kept, failed, cutBefore, cutAfter, Lent, Step, call, cut, run, Plain, restart, settling, plainCall, plainStep, World, imageText, starts, restarted, settledIn, settlingBytes, worldCall, worldStep}
-use Rattle.pokerbox.specs.paper.Claim.{byAnswer, mover, movedBy, movedLast, imageCursor, images, TextOk, StepOk, StepsOk, CallOk}
+use Rattle.pokerbox.specs.paper.Machine.{Fate, kept, failed, cutBefore, cutAfter, Lent, Step, call, cut, run, Plain, restart, settling, plainStep, World, imageText, starts, restarted, settledIn, settlingBytes, worldStep, tells}
+use Rattle.pokerbox.specs.paper.Claim.{byAnswer, mover, movedBy, movedLast, StepOk, StepsOk, CallOk}
 use Rattle.pokerbox.specs.Answers.{Good, call-is, work-good}
+
+-- ---- names for what the claim says
+
+-- the image's cursor; the first file
+abbrev pub imageCursor : Option Queue → ℕ
+imageCursor o = maybe 0 (λ q. q .cursor) o
+
+abbrev pub images : Option Queue → Option Bytes
+images o = maybe none (λ q. some (imageBytes q)) o
+
+-- the output to the image writer is long enough, should a write be due
+abbrev pub TextOk : Answer → Queue → Bytes → Type 0
+TextOk a next text = byKind a false false true true ≡ true → length (imageBytes next) ≤ length text
 
 -- ---- the parts of a step
 
@@ -230,7 +244,9 @@ module _ (m : Limits) (range : inRange m ≡ true) (old : Bool) (p : Plain) (w :
       rw (call-is c (w .area) (l .next) (l .out) (p .queue) cur-reads) (tell (work c (p .queue) (length (l .next)) (length (l .out))) g t)
     where
       tell : (k : Worked) → Good (mover c (p .queue) old) (p .queue) (k .answer) (k .next) → TextOk (k .answer) (k .next) (l .text)
-          → Same m (byAnswer old (mover c (p .queue) old) fate (k .answer)) (plainCall m p (l .out) fate k) (worldCall m w l fate (onLent (l .next) (l .out) k))
+          → Same m (byAnswer old (mover c (p .queue) old) fate (k .answer))
+          (tells (k .answer) (over (k .bytes) (l .out)) (settling m p (k .next) fate (k .answer)))
+          (tells (k .answer) (over (k .bytes) (l .out)) (settlingBytes m w l (nextArea (k .answer) (k .next) (l .next)) fate (k .answer)))
       tell k g t =
           let s = settle-same (mover c (p .queue) old) (k .answer) (k .next) fate g t in
           record { told = ap (λ z. record { answer = k .answer; out = over (k .bytes) (l .out); settled = z }) (s .told); inv = s .inv; rep = s .rep }

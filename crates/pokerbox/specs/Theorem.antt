@@ -29,11 +29,11 @@ use Rattle.queue.specs.paper.Lists.{filter, map}
 use Rattle.queue.specs.paper.Sound.{inRange, need, among?, different?}
 use Rattle.queue.specs.paper.Area.{areaBytes, over}
 use Rattle.queue.specs.paper.Reading.{first?, selected?, selectedAt, selectionAt}
-use Rattle.queue.specs.paper.Calls.{work, fresh, readOf, selectionAtOf}
+use Rattle.queue.specs.paper.Calls.{work, fresh, readOf, selectionAtOf, freshOf}
 use Rattle.pokerbox.specs.paper.Machine.{Step, call, cut, Told, run, Plain, restart, plainStep, World, worldStep, starts}
-use Rattle.pokerbox.specs.paper.Claim.{CallOk, TextOk, StepOk, StepsOk, mover, movedBy, movedLast, images, Holds, world, Claim, Template, Templates}
+use Rattle.pokerbox.specs.paper.Claim.{CallOk, StepOk, StepsOk, mover, movedBy, movedLast, Holds, Claim, Template, Templates}
 use Rattle.pokerbox.specs.Answers.{Good, work-good}
-use Rattle.pokerbox.specs.Runs.{image-room, fresh-is, starts-is, Inv, Same, restart-inv, step-same, run-same}
+use Rattle.pokerbox.specs.Runs.{image-room, fresh-is, starts-is, Inv, Same, restart-inv, step-same, run-same, images, TextOk}
 
 -- what holds between steps is what is claimed
 same-holds : (m : Limits) (xs : List Step) (v : List Told × World) (p : List Told × Plain) → inRange m ≡ true
@@ -61,6 +61,10 @@ same-holds m xs v p range s =
       tombstones = let z = f .fewTombs in omega arith;
       cursor = λ e. let z = i .close e in omega arith;
     }
+
+-- where the list begins
+abbrev pub world : Limits → Bytes → Option Bytes → World
+world m first second = record { area = freshOf m first .1; file = none; second = second }
 
 -- after every list
 all-same : (m : Limits) (first : Bytes) (second : Option Bytes) (xs : List Step) → inRange m ≡ true → need m ≤ length first → StepsOk m (restart m none) xs

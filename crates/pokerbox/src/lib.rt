@@ -33,8 +33,8 @@ ghost use mathlib.Core.List.{[], _++_};
 ghost use Prim.Native.Nat.{_≤_};
 ghost use Rattle.queue.specs.Codec.{be};
 ghost use Rattle.queue.specs.Opens.{limits};
-ghost use Rattle.queue.specs.paper.Lists.{one};
-ghost use Rattle.queue.specs.paper.Reading.{isEmpty?, deadlineDue?, recordIds, guardedIds, reservedInputs, dueStates, confirmations};
+ghost use Rattle.queue.specs.paper.Lists.{one, isEmpty?};
+ghost use Rattle.queue.specs.paper.Reading.{deadlineDue?, recordIds, guardedIds, reservedInputs, dueStates, confirmations};
 ghost use Rattle.queue.specs.paper.Calls.{number, kindNumber, gives, counted, entryBytes, idsBytes, placedBytes, dueBytes, cursorBytes, admitArgs, reconcileArgs, admitting, cancelling, expiring, reconciling, reopening, settingCursor, callOf, freshOf, soundOf, settleOf, readOf, numberOf, entryOf, signedBytesOf, selectionAtOf};
 ghost use Rattle.image.specs.paper.Image.{imageOf, openOf};
 

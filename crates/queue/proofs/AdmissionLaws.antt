@@ -33,10 +33,10 @@ use Rattle.queue.specs.ReadingAs.{FoundAs, EntryIn, entryAt, entryLen}
 use Rattle.queue.specs.Reopens.{IdsIn, idsAt}
 use Rattle.queue.specs.Admitting.{argsOf, newOf, TermsFit, HeldFit, withR, WithFrom, WithTo, roomOf, RoomIs, entryNewLen, NumbersFit, AskedIn, FreeOf, TipFor, NewTold, FoundTold, AdmitTold, ListsAre, FlagsAre, LentIn}
 use Rattle.queue.specs.paper.Records.{Bytes, Id, Rec, Queue}
-use Rattle.queue.specs.paper.Lists.{find}
+use Rattle.queue.specs.paper.Lists.{find, isEmpty?}
 use Rattle.queue.specs.paper.Sound.{need, pending?, mined?, labelLen, clash?}
 use Rattle.queue.specs.paper.Area.{areaBytes, over}
-use Rattle.queue.specs.paper.Changing.{Out, refused, done, named?, reached?, Admission, newRec, committed, cursorAfter, tipAfter, pendings, pendingBytes, admitNew, admitFound, admit}
+use Rattle.queue.specs.paper.Changing.{Out, refused, done, named?, reached?, Admission, newRec, committed, pendings, pendingBytes, admitNew, admit}
 use Rattle.queue.specs.Checked.{Outcome, outcome, told, admitShape?, admitOf}
 use Rattle.queue.specs.paper.Calls.{id?, whole?, items, flag?, given, givenId?, AdmitArgs, admission, overK?, entryBytes}
 use Rattle.queue.specs.declared.Kind.the-variants.{Nothing, Whole}
@@ -65,6 +65,13 @@ tip-asked s h {i} x tip k e l f z w o = rw (le-ltb 0 (h .count) k, eq-eqb (x .ti
 pub tip-none : (s : Bytes) (h : HeadR) (x : Asked) (tip : Bytes) → h .count ≤ 0 → (x .tipflag ≡ 1 → ⊥) → (z : Head) → HeadAs (view false s 4) h z → optC idC .ok (z .tip)
     → (x .tipheight .0 ≡ cond (ltb 0 (h .count)) (z .cursor) (x .tipheight .0)) × (none ≡ cond (ltb 0 (h .count)) (z .tip) (given (x .tipflag) tip))
 tip-none s h x tip k e z w o = rw (le-ltb 0 (h .count) k, ne-eqb (x .tipflag) 1 e) (refl, refl)
+
+-- "If there were no records, the cursor becomes the given tip."
+abbrev cursorAfter : Admission → Queue → List Rec → ℕ
+cursorAfter a q l = cond (isEmpty? l) (a .tipHeight) (q .cursor)
+
+abbrev tipAfter : Admission → Queue → List Rec → Option Id
+tipAfter a q l = cond (isEmpty? l) (a .tip) (q .tip)
 
 cursor-is : (a : Admission) (q : Queue) (l : List Rec) → cursorAfter a q l ≡ cond (ltb 0 (length l)) (q .cursor) (a .tipHeight)
 cursor-is a q [] = refl

@@ -14,9 +14,9 @@ use Rattle.queue.specs.Facts.{factsOf}
 use Rattle.queue.specs.Rules.{rightF, weight, sum}
 use Rattle.queue.specs.Sums.{noSums, Under, Added, SumsAs, Checked}
 use Rattle.queue.specs.paper.Records.{Bytes, Id, Rec}
-use Rattle.queue.specs.paper.Lists.{all?}
-use Rattle.queue.specs.paper.Ids.{cmpL}
-use Rattle.queue.specs.paper.Sound.{right?, rising?}
+use Rattle.queue.specs.paper.Lists.{all?, map}
+use Rattle.queue.specs.paper.Ids.{cmpL, rise?}
+use Rattle.queue.specs.paper.Sound.{right?}
 use Rattle.queue.specs.declared.frame.Facts.{Facts}
 use Rattle.queue.specs.declared.frame.Finish.{Finish}
 use Rattle.queue.specs.declared.frame.Seen.{Seen}
@@ -39,8 +39,8 @@ unfoldable chain? : Id → List Rec → Bool
 chain? p [] = true
 chain? p (r ∷ l) = eqb (cmpL p (r .id)) 0 && chain? (r .id) l
 
-rising-chain : (r : Rec) (l : List Rec) → rising? (r ∷ l) ≡ chain? (r .id) l
-unfolding rising? chain?
+rising-chain : (r : Rec) (l : List Rec) → rise? (map (λ r. r .id) (r ∷ l)) ≡ chain? (r .id) l
+unfolding rise? chain?
 rising-chain r [] = refl
 rising-chain r (x ∷ l) = rw (rising-chain x l)
 
@@ -53,8 +53,8 @@ unfolding risesFrom chain?
 rises-chain b p [] = sym (and-one b)
 rises-chain b p (r ∷ l) = rises-chain (b && eqb (cmpL p (r .id)) 0) (r .id) l ∙ and-assoc b (eqb (cmpL p (r .id)) 0) (chain? (r .id) l)
 
-rises-start : (p : Id) (l : List Rec) → risesFrom true true p l ≡ rising? l
-unfolding risesFrom rising?
+rises-start : (p : Id) (l : List Rec) → risesFrom true true p l ≡ rise? (map (λ r. r .id) l)
+unfolding risesFrom rise?
 rises-start p [] = refl
 rises-start p (r ∷ l) = rises-chain true (r .id) l ∙ sym (rising-chain r l)
 
@@ -65,7 +65,7 @@ pub record Rest (k : ℕ) (c : Finish) (a : Sums) (prev : Id) (first : Bool) (l 
   pub mined : a .mined + sum MinedHolders l ≡ sum MinedHolders all
   pub minedbytes : a .minedbytes + sum MinedBytes l ≡ sum MinedBytes all
   pub right : (a .right && all? (right? k (c .0)) l) ≡ all? (right? k (c .0)) all
-  pub rises : risesFrom first (a .rises) prev l ≡ rising? all
+  pub rises : risesFrom first (a .rises) prev l ≡ rise? (map (λ r. r .id) all)
 
 right-facts : (k c : ℕ) (r : Rec) → rightF k c (factsOf r) ≡ right? k c r
 unfolding rightF factsOf right?

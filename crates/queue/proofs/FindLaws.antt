@@ -20,9 +20,8 @@ use Rattle.queue.specs.Reads.{whole, listAt, isGot, valOf}
 use Rattle.queue.specs.ReadLaws.{false-true}
 use Rattle.queue.specs.paper.Records.{Bytes, Id}
 use Rattle.queue.specs.paper.Lists.{concat}
-use Rattle.queue.specs.paper.Ids.{cmpL, below?, same?}
+use Rattle.queue.specs.paper.Ids.{cmpL, below?, same?, rise?}
 use Rattle.queue.specs.paper.Sound.{among?}
-use Rattle.queue.specs.paper.Calls.{rise?}
 
 -- ---- the id at a place
 piece-at : (l : List Id) (r : Bytes) (m : ℕ) → All (idC .ok) l → m < length l → (take 32 (drop (32 * m) (concat l ++ r)) ≡ getD l m []) × (32 * m + 32 ≤ length (concat l ++ r))

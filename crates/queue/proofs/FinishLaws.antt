@@ -28,7 +28,7 @@ use Rattle.queue.specs.paper.Lists.{one, total, count, filter}
 use Rattle.queue.specs.paper.Ids.{cmpL}
 use Rattle.queue.specs.paper.Area.{termsBytes, placeBytes, recBytes}
 use Rattle.queue.specs.paper.Sound.{holder?, tombstones}
-use Rattle.queue.specs.paper.Changing.{named?, due?, reached?, finished, finishThose, higher, stays?, forget}
+use Rattle.queue.specs.paper.Changing.{named?, due?, reached?, finished, finishThose, higher, forget}
 use Rattle.queue.specs.Finishing.{picked, pickedS, fateOf, stepL, stepCount, one?, walkL, finBytes, stepBytes, Floors, newAbove, above}
 use Rattle.queue.specs.declared.frame.Seen.{Seen}
 use Rattle.queue.specs.declared.frame.Finish.{Finish}

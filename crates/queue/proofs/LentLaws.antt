@@ -19,8 +19,8 @@ use Rattle.queue.specs.Touching.{entryIds}
 use Rattle.queue.specs.Lent.{EntriesAre, IdsAre, ReconcileAsked}
 use Rattle.queue.specs.paper.Records.{Bytes, Id}
 use Rattle.queue.specs.paper.Lists.{map}
-use Rattle.queue.specs.paper.Ids.{cmpL, below?}
-use Rattle.queue.specs.paper.Calls.{id?, whole?, flag?, items, rise?}
+use Rattle.queue.specs.paper.Ids.{cmpL, below?, rise?}
+use Rattle.queue.specs.paper.Calls.{id?, whole?, flag?, items}
 use Rattle.queue.proofs.AdmissionLaws.{long-is, small-of}
 use Rattle.queue.proofs.ReopenLaws.{lent-whole, lent-in, lent-are}
 

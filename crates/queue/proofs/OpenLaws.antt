@@ -21,9 +21,10 @@ use Rattle.queue.specs.Facts.{factsOf, HeadAs}
 use Rattle.queue.specs.Rules.{weight, sum}
 use Rattle.queue.specs.Sums.{SumsAs, countsN}
 use Rattle.queue.specs.Opens.{limits, StoreAs, soundL, sound-list, filledBy, FilledAs, AreaAs, AreaIs}
+use Rattle.queue.specs.paper.Ids.{rise?}
 use Rattle.queue.specs.paper.Records.{Bytes, Limits, Rec, Queue}
-use Rattle.queue.specs.paper.Lists.{one, all?}
-use Rattle.queue.specs.paper.Sound.{inRange, need, holder?, holders, holderBytes, minedHolders, minedBytes, tombstones, right?, counts?, rising?, distinct?, apart?, sound?}
+use Rattle.queue.specs.paper.Lists.{one, all?, map}
+use Rattle.queue.specs.paper.Sound.{inRange, need, holder?, holders, holderBytes, minedHolders, minedBytes, tombstones, right?, counts?, distinct?, apart?, sound?}
 use Rattle.queue.specs.declared.frame.HeadR.{HeadR}
 use Rattle.queue.specs.declared.frame.Finish.{Finish}
 use Rattle.queue.specs.declared.area.Open.{Open}
@@ -127,7 +128,7 @@ module _ (p b t k n : ℕ) (c : Finish) (a : Sums) (l : List Rec) (s : SumsAs k 
     module _ (f : x ≡ true) {y : Bool} (h : y ≡ (a .right && a .rises)) where
       pub sound-wrong : y ≡ false → false ≡ soundL (limits p b t k) (c .0) l
       unfolding soundL
-      sound-wrong z = rw (r, sym counts-is ∙ sym e ∙ f) (deny (all? (right? k (c .0)) l) (rising? l) (distinct? l && apart? l) (sym (h ∙ two (s .right) (s .rises)) ∙ z))
+      sound-wrong z = rw (r, sym counts-is ∙ sym e ∙ f) (deny (all? (right? k (c .0)) l) (rise? (map (λ r. r .id) l)) (distinct? l && apart? l) (sym (h ∙ two (s .right) (s .rises)) ∙ z))
         where
           two : {u v u′ v′ : Bool} → u ≡ u′ → v ≡ v′ → (u && v) ≡ (u′ && v′)
           two i j = rw (i, j)

@@ -24,7 +24,7 @@ use Rattle.queue.specs.Rules.{dueF}
 use Rattle.queue.specs.ReadingAs.{entryAt, entryLen, EntryIn}
 use Rattle.queue.specs.PiecesAs.{passesF, passes?, pieceOf, partOf, piecesOf, answerBytes, toldPieces, pieceAt, pieceLen, PieceIn, MeasureAs}
 use Rattle.queue.specs.paper.Records.{Bytes, Id, Rec, Queue}
-use Rattle.queue.specs.paper.Lists.{isSome, one, count, filter, map, concat}
+use Rattle.queue.specs.paper.Lists.{isSome, one, count, filter, map, concat, maybe}
 use Rattle.queue.specs.paper.Area.{placeBytes, flagged}
 use Rattle.queue.specs.paper.Sound.{holder?, mined?}
 use Rattle.queue.specs.paper.Changing.{due?}
@@ -264,10 +264,10 @@ due-told t h s out = reads-same (λ q. answerBytes (DueBy t h) (q .recs)) (λ q.
     (λ q. let i = due-each t h (q .recs) in glue (i .0) (i .1))
 
 abbrev confList : List Rec → List (Id × (ℕ × Id))
-confList l = concat (map (λ r. reading.confirmationOf (r .id) (r .place)) (filter mined? l))
+confList l = concat (map (λ r. maybe [] (λ p. (r .id, p) ∷ []) (r .place)) (filter mined? l))
 
 conf-one : (i : Id) (o : Option (ℕ × Id)) (n : ℕ) (b : Bytes) (l : List (Id × (ℕ × Id))) → n ≡ length l → b ≡ concat (map placedBytes l)
-    → (one (isSome o) + n ≡ length (reading.confirmationOf i o ++ l)) × (cond (isSome o) (i ++ drop 1 (placeBytes o)) [] ++ b ≡ concat (map placedBytes (reading.confirmationOf i o ++ l)))
+    → (one (isSome o) + n ≡ length (maybe [] (λ p. (i, p) ∷ []) o ++ l)) × (cond (isSome o) (i ++ drop 1 (placeBytes o)) [] ++ b ≡ concat (map placedBytes (maybe [] (λ p. (i, p) ∷ []) o ++ l)))
 unfolding placeBytes
 conf-one i none n b l e f = (omega arith, f)
 conf-one i (some p) n b l e f = (omega arith, ap (λ y. (i ++ (codec.be 4 (p .0) ++ p .1)) ++ y) f)

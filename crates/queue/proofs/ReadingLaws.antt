@@ -26,12 +26,11 @@ use Rattle.queue.specs.Opens.{AreaAs, AreaIs}
 use Rattle.queue.specs.Ids.{part}
 use Rattle.queue.specs.ReadingAs.{Here, FoundAs, FoundEnd, Look, off, hit, lookRec, lookIn, lookOf, LookAs, PlaceAs, partIn, EntryIn, entryAt, entryLen}
 use Rattle.queue.specs.paper.Records.{Bytes, Id, Terms, Held, Rec, Queue}
-use Rattle.queue.specs.paper.Lists.{isSome, maybe, one, any?, find, concat}
+use Rattle.queue.specs.paper.Lists.{isSome, maybe, one, any?, find, concat, isEmpty?}
 use Rattle.queue.specs.paper.Ids.{cmpL}
 use Rattle.queue.specs.paper.Sound.{inputs, content, labelLen, pending?}
 use Rattle.queue.specs.paper.Area.{over, termsBytes, placeBytes, headBytes, recBytes, flagged, heldBytes}
 use Rattle.queue.specs.paper.Changing.{named?, reached?, due?}
-use Rattle.queue.specs.paper.Reading.{isEmpty?}
 use Rattle.queue.specs.Checked.{Written, written}
 use Rattle.queue.specs.paper.Calls.{id?, entryBytes, cursorBytes, toldOut, lookUp, entryOf, endOf, signedPart, signedBytesOf, numberOf, readOf}
 use Rattle.queue.specs.declared.Kind.{Kind}

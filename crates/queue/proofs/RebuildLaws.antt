@@ -31,11 +31,11 @@ use Rattle.queue.specs.Releasing.{nextV, nextL}
 use Rattle.queue.specs.Reconciles.{place-le}
 use Rattle.queue.specs.Rebuilding.{stateN, reasonN, markN, placeN, placeLen, tailN, tailLen, nextBytes, nextLen, stayF, stepN, numberN, numbered, stayR, keptOf, keptL}
 use Rattle.queue.specs.paper.Records.{Bytes, Id, Held, Rec, mined}
-use Rattle.queue.specs.paper.Lists.{isSome, one, filter, map}
+use Rattle.queue.specs.paper.Lists.{isSome, one, filter, map, maybe}
 use Rattle.queue.specs.paper.Ids.{cmpL, same?}
 use Rattle.queue.specs.paper.Sound.{holder?}
 use Rattle.queue.specs.paper.Area.{beVal, flagged, termsBytes, placeBytes, heldBytes, recBytes}
-use Rattle.queue.specs.paper.Changing.{confirm, judged, orElse, finished, onePast, placeIn, releaseOne}
+use Rattle.queue.specs.paper.Changing.{confirm, finished, onePast, placeIn, releaseOne}
 use Rattle.queue.specs.declared.frame.Seen.{Seen}
 use Rattle.queue.specs.declared.frame.Facts.{Facts}
 use Rattle.queue.specs.declared.touch.Verdict.{Verdict}
@@ -213,41 +213,41 @@ next-long s base x t v n p w =
 -- ---- the bytes of a record after its verdict
 module _ (t : Bytes) (v : Verdict) (r : Rec) where
   abbrev R′ : Rec
-  R′ = orElse r (asTouched t v r)
+  R′ = maybe r (λ y. y) (asTouched t v r)
 
   to-state : R′ .state ≡ cond (eqb (v .what) 0) (r .state) (cond (eqb (v .what) 1) 2 (cond (eqb (v .what) 2) 0 3))
-  unfolding asTouched confirm judged
+  unfolding asTouched confirm
   to-state = cases (eqb (v .what) 0) (λ a. rw a) (λ a. cases (eqb (v .what) 1) (λ b. rw (a, b)) (λ b. cases (eqb (v .what) 2) (λ c. rw (a, b, c)) (λ c. rw (a, b, c))))
 
   to-reason : R′ .reason ≡ cond (eqb (v .what) 0) (r .reason) (cond (eqb (v .what) 1) 0 (cond (eqb (v .what) 2) 0 5))
-  unfolding asTouched confirm judged
+  unfolding asTouched confirm
   to-reason = cases (eqb (v .what) 0) (λ a. rw a) (λ a. cases (eqb (v .what) 1) (λ b. rw (a, b)) (λ b. cases (eqb (v .what) 2) (λ c. rw (a, b, c)) (λ c. rw (a, b, c))))
 
   one-not : eqb (v .what) 0 ≡ true → eqb (v .what) 1 ≡ false
   one-not a = let z = eqb-true (v .what) 0 a in ne-eqb (v .what) 1 (λ e. let y : ⊥ = omega arith in y)
 
   to-mark : R′ .mark ≡ cond (eqb (v .what) 1 && (eqb (r .state) 4 || eqb (r .state) 5)) (r .state) (r .mark)
-  unfolding asTouched confirm judged
+  unfolding asTouched confirm
   to-mark = cases (eqb (v .what) 0) (λ a. rw (a, one-not a)) (λ a. cases (eqb (v .what) 1) (λ b. rw (a, b)) (λ b. cases (eqb (v .what) 2) (λ c. rw (a, b, c)) (λ c. rw (a, b, c))))
 
   to-place : R′ .place ≡ cond (eqb (v .what) 1) (some (entryIn t (v .at) .height, entryIn t (v .at) .block)) (r .place)
-  unfolding asTouched confirm judged
+  unfolding asTouched confirm
   to-place = cases (eqb (v .what) 0) (λ a. rw (a, one-not a)) (λ a. cases (eqb (v .what) 1) (λ b. rw (a, b)) (λ b. cases (eqb (v .what) 2) (λ c. rw (a, b, c)) (λ c. rw (a, b, c))))
 
   pub to-id : R′ .id ≡ r .id
-  unfolding asTouched confirm judged
+  unfolding asTouched confirm
   to-id = cases (eqb (v .what) 0) (λ a. rw a) (λ a. cases (eqb (v .what) 1) (λ b. rw (a, b)) (λ b. cases (eqb (v .what) 2) (λ c. rw (a, b, c)) (λ c. rw (a, b, c))))
 
   to-terms : R′ .terms ≡ r .terms
-  unfolding asTouched confirm judged
+  unfolding asTouched confirm
   to-terms = cases (eqb (v .what) 0) (λ a. rw a) (λ a. cases (eqb (v .what) 1) (λ b. rw (a, b)) (λ b. cases (eqb (v .what) 2) (λ c. rw (a, b, c)) (λ c. rw (a, b, c))))
 
   pub to-finish : R′ .finish ≡ r .finish
-  unfolding asTouched confirm judged
+  unfolding asTouched confirm
   to-finish = cases (eqb (v .what) 0) (λ a. rw a) (λ a. cases (eqb (v .what) 1) (λ b. rw (a, b)) (λ b. cases (eqb (v .what) 2) (λ c. rw (a, b, c)) (λ c. rw (a, b, c))))
 
   pub to-body : R′ .body ≡ r .body
-  unfolding asTouched confirm judged
+  unfolding asTouched confirm
   to-body = cases (eqb (v .what) 0) (λ a. rw a) (λ a. cases (eqb (v .what) 1) (λ b. rw (a, b)) (λ b. cases (eqb (v .what) 2) (λ c. rw (a, b, c)) (λ c. rw (a, b, c))))
 
 -- the parts of a record that is written with the number n
@@ -327,7 +327,7 @@ entry-bytes t p h w =
 
 module _ (s : Bytes) (base : ℕ) (x : Seen) (t : Bytes) (v : Verdict) (n : ℕ) (r : Rec) (w : SeenOf s base x r) (h : v .what ≡ 1 → v .at + 68 ≤ length t) (S : Small t) where
   abbrev N : Rec
-  N = numbered n (orElse r (asTouched t v r))
+  N = numbered n (maybe r (λ y. y) (asTouched t v r))
 
   own-place : take (x .mark - x .after) (drop (base + x .after) s) ≡ placeBytes (r .place)
   unfolding view
@@ -336,32 +336,32 @@ module _ (s : Bytes) (base : ℕ) (x : Seen) (t : Bytes) (v : Verdict) (n : ℕ)
   n-place : placeN s base x t v ≡ placeBytes (N .place)
   unfolding placeN
   n-place = cases (eqb (v .what) 1)
-      (λ a. rw a (entry-bytes t (v .at) (h (eqb-true (v .what) 1 a)) S) ∙ ap placeBytes (sym (num-place n (orElse r (asTouched t v r)) ∙ to-place t v r ∙ ap (λ b. cond b (some (entryIn t (v .at) .height, entryIn t (v .at) .block)) (r .place)) a)))
-      (λ a. rw a own-place ∙ ap placeBytes (sym (num-place n (orElse r (asTouched t v r)) ∙ to-place t v r ∙ ap (λ b. cond b (some (entryIn t (v .at) .height, entryIn t (v .at) .block)) (r .place)) a)))
+      (λ a. rw a (entry-bytes t (v .at) (h (eqb-true (v .what) 1 a)) S) ∙ ap placeBytes (sym (num-place n (maybe r (λ y. y) (asTouched t v r)) ∙ to-place t v r ∙ ap (λ b. cond b (some (entryIn t (v .at) .height, entryIn t (v .at) .block)) (r .place)) a)))
+      (λ a. rw a own-place ∙ ap placeBytes (sym (num-place n (maybe r (λ y. y) (asTouched t v r)) ∙ to-place t v r ∙ ap (λ b. cond b (some (entryIn t (v .at) .height, entryIn t (v .at) .block)) (r .place)) a)))
 
   n-state : stateN (v .what) n (x .facts) ≡ N .state
   unfolding stateN factsOf
-  n-state = ap (λ f. stateN (v .what) n f) (w .0 .facts) ∙ sym (num-state n (orElse r (asTouched t v r)) ∙ ap (λ k. cond (eqb n 0) k 2) (to-state t v r))
+  n-state = ap (λ f. stateN (v .what) n f) (w .0 .facts) ∙ sym (num-state n (maybe r (λ y. y) (asTouched t v r)) ∙ ap (λ k. cond (eqb n 0) k 2) (to-state t v r))
 
   n-reason : reasonN (v .what) n (x .facts) ≡ N .reason
   unfolding reasonN factsOf
-  n-reason = ap (λ f. reasonN (v .what) n f) (w .0 .facts) ∙ sym (num-reason n (orElse r (asTouched t v r)) ∙ ap (λ k. cond (eqb n 0) k 0) (to-reason t v r))
+  n-reason = ap (λ f. reasonN (v .what) n f) (w .0 .facts) ∙ sym (num-reason n (maybe r (λ y. y) (asTouched t v r)) ∙ ap (λ k. cond (eqb n 0) k 0) (to-reason t v r))
 
   n-mark : markN (v .what) (x .facts) ≡ N .mark
   unfolding markN factsOf
-  n-mark = ap (λ f. markN (v .what) f) (w .0 .facts) ∙ sym (num-mark n (orElse r (asTouched t v r)) ∙ to-mark t v r)
+  n-mark = ap (λ f. markN (v .what) f) (w .0 .facts) ∙ sym (num-mark n (maybe r (λ y. y) (asTouched t v r)) ∙ to-mark t v r)
 
   n-id : x .id ≡ N .id
-  n-id = w .0 .id ∙ sym (num-id n (orElse r (asTouched t v r)) ∙ to-id t v r)
+  n-id = w .0 .id ∙ sym (num-id n (maybe r (λ y. y) (asTouched t v r)) ∙ to-id t v r)
 
   n-terms : take (x .after - 35) (drop (base + 35) s) ≡ termsBytes (N .terms)
-  n-terms = terms-part s base (w .0) ∙ ap termsBytes (sym (num-terms n (orElse r (asTouched t v r)) ∙ to-terms t v r))
+  n-terms = terms-part s base (w .0) ∙ ap termsBytes (sym (num-terms n (maybe r (λ y. y) (asTouched t v r)) ∙ to-terms t v r))
 
   n-tail : n < 256 ^ 8 → tailN s base x n ≡ codec.be 8 (N .finish) ++ flagged heldBytes (N .body)
   unfolding tailN
   n-tail l = cases (eqb n 0)
-      (λ a. rw a (tail-part s base (w .0)) ∙ two (sym (num-finish n (orElse r (asTouched t v r)) ∙ ap (λ b. cond b (orElse r (asTouched t v r) .finish) n) a ∙ to-finish t v r)) (sym (num-body n (orElse r (asTouched t v r)) ∙ ap (λ b. cond b (orElse r (asTouched t v r) .body) none) a ∙ to-body t v r)))
-      (λ a. rw a (ap (λ (y : Bytes). y ++ (0 ∷ [])) (be-same 8 n l)) ∙ two (sym (num-finish n (orElse r (asTouched t v r)) ∙ ap (λ b. cond b (orElse r (asTouched t v r) .finish) n) a)) (sym (num-body n (orElse r (asTouched t v r)) ∙ ap (λ b. cond b (orElse r (asTouched t v r) .body) none) a)))
+      (λ a. rw a (tail-part s base (w .0)) ∙ two (sym (num-finish n (maybe r (λ y. y) (asTouched t v r)) ∙ ap (λ b. cond b (maybe r (λ y. y) (asTouched t v r) .finish) n) a ∙ to-finish t v r)) (sym (num-body n (maybe r (λ y. y) (asTouched t v r)) ∙ ap (λ b. cond b (maybe r (λ y. y) (asTouched t v r) .body) none) a ∙ to-body t v r)))
+      (λ a. rw a (ap (λ (y : Bytes). y ++ (0 ∷ [])) (be-same 8 n l)) ∙ two (sym (num-finish n (maybe r (λ y. y) (asTouched t v r)) ∙ ap (λ b. cond b (maybe r (λ y. y) (asTouched t v r) .finish) n) a)) (sym (num-body n (maybe r (λ y. y) (asTouched t v r)) ∙ ap (λ b. cond b (maybe r (λ y. y) (asTouched t v r) .body) none) a)))
     where
       two : {a a′ : ℕ} {b b′ : Option Held} → a ≡ a′ → b ≡ b′ → codec.be 8 a ++ flagged heldBytes b ≡ codec.be 8 a′ ++ flagged heldBytes b′
       two e f = cc
@@ -475,7 +475,7 @@ module _ (s : Bytes) (at n : ℕ) (t : Bytes) (vs : List ℕ) (gone : List ℕ) 
         r = rebuild-turn .item
 
         abbrev y : Rec
-        y = orElse r (asTouched t v r)
+        y = maybe r (λ y. y) (asTouched t v r)
 
         pub within-t : v .what ≡ 1 → v .at + 68 ≤ length t
         within-t = verdict-within t (getD vs j 0) eV (all-at (InEntry t) vs j E (omega (arith, g .index)))
@@ -483,7 +483,7 @@ module _ (s : Bytes) (at n : ℕ) (t : Bytes) (vs : List ℕ) (gone : List ℕ) 
         y-id : y .id ≡ x .id
         y-id = to-id t v r ∙ sym (rebuild-turn .is .0 .id)
 
-        done-is : releaseOne c (map (idAt s) gone) y ≡ numbered m (orElse r (asTouched t v r))
+        done-is : releaseOne c (map (idAt s) gone) y ≡ numbered m (maybe r (λ y. y) (asTouched t v r))
         done-is =
             number-is c (map (idAt s) gone) y
             ∙ ap (λ z. numbered z y) (ap (λ z. numberN c (placeIn z (map (idAt s) gone))) y-id ∙ ap (numberN c) (sym e) ∙ sym f)
@@ -491,7 +491,7 @@ module _ (s : Bytes) (at n : ℕ) (t : Bytes) (vs : List ℕ) (gone : List ℕ) 
         stay-is : stayR floor (releaseOne c (map (idAt s) gone) y) ≡ stay
         unfolding stayF factsOf
         stay-is =
-            let Y = orElse r (asTouched t v r) in
+            let Y = maybe r (λ y. y) (asTouched t v r) in
             ap (stayR floor) done-is ∙ sym (h ∙ ap (λ z. stayF m floor z) (rebuild-turn .is .0 .facts) ∙ cases (eqb m 0)
             (λ a. rw a (sym (two (ap (λ b. isSome b) (num-body m Y ∙ ap (λ b. cond b (Y .body) none) a ∙ to-body t v r)) (num-finish m Y ∙ ap (λ b. cond b (Y .finish) m) a ∙ to-finish t v r))))
             (λ a. rw a (sym (two (ap (λ b. isSome b) (num-body m Y ∙ ap (λ b. cond b (Y .body) none) a)) (num-finish m Y ∙ ap (λ b. cond b (Y .finish) m) a)))))
@@ -505,12 +505,12 @@ module _ (s : Bytes) (at n : ℕ) (t : Bytes) (vs : List ℕ) (gone : List ℕ) 
         here : drop j vs ≡ getD vs j 0 ∷ drop (j + 1) vs
         here = rw add-one (drop-cons vs j 0 (omega (arith, long, g .index)))
 
-        cut : restOf left i j ≡ cond stay (numbered m (orElse r (asTouched t v r)) ∷ later) later
+        cut : restOf left i j ≡ cond stay (numbered m (maybe r (λ y. y) (asTouched t v r)) ∷ later) later
         unfolding keptOf nextV
         cut =
             ap (λ l. keptOf c floor (map (idAt s) gone) (nextV t l (drop j vs))) (rebuild-turn .list)
             ∙ ap (λ z. keptOf c floor (map (idAt s) gone) (nextV t (r ∷ listAt (formC false recC) (left - 1) s (i + x .size)) z)) here
-            ∙ ap (λ z. keptOf c floor (map (idAt s) gone) (orElse r (asTouched t z r) ∷ nextV t (listAt (formC false recC) (left - 1) s (i + x .size)) (drop (j + 1) vs))) (sym eV)
+            ∙ ap (λ z. keptOf c floor (map (idAt s) gone) (maybe r (λ y. y) (asTouched t z r) ∷ nextV t (listAt (formC false recC) (left - 1) s (i + x .size)) (drop (j + 1) vs))) (sym eV)
             ∙ ap (λ b. cond b (releaseOne c (map (idAt s) gone) y ∷ later) later) stay-is
             ∙ ap (λ z. cond stay (z ∷ later) later) done-is
 

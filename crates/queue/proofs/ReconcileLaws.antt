@@ -1,6 +1,6 @@
 -- Reconciliation, exit by exit. Assumes nothing.
 use mathlib.Core.Path.{_≡_, refl, ap, sym, _∙_}
-use mathlib.Core.Bool.{Bool, true, false, cond, _&&_, _||_}
+use mathlib.Core.Bool.{Bool, true, false, cond, not, _&&_, _||_}
 use mathlib.Core.Option.{Option, none, some}
 use mathlib.Core.List.{List, [], _∷_, _++_}
 use mathlib.Core.Logic.{_⊎_}
@@ -26,7 +26,7 @@ use Rattle.queue.specs.ListLaws.{filter-sub, all-every}
 use Rattle.queue.specs.Order.{or-false}
 use Rattle.queue.specs.Sounds.{Right, Fit, fit-sound, fit-ok, Before}
 use Rattle.queue.specs.Keeps.{Alike, alike-rising, leaves-kept, moved-fit}
-use Rattle.queue.specs.Reconciles.{Reconcilable, touched-alike, reconcile-leaves, released-all}
+use Rattle.queue.specs.Reconciles.{Reconcilable, touched-alike, reconcile-leaves, released-all, released}
 use Rattle.queue.specs.Opens.{limits, AreaAs, AreaIs}
 use Rattle.queue.specs.Fronts.{tipOf, tipSize, frontBytes, queueOf}
 use Rattle.queue.specs.Rules.{sum}
@@ -40,12 +40,12 @@ use Rattle.queue.specs.SelectAs.{Row, rows, Even, Table, ahead?, idAt}
 use Rattle.queue.specs.Touching.{appliedIn, ownIds, InEntry, Judged, changed?, changes?}
 use Rattle.queue.specs.Releasing.{nextR, nextV, nextL, minedHolder?, minedOf, Stands, StandsAt, bytesAt, MinedRow, FallingRows, MinedRows, MinedGathered, walkR, walkC}
 use Rattle.queue.specs.Rebuilding.{keptOf, keptL}
-use Rattle.queue.specs.Reconciling.{asked, LentTo, JudgedIn, ownOf, touchedL, goneIds, anyTouched, wholeQ, GoneAre, ChangedIs, cursorKind, cursorTo, CursorTold, WholeTo, FloorFor, goneBytes, ReconcileTold}
+use Rattle.queue.specs.Reconciling.{asked, LentTo, JudgedIn, anyTouched, wholeQ, GoneAre, ChangedIs, cursorKind, cursorTo, CursorTold, WholeTo, FloorFor, goneBytes, ReconcileTold}
 use Rattle.queue.specs.paper.Records.{Bytes, Id, Limits, Rec, Queue}
-use Rattle.queue.specs.paper.Lists.{isSome, one, any?, count, filter, find, sort, map, concat}
+use Rattle.queue.specs.paper.Lists.{isSome, one, any?, count, filter, find, sort, map, concat, maybe, isEmpty?}
 use Rattle.queue.specs.paper.Sound.{need, finishRight?, holder?, mined?, content}
 use Rattle.queue.specs.paper.Area.{areaBytes, over}
-use Rattle.queue.specs.paper.Changing.{Out, refused, done, top, topHeight, Applied, Reconciling, touch, touchFound, orElse, minedHeight, newer?, releases, released, releaseOne, trimmed, committed, moved, someReleased?, reconcile}
+use Rattle.queue.specs.paper.Changing.{Out, refused, done, top, topHeight, Applied, Reconciling, touch, touchFound, minedHeight, newer?, releases, releaseOne, trimmed, committed, moved, reconcile, ownOf, touchedRecs, toRelease}
 use Rattle.queue.specs.Checked.{Outcome, outcome, told, reconcileShape?, reconcileOf}
 use Rattle.queue.specs.paper.Calls.{releasedBytes, idsBytes, ReconcileArgs, reconcileArgs, reconciliation}
 use Rattle.queue.specs.declared.Kind.the-variants.{Memory, Whole, Cursor}
@@ -107,7 +107,7 @@ FloorOf fl c n t l = ((sum Tombstones l + n ≤ t) × (fl ≡ 0)) ⊎ ((x : ℕ)
 floors-to : (fl : ℕ) {c c′ n n′ t t′ : ℕ} {l l′ : List Rec} → c ≡ c′ → n ≡ n′ → t ≡ t′ → l ≡ l′ → FloorOf fl c n t l → FloorOf fl c′ n′ t′ l′
 floors-to fl e f g h x = rw (← e, ← f, ← g, ← h) x
 
-some-is : (x : List Id) {n : ℕ} → n ≡ length x → someReleased? x ≡ ltb 0 n
+some-is : (x : List Id) {n : ℕ} → n ≡ length x → not (isEmpty? x) ≡ ltb 0 n
 some-is [] {n} e = sym (le-ltb 0 n (omega arith))
 some-is (i ∷ x) {n} e = sym (lt-ltb 0 n (omega arith))
 
@@ -117,7 +117,7 @@ unfolding nextV nextR
 judged-next t caught own es [] [] j = refl
 judged-next t caught own es [] (c ∷ v) j = absurd j
 judged-next t caught own es (r ∷ l) [] j = absurd j
-judged-next t caught own es (r ∷ l) (c ∷ v) j = two (ap (orElse r) (sym (j .0 .is))) (judged-next t caught own es l v (j .1))
+judged-next t caught own es (r ∷ l) (c ∷ v) j = two (ap (maybe r (λ y. y)) (sym (j .0 .is))) (judged-next t caught own es l v (j .1))
   where
     two : {a a′ : Rec} {b b′ : List Rec} → a ≡ a′ → b ≡ b′ → (a ∷ b) ≡ (a′ ∷ b′)
     two e f = cc
@@ -137,10 +137,10 @@ module _ {s : Bytes} {a : Area} (w : AreaIn s a) {height : ℕ} {tip : Id} {t : 
   C = asked height tip t k caught ids m window
 
   abbrev f : Rec → Rec
-  f r = orElse r (touch C (ownOf C (w .q)) r)
+  f r = maybe r (λ y. y) (touch C (ownOf C (w .q)) r)
 
-  next-is : nextL s (a .open .start) (a .open .head .count) t vs ≡ touchedL C (w .q)
-  unfolding nextL nextR touchedL touch ownIds
+  next-is : nextL s (a .open .start) (a .open .head .count) t vs ≡ touchedRecs C (w .q)
+  unfolding nextL nextR touchedRecs touch ownIds
   next-is = judged-next t caught (ownIds (idsAt ids m) (listAt (formC false recC) (a .open .head .count) s (a .open .start))) (appliedIn t k) (listAt (formC false recC) (a .open .head .count) s (a .open .start)) vs (J .all) ∙ ap (λ l. map (nextR caught (ownIds (idsAt ids m) l) (appliedIn t k)) l) (w .read .store .list)
 
   alike : (r : Rec) → Alike r (f r)
@@ -149,7 +149,7 @@ module _ {s : Bytes} {a : Area} (w : AreaIn s a) {height : ℕ} {tip : Id} {t : 
   keeps : (l : List Rec) → KeepsEach f l
   keeps l = all-every _ (λ r. let x = alike r in (ap isSome (x .body), x .finish, x .id)) l
 
-  mined-is : minedOf s (a .open .start) (a .open .head .count) t vs ≡ filter minedHolder? (touchedL C (w .q))
+  mined-is : minedOf s (a .open .start) (a .open .head .count) t vs ≡ filter minedHolder? (touchedRecs C (w .q))
   unfolding minedOf
   mined-is = ap (filter minedHolder?) next-is
 
@@ -163,18 +163,18 @@ module _ {s : Bytes} {a : Area} (w : AreaIn s a) {height : ℕ} {tip : Id} {t : 
       (λ x. rw x (omega arith))
 
   pub few-mined : length (minedOf s (a .open .start) (a .open .head .count) t vs) ≤ 2048
-  unfolding touchedL
+  unfolding touchedRecs
   few-mined =
       let e = ap length mined-is in let i = few-mined′ (w .q .recs) in
       let g = fit (w .read) .sound in
       omega (arith, g .fewHolders, g .range .P-high)
 
   pub before-mined : Pairwise Before (minedOf s (a .open .start) (a .open .head .count) t vs)
-  unfolding touchedL
+  unfolding touchedRecs
   before-mined = rw mined-is (sub-pairwise Before (filter-sub minedHolder? (map f (w .q .recs))) (alike-rising f alike (w .q .recs) (fit (w .read) .sound .rising)))
 
-  gone-is : releases (limits (a .open .head .p) (a .open .head .b) 0 0) height window 0 0 (sort newer? (minedOf s (a .open .start) (a .open .head .count) t vs)) ≡ goneIds C (w .q)
-  unfolding goneIds released
+  gone-is : releases (limits (a .open .head .p) (a .open .head .b) 0 0) height window 0 0 (sort newer? (minedOf s (a .open .start) (a .open .head .count) t vs)) ≡ toRelease C (w .q)
+  unfolding toRelease
   gone-is =
       let h = w .read .store .head in
       same-releases _ (w .q .limits) height window 0 0 (sort newer? (minedOf s (a .open .start) (a .open .head .count) t vs)) (sym (h .P)) (sym (h .B))
@@ -207,7 +207,7 @@ module _ {s : Bytes} {a : Area} (w : AreaIn s a) {height : ℕ} {tip : Id} {t : 
         let z : r ≤ 2048 = omega (arith, mined-even .ranks, mined-few) in (
           z,
           record {
-            are = λ q x. ap (map (idAt s)) e ∙ walk-ids _ height window s 0 0 _ _ sorted ∙ gone-is ∙ ap (goneIds C) (one-queue s (w .is) x);
+            are = λ q x. ap (map (idAt s)) e ∙ walk-ids _ height window s 0 0 _ _ sorted ∙ gone-is ∙ ap (toRelease C) (one-queue s (w .is) x);
             placed = rw e (walk-part (λ p. p + 33 ≤ length s) _ height window s 0 0 _ (mined-placed s (sort ahead? (rows (take c ra) (take c ti) (take c pl))) (sort newer? (minedOf s (a .open .start) (a .open .head .count) t vs)) sorted));
             few = let y = length-take r gone in let x = min-le-left r (length gone) in omega arith;
           },
@@ -215,53 +215,53 @@ module _ {s : Bytes} {a : Area} (w : AreaIn s a) {height : ℕ} {tip : Id} {t : 
 
   -- ---- the whole area
   module _ {gone : List ℕ} (G : GoneAre s (asked height tip t k caught ids m window) gone) where
-    ids-are : map (idAt s) gone ≡ goneIds C (w .q)
+    ids-are : map (idAt s) gone ≡ toRelease C (w .q)
     ids-are = G .are (w .q) (w .is)
 
-    pub many-gone : length gone ≡ length (goneIds C (w .q))
+    pub many-gone : length gone ≡ length (toRelease C (w .q))
     many-gone = sym (map-length (idAt s) gone) ∙ ap length ids-are
 
     pub gone-count : length gone ≤ a .open .head .count
-    unfolding goneIds touchedL
+    unfolding toRelease touchedRecs released
     gone-count =
         let st = w .read .store in
-        let u = released-all (λ i. Unit {0}) C (w .q .limits) (map f (w .q .recs)) (all-every _ (λ r. tt) (map f (w .q .recs))) .1 in
+        let u : length (toRelease C (w .q)) ≤ length (map f (w .q .recs)) = released-all (λ i. Unit {0}) C (w .q .limits) (map f (w .q .recs)) (all-every _ (λ r. tt) (map f (w .q .recs))) .1 in
         let v = map-length f (w .q .recs) in
         omega (arith, many-gone, st .count)
 
-    placed : Placed (goneIds C (w .q)) (map f (w .q .recs))
-    unfolding goneIds touchedL released
-    placed = releases-placed (w .q .limits) height window (w .q .recs) f (goneIds C (w .q)) (keeps (w .q .recs)) (fit (w .read) .sound .rising) refl
+    placed : Placed (toRelease C (w .q)) (map f (w .q .recs))
+    unfolding toRelease touchedRecs
+    placed = releases-placed (w .q .limits) height window (w .q .recs) f (toRelease C (w .q)) (keeps (w .q .recs)) (fit (w .read) .sound .rising) refl
 
     none-gone : (x : List Id) → length x ≡ 0 → x ≡ []
     none-gone [] e = refl
     none-gone (i ∷ x) e = absurd (let y : ⊥ = omega arith in y)
 
-    pub kept-is : {fl : ℕ} → FloorFor s a (length gone) fl → keptL s (a .open .start) (a .open .head .count) t vs gone (a .open .head .counter .0) fl ≡ trimmed (w .q .limits .T) (goneIds C (w .q)) (map (releaseOne (w .q .counter) (goneIds C (w .q))) (touchedL C (w .q)))
-    unfolding keptL keptOf touchedL
+    pub kept-is : {fl : ℕ} → FloorFor s a (length gone) fl → keptL s (a .open .start) (a .open .head .count) t vs gone (a .open .head .counter .0) fl ≡ trimmed (w .q .limits .T) (toRelease C (w .q)) (map (releaseOne (w .q .counter) (toRelease C (w .q))) (touchedRecs C (w .q)))
+    unfolding keptL keptOf touchedRecs
     kept-is {fl} F =
         let st = w .read .store in
         let T : w .q .limits .T ≡ a .open .head .t = st .head .T in
         let N : w .q .counter ≡ a .open .head .counter .0 = st .head .counter in
         three (sym N) ids-are next-is
-        ∙ sym (trim-is (w .q .limits .T) (w .q .counter) fl (w .q .recs) f (goneIds C (w .q)) (keeps (w .q .recs)) placed
+        ∙ sym (trim-is (w .q .limits .T) (w .q .counter) fl (w .q .recs) f (toRelease C (w .q)) (keeps (w .q .recs)) placed
         (λ e. F .0 (many-gone ∙ ap length e))
-        (λ n. floors-to fl (sym N) many-gone (sym T) (st .list) (F .1 (λ z. n (none-gone (goneIds C (w .q)) (sym many-gone ∙ z))))))
+        (λ n. floors-to fl (sym N) many-gone (sym T) (st .list) (F .1 (λ z. n (none-gone (toRelease C (w .q)) (sym many-gone ∙ z))))))
       where
         three : {c c′ : ℕ} {x x′ : List Id} {l l′ : List Rec} → c ≡ c′ → x ≡ x′ → l ≡ l′ → filter (λ y. holder? y || leb fl (y .finish)) (map (releaseOne c x) l) ≡ filter (λ y. holder? y || leb fl (y .finish)) (map (releaseOne c′ x′) l′)
         three e f g = cc
 
     module _ (room : a .open .head .counter .0 + length gone < 18446744073709551616) where
-      fits-top : ltb top (w .q .counter + length (goneIds C (w .q))) ≡ false
-      fits-top = let N : w .q .counter ≡ a .open .head .counter .0 = w .read .store .head .counter in le-ltb top (w .q .counter + length (goneIds C (w .q))) (omega (arith, many-gone))
+      fits-top : ltb top (w .q .counter + length (toRelease C (w .q))) ≡ false
+      fits-top = let N : w .q .counter ≡ a .open .head .counter .0 = w .read .store .head .counter in le-ltb top (w .q .counter + length (toRelease C (w .q))) (omega (arith, many-gone))
 
-      module _ (ch : (anyTouched C (w .q) || someReleased? (goneIds C (w .q))) ≡ true) where
-        whole-done : reconcile C (w .q) ≡ done Whole (wholeQ C (w .q)) (true, goneIds C (w .q))
-        unfolding reconcile wholeQ goneIds touchedL anyTouched
+      module _ (ch : (anyTouched C (w .q) || not (isEmpty? (toRelease C (w .q)))) ≡ true) where
+        whole-done : reconcile C (w .q) ≡ done Whole (wholeQ C (w .q)) (true, toRelease C (w .q))
+        unfolding reconcile wholeQ toRelease touchedRecs anyTouched
         whole-done = rw (fits-top, ch)
 
         whole-fit : Fit (wholeQ C (w .q))
-        whole-fit = leaves-kept (w .q) (wholeQ C (w .q)) (reconcile C (w .q)) Whole (true, goneIds C (w .q)) (reconcile-leaves C (w .q) (fit (w .read)) (L .ok)) whole-done .fit
+        whole-fit = leaves-kept (w .q) (wholeQ C (w .q)) (reconcile C (w .q)) Whole (true, toRelease C (w .q)) (reconcile-leaves C (w .q) (fit (w .read)) (L .ok)) whole-done .fit
 
         abbrev pub LimsW : Limits
         LimsW = limits (a .open .head .p) (a .open .head .b) (a .open .head .t) (a .open .head .k)
@@ -299,7 +299,7 @@ module _ {s : Bytes} {a : Area} (w : AreaIn s a) {height : ℕ} {tip : Id} {t : 
               area-done LimsW marksW tip (recsW fl) n whole-fits (w .read .need ∙ ap need (the-limits (w .read))) g p1 (recast p2 refl (sym h) refl) p3
               ∙ ap (λ v. over (areaBytes v) d) (whole-is ∙ ap (wholeQ C) (one-queue s (w .is) x))
 
-          whole-count : length (trimmed (w .q .limits .T) (goneIds C (w .q)) (map (releaseOne (w .q .counter) (goneIds C (w .q))) (touchedL C (w .q)))) ≤ 2 * w .q .limits .P + w .q .limits .T
+          whole-count : length (trimmed (w .q .limits .T) (toRelease C (w .q)) (map (releaseOne (w .q .counter) (toRelease C (w .q))) (touchedRecs C (w .q)))) ≤ 2 * w .q .limits .P + w .q .limits .T
           unfolding wholeQ committed
           whole-count = whole-fit .sound .few
 
@@ -307,66 +307,66 @@ module _ {s : Bytes} {a : Area} (w : AreaIn s a) {height : ℕ} {tip : Id} {t : 
           whole-few = let z = fit (w .read) .sound .range in let y = whole-count in omega (arith, n, ap length (kept-is F), z .P-high, z .T-high)
 
       -- ---- the answer
-      still-done : (anyTouched C (w .q) || someReleased? (goneIds C (w .q))) ≡ false → reconcile C (w .q) ≡ done (cursorKind (w .q .persisted) height) (cursorTo height tip (w .q)) (false, [])
-      unfolding reconcile goneIds touchedL anyTouched
+      still-done : (anyTouched C (w .q) || not (isEmpty? (toRelease C (w .q)))) ≡ false → reconcile C (w .q) ≡ done (cursorKind (w .q .persisted) height) (cursorTo height tip (w .q)) (false, [])
+      unfolding reconcile toRelease touchedRecs anyTouched
       still-done ch = rw (fits-top, ch) (cases (leb (min (w .q .persisted + 32) topHeight) height) (λ b. rw b) (λ b. rw b))
 
       gone-long : length (concat (map (idAt s) gone)) ≡ 32 * length gone
       gone-long = ids-size s gone (G .placed)
 
-      answer-long : (b : Bool) → length (releasedBytes (b, goneIds C (w .q))) ≡ 5 + 32 * length gone
+      answer-long : (b : Bool) → length (releasedBytes (b, toRelease C (w .q))) ≡ 5 + 32 * length gone
       unfolding releasedBytes idsBytes
       answer-long b =
           let e = ap (λ x. length (concat x)) ids-are in
-          let u = length-append (codec.be 4 (length (goneIds C (w .q)))) (concat (goneIds C (w .q))) in
-          let v = codec.be-length 4 (length (goneIds C (w .q))) in
+          let u = length-append (codec.be 4 (length (toRelease C (w .q)))) (concat (toRelease C (w .q))) in
+          let v = codec.be-length 4 (length (toRelease C (w .q))) in
           let z = gone-long in omega arith
 
       none-long : length (releasedBytes (false, [])) ≡ 5
       unfolding releasedBytes idsBytes
       none-long = refl
 
-      answer-is : (b : Bool) → goneBytes s b gone ≡ releasedBytes (b, goneIds C (w .q))
+      answer-is : (b : Bool) → goneBytes s b gone ≡ releasedBytes (b, toRelease C (w .q))
       unfolding goneBytes releasedBytes idsBytes
       answer-is b = ap (λ (y : Bytes). one b ∷ y) (two (be-same 4 (length gone) (let z = G .few in omega arith) ∙ ap (codec.be 4) many-gone) (ap concat ids-are))
         where
           two : {x x′ y y′ : Bytes} → x ≡ x′ → y ≡ y′ → x ++ y ≡ x′ ++ y′
           two e f = cc
 
-      no-ids : (anyTouched C (w .q) || someReleased? (goneIds C (w .q))) ≡ false → length gone ≡ 0
-      no-ids ch = let z = or-false (anyTouched C (w .q)) (someReleased? (goneIds C (w .q))) ch .1 in let y = ltb-false 0 (length gone) (sym (some-is (goneIds C (w .q)) many-gone) ∙ z) in omega arith
+      no-ids : (anyTouched C (w .q) || not (isEmpty? (toRelease C (w .q)))) ≡ false → length gone ≡ 0
+      no-ids ch = let z = or-false (anyTouched C (w .q)) (not (isEmpty? (toRelease C (w .q)))) ch .1 in let y = ltb-false 0 (length gone) (sym (some-is (toRelease C (w .q)) many-gone) ∙ z) in omega arith
 
       pub gone-4 : (next out : Bytes) → length out < 5 + 32 * length gone → ReconcileTold s C (outcome (Refused 4) next out) next out
-      gone-4 next out h q e = cases (anyTouched C (w .q) || someReleased? (goneIds C (w .q)))
-          (λ c. rw (← (one-queue s (w .is) e), whole-done c, lt-ltb (length out) (length (releasedBytes (true, goneIds C (w .q)))) (omega (arith, answer-long true))))
+      gone-4 next out h q e = cases (anyTouched C (w .q) || not (isEmpty? (toRelease C (w .q))))
+          (λ c. rw (← (one-queue s (w .is) e), whole-done c, lt-ltb (length out) (length (releasedBytes (true, toRelease C (w .q)))) (omega (arith, answer-long true))))
           (λ c. rw (← (one-queue s (w .is) e), still-done c, lt-ltb (length out) (length (releasedBytes (false, []))) (omega (arith, none-long, no-ids c))))
 
-      module _ (next out : Bytes) (h : 5 + 32 * length gone ≤ length out) {b : Bool} (ch : b ≡ (anyTouched C (w .q) || someReleased? (goneIds C (w .q)))) {out′ : Bytes} {r : ℕ} (p : Put out 0 (goneBytes s b gone) (5 + 32 * length gone) r out′) where
+      module _ (next out : Bytes) (h : 5 + 32 * length gone ≤ length out) {b : Bool} (ch : b ≡ (anyTouched C (w .q) || not (isEmpty? (toRelease C (w .q))))) {out′ : Bytes} {r : ℕ} (p : Put out 0 (goneBytes s b gone) (5 + 32 * length gone) r out′) where
         pub gone-102 : {next′ : Bytes} → b ≡ true → WholeTo s C next next′ → ReconcileTold s C (outcome (Done Whole) next′ out′) next out
         gone-102 {next′} t x q e =
             let c = sym ch ∙ t in
-            let z : out′ ≡ over (releasedBytes (true, goneIds C (w .q))) out = p .is ∙ ap (splice out 0) (ap (λ v. goneBytes s v gone) t ∙ answer-is true) ∙ sym (over-splice out (releasedBytes (true, goneIds C (w .q))) (omega (arith, answer-long true))) in
-            rw (← (one-queue s (w .is) e), whole-done c, le-ltb (length out) (length (releasedBytes (true, goneIds C (w .q)))) (omega (arith, answer-long true)), z, x (w .q) (w .is))
+            let z : out′ ≡ over (releasedBytes (true, toRelease C (w .q))) out = p .is ∙ ap (splice out 0) (ap (λ v. goneBytes s v gone) t ∙ answer-is true) ∙ sym (over-splice out (releasedBytes (true, toRelease C (w .q))) (omega (arith, answer-long true))) in
+            rw (← (one-queue s (w .is) e), whole-done c, le-ltb (length out) (length (releasedBytes (true, toRelease C (w .q)))) (omega (arith, answer-long true)), z, x (w .q) (w .is))
 
         pub gone-10x : {next′ : Bytes} {u : Answer} → b ≡ false → CursorTold s height tip u next next′ → ReconcileTold s C (outcome u next′ out′) next out
         gone-10x {next′} {u} t x q e =
             let c = sym ch ∙ t in
             let y = x (w .q) (w .is) in
-            let N : goneIds C (w .q) ≡ [] = none-gone (goneIds C (w .q)) (sym many-gone ∙ no-ids c) in
+            let N : toRelease C (w .q) ≡ [] = none-gone (toRelease C (w .q)) (sym many-gone ∙ no-ids c) in
             let z : out′ ≡ over (releasedBytes (false, [])) out = p .is ∙ ap (splice out 0) (ap (λ v. goneBytes s v gone) t ∙ answer-is false ∙ ap (λ l. releasedBytes (false, l)) N) ∙ sym (over-splice out (releasedBytes (false, [])) (omega (arith, none-long, no-ids c))) in
             rw (← (one-queue s (w .is) e), still-done c, le-ltb (length out) (length (releasedBytes (false, []))) (omega (arith, none-long, no-ids c)), z, y .0, y .1)
             (cases (leb (min (w .q .persisted + 32) topHeight) height) (λ k. rw k) (λ k. rw k))
 
     pub gone-15 : (next out : Bytes) → 18446744073709551615 - a .open .head .counter .0 < length gone → ReconcileTold s C (outcome (Refused 15) next out) next out
-    unfolding reconcile goneIds touchedL
+    unfolding reconcile toRelease touchedRecs
     gone-15 next out h q e =
         let N : w .q .counter ≡ a .open .head .counter .0 = w .read .store .head .counter in
-        let z : ltb top (w .q .counter + length (goneIds C (w .q))) ≡ true = lt-ltb top (w .q .counter + length (goneIds C (w .q))) (omega (arith, many-gone, w .read .store .head .counterSmall)) in
+        let z : ltb top (w .q .counter + length (toRelease C (w .q))) ≡ true = lt-ltb top (w .q .counter + length (toRelease C (w .q))) (omega (arith, many-gone, w .read .store .head .counterSmall)) in
         rw (← (one-queue s (w .is) e), z)
 
     pub changed-is : {b c : Bool} → c ≡ any? changed? vs → b ≡ (c || ltb 0 (length gone)) → ChangedIs s C b
     unfolding anyTouched touch ownIds
-    changed-is e f q x = f ∙ two (e ∙ judged-any t caught (ownIds (idsAt ids m) (listAt (formC false recC) (a .open .head .count) s (a .open .start))) (appliedIn t k) (listAt (formC false recC) (a .open .head .count) s (a .open .start)) vs (J .all) ∙ ap (λ l. any? (changes? caught (ownIds (idsAt ids m) l) (appliedIn t k)) l) (w .read .store .list)) (sym (some-is (goneIds C (w .q)) many-gone)) ∙ ap (λ v. anyTouched C v || someReleased? (goneIds C v)) (one-queue s (w .is) x)
+    changed-is e f q x = f ∙ two (e ∙ judged-any t caught (ownIds (idsAt ids m) (listAt (formC false recC) (a .open .head .count) s (a .open .start))) (appliedIn t k) (listAt (formC false recC) (a .open .head .count) s (a .open .start)) vs (J .all) ∙ ap (λ l. any? (changes? caught (ownIds (idsAt ids m) l) (appliedIn t k)) l) (w .read .store .list)) (sym (some-is (toRelease C (w .q)) many-gone)) ∙ ap (λ v. anyTouched C v || not (isEmpty? (toRelease C v))) (one-queue s (w .is) x)
       where
         two : {a a′ b b′ : Bool} → a ≡ a′ → b ≡ b′ → (a || b) ≡ (a′ || b′)
         two e f = cc

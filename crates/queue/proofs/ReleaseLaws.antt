@@ -26,10 +26,10 @@ use Rattle.queue.specs.SelectAs.{Row, rows, Even, Table, aheadOf, ahead?
 use Rattle.queue.specs.Touching.{entryIn, SeenOf, asTouched, verdictOf, InEntry}
 use Rattle.queue.specs.Releasing.{nextV, nextL, minedHolder?, minedOf, minedF, heightF, Stands, bytesAt, PlaceAdded, MinedRow, FallingRows, MinedRows, MinedGathered, walkR, walkC}
 use Rattle.queue.specs.paper.Records.{Bytes, Id, Limits, Rec}
-use Rattle.queue.specs.paper.Lists.{total, filter, insert, sort, map}
+use Rattle.queue.specs.paper.Lists.{total, filter, insert, sort, map, maybe}
 use Rattle.queue.specs.paper.Ids.{cmpL, below?, same?}
 use Rattle.queue.specs.paper.Sound.{holder?, mined?, content}
-use Rattle.queue.specs.paper.Changing.{confirm, judged, orElse, heightOf, minedHeight, newer?, releases}
+use Rattle.queue.specs.paper.Changing.{confirm, minedHeight, newer?, releases}
 use Rattle.queue.specs.declared.frame.Seen.{Seen}
 use Rattle.queue.specs.declared.frame.Facts.{Facts}
 use Rattle.queue.specs.declared.touch.Verdict.{Verdict}
@@ -55,7 +55,7 @@ verdict-within t {v} c e h w =
 
 module _ (s : Bytes) (base : ℕ) (x : Seen) (t : Bytes) (v : Verdict) (within : v .what ≡ 1 → v .at + 68 ≤ length t) (r : Rec) (w : SeenOf s base x r) where
   abbrev after : Rec
-  after = orElse r (asTouched t v r)
+  after = maybe r (λ y. y) (asTouched t v r)
 
   state-is : x .facts .state ≡ r .state
   unfolding factsOf
@@ -69,12 +69,12 @@ module _ (s : Bytes) (base : ℕ) (x : Seen) (t : Bytes) (v : Verdict) (within :
   unfolding factsOf
   mined-is = ap (λ f. f .mined .0) (w .0 .facts)
 
-  height-same : (o : Option (ℕ × Id)) → placeHeight o ≡ heightOf o
+  height-same : (o : Option (ℕ × Id)) → placeHeight o ≡ maybe 0 (λ p. p .0) o
   height-same none = refl
   height-same (some p) = refl
 
   pub after-mined : minedF (v .what) (x .facts) ≡ minedHolder? after
-  unfolding minedF asTouched confirm judged
+  unfolding minedF asTouched confirm
   after-mined = sym (cases (eqb (v .what) 0)
       (λ a. let z = eqb-true (v .what) 0 a in rw (z, holder-is, state-is))
       (λ a. cases (eqb (v .what) 1)
@@ -82,7 +82,7 @@ module _ (s : Bytes) (base : ℕ) (x : Seen) (t : Bytes) (v : Verdict) (within :
       (λ b. cases (eqb (v .what) 2) (λ c. rw (a, b, c)) (λ c. rw (a, b, c)))))
 
   pub after-height : minedF (v .what) (x .facts) ≡ true → heightF t v (x .facts) ≡ minedHeight after
-  unfolding minedF heightF asTouched confirm judged
+  unfolding minedF heightF asTouched confirm
   after-height h = sym (cases (eqb (v .what) 0)
       (λ a. let z = eqb-true (v .what) 0 a in rw z (sym (mined-is ∙ height-same (r .place))))
       (λ a. cases (eqb (v .what) 1)
@@ -90,7 +90,7 @@ module _ (s : Bytes) (base : ℕ) (x : Seen) (t : Bytes) (v : Verdict) (within :
       (λ b. let z : _≡_ {A = Bool} false true = rw (a, b) at h in false-true z)))
 
   pub after-id : after .id ≡ r .id
-  unfolding asTouched confirm judged
+  unfolding asTouched confirm
   after-id = cases (eqb (v .what) 0)
       (λ a. rw a)
       (λ a. cases (eqb (v .what) 1)
@@ -98,7 +98,7 @@ module _ (s : Bytes) (base : ℕ) (x : Seen) (t : Bytes) (v : Verdict) (within :
       (λ b. cases (eqb (v .what) 2) (λ c. rw (a, b, c)) (λ c. rw (a, b, c))))
 
   pub after-body : after .body ≡ r .body
-  unfolding asTouched confirm judged
+  unfolding asTouched confirm
   after-body = cases (eqb (v .what) 0)
       (λ a. rw a)
       (λ a. cases (eqb (v .what) 1)
@@ -162,7 +162,7 @@ module _ {s : Bytes} {at n : ℕ} {t : Bytes} {vs : List ℕ} {room i left j m :
     within = verdict-within t (getD vs j 0) eV (all-at (InEntry t) vs j E (omega (arith, g .count)))
 
     abbrev it : Rec
-    it = orElse (turn .item) (asTouched t v (turn .item))
+    it = maybe (turn .item) (λ y. y) (asTouched t v (turn .item))
 
     abbrev L : List Rec
     L = minedOf s at n t vs

@@ -31,14 +31,14 @@ use Rattle.queue.specs.Fronts.{tipOf, tipSize, frontBytes, queueOf}
 use Rattle.queue.specs.Writes.{TipIs}
 use Rattle.queue.specs.CallsAs.{AreaIn}
 use Rattle.queue.specs.Reopens.{IdsIn, idsAt, listedS, again, againQ, stateF, reasonF, leadBytes, reopenedBytes, reopenedLen, againBytes, PartsIn, AgainFrom, AgainTo, ReopenTold}
-use Rattle.queue.specs.paper.Records.{Bytes, Id, Limits, Rec, Queue}
+use Rattle.queue.specs.paper.Records.{Bytes, Id, Limits, Rec, Queue, queued, cancelled, expired}
 use Rattle.queue.specs.paper.Lists.{any?, map, concat}
-use Rattle.queue.specs.paper.Ids.{cmpL}
+use Rattle.queue.specs.paper.Ids.{cmpL, rise?}
 use Rattle.queue.specs.paper.Sound.{need, holder?, mined?, among?}
 use Rattle.queue.specs.paper.Area.{flagged, termsBytes, placeBytes, heldBytes, recBytes, areaBytes, over}
-use Rattle.queue.specs.paper.Changing.{Out, refused, done, committed, reopenedState, reopenedReason, reopened, listed?, reopen}
+use Rattle.queue.specs.paper.Changing.{Out, refused, done, committed, reopened, listed?, reopen}
 use Rattle.queue.specs.Checked.{Outcome, outcome, told, reopenOf}
-use Rattle.queue.specs.paper.Calls.{nothingBytes, pieces, items, rise?, whole?}
+use Rattle.queue.specs.paper.Calls.{nothingBytes, pieces, items, whole?}
 use Rattle.queue.specs.declared.Kind.the-variants.{Nothing, Whole}
 use Rattle.queue.specs.declared.Answer.the-variants.{Refused, Done}
 use Rattle.queue.specs.declared.frame.Seen.{Seen}
@@ -197,6 +197,12 @@ glue i e f g h k = cc
 
 two-zeros : be 2 0 ≡ 0 ∷ 0 ∷ []
 two-zeros = refl
+
+abbrev reopenedState : Rec → ℕ
+reopenedState r = cond (eqb (r .mark) 0) (cond (holder? r) queued expired) (r .mark)
+
+abbrev reopenedReason : Rec → ℕ
+reopenedReason r = cond (eqb (r .mark) 0) (cond (holder? r) 4 3) (cond (eqb (r .mark) cancelled) 1 2)
 
 shape : (r : Rec) → 2 ∷ (r .id ++ (codec.be 1 (reopenedState r) ++ (codec.be 1 (reopenedReason r) ++ (termsBytes (r .terms) ++ ((0 ∷ 0 ∷ []) ++ (codec.be 8 (r .finish) ++ flagged heldBytes (r .body))))))) ≡ recBytes (reopened r)
 unfolding recBytes reopened placeBytes

@@ -26,11 +26,11 @@ use Rattle.queue.specs.Sounds.{fields-of}
 use Rattle.queue.specs.Touching.{entryIn, appliedIn, entryIds, EntriesRise, EntryAs, SeenOf, SeenHere, ConfirmedIs, ownIds, judgeF, asTouched, verdictOf, InEntry, TouchIs, VerdictOn, Judged, changed?, changes?}
 use Rattle.queue.specs.paper.Records.{Bytes, Id, Rec, queued, conflicted}
 use Rattle.queue.specs.paper.Lists.{isSome, any?, all?, find, map, concat}
-use Rattle.queue.specs.paper.Ids.{cmpL, same?}
+use Rattle.queue.specs.paper.Ids.{cmpL, same?, rise?}
 use Rattle.queue.specs.paper.Sound.{pending?, mined?, among?, inputs, outputs}
 use Rattle.queue.specs.paper.Area.{beVal, placeBytes}
-use Rattle.queue.specs.paper.Changing.{Applied, confirmed?, confirm, judge, judged, queuedOutputs, touchFound}
-use Rattle.queue.specs.paper.Calls.{pieces, appliedOf, rise?}
+use Rattle.queue.specs.paper.Changing.{Applied, confirmed?, confirm, judge, queuedOutputs, touchFound}
+use Rattle.queue.specs.paper.Calls.{pieces, appliedOf}
 use Rattle.queue.specs.declared.frame.Seen.{Seen}
 use Rattle.queue.specs.declared.frame.Facts.{Facts}
 use Rattle.queue.specs.declared.reading.Found.{Found}
@@ -264,7 +264,7 @@ module _ (own : List Id) {v : Bytes} {n at i left : ℕ} (x : Scan idC (fineF ow
   fine-end e = end x e
 
 -- ---- the verdict
-judge-is : (t : Bytes) (fine : Bool) (r : Rec) → judge fine r ≡ asTouched t (record { what = judgeF fine (factsOf r); at = 0 }) r
+judge-is : (t : Bytes) (fine : Bool) (r : Rec) → cond fine (judge queued 0 r) (judge conflicted 5 r) ≡ asTouched t (record { what = judgeF fine (factsOf r); at = 0 }) r
 unfolding judgeF asTouched factsOf
 judge-is t true r = cases (eqb (r .state) 0 && eqb (r .reason) 0) (λ h. rw h) (λ h. rw h)
 judge-is t false r = cases (eqb (r .state) 3 && eqb (r .reason) 5) (λ h. rw h) (λ h. rw h)
@@ -333,11 +333,11 @@ module _ (s : Bytes) (at n base : ℕ) (x : Seen) (t : Bytes) (k : ℕ) (caught 
     verdict-confirm y = record { is = λ r w. found-is r w ∙ rw (y, verdict-1 (f .at)); within = λ z. rw (digits-div (f .at) {m = 4} {r = 1} (omega arith)) (e .good g .0) }
 
   module _ (g : f .found ≡ false) {u : Bool} (c : u ≡ (caught && pending? (x .facts .state))) where
-    missing-is : (r : Rec) → SeenOf s base x r → touchFound caught own r (find (λ a. same? (r .id) (a .id)) (appliedIn t k)) ≡ cond u (judge (all? (λ i. among? i own) (inputs (r .body))) r) none
+    missing-is : (r : Rec) → SeenOf s base x r → touchFound caught own r (find (λ a. same? (r .id) (a .id)) (appliedIn t k)) ≡ cond u (cond (all? (λ i. among? i own) (inputs (r .body))) (judge queued 0 r) (judge conflicted 5 r)) none
     unfolding factsOf
     missing-is r w =
         ap (touchFound caught own r) (by-id r w ∙ e .bad g)
-        ∙ ap (λ v. cond v (judge (all? (λ i. among? i own) (inputs (r .body))) r) none) (sym (c ∙ ap (λ v. caught && pending? (v .state)) (w .0 .facts)))
+        ∙ ap (λ v. cond v (cond (all? (λ i. among? i own) (inputs (r .body))) (judge queued 0 r) (judge conflicted 5 r)) none) (sym (c ∙ ap (λ v. caught && pending? (v .state)) (w .0 .facts)))
 
     pub verdict-none : u ≡ false → TouchIs s at n base x t k caught ids 0
     unfolding asTouched
@@ -347,7 +347,7 @@ module _ (s : Bytes) (at n base : ℕ) (x : Seen) (t : Bytes) (k : ℕ) (caught 
     verdict-judge {a} {j} y h i = record {
       is = λ r w.
           let z : all? (λ i. among? i own) (inputs (r .body)) ≡ a = sym (h ∙ ap (all? (λ i. among? i own)) (w .0 .insList)) in
-          missing-is r w ∙ rw y (ap (λ v. judge v r) z ∙ judge-is t a r ∙ ap (λ v. asTouched t v r) (sym (verdict-judged a (factsOf r)) ∙ ap (λ v. verdictOf (judgeF a v)) (sym (w .0 .facts)) ∙ ap verdictOf (sym i)));
+          missing-is r w ∙ rw y (ap (λ v. cond v (judge queued 0 r) (judge conflicted 5 r)) z ∙ judge-is t a r ∙ ap (λ v. asTouched t v r) (sym (verdict-judged a (factsOf r)) ∙ ap (λ v. verdictOf (judgeF a v)) (sym (w .0 .facts)) ∙ ap verdictOf (sym i)));
       within = λ z. absurd (judge-not a (x .facts) (ap (λ v. v % 4) (sym i) ∙ z));
     }
 

@@ -17,11 +17,12 @@ use Rattle.queue.specs.ListLaws.{and-false, all-every, filter-sub, filte
 use Rattle.queue.specs.Sounds.{Right, Before, Distinct, distinct-sym, Apart, apart-sym, free-of, each-in, Sound, Fields, Fit}
 use Rattle.queue.specs.Forget.{core-sound}
 use Rattle.queue.specs.Keeps.{Leaves, Wholly, same-kept, committed-kept, pending-mined}
+use Rattle.queue.specs.declared.Kind.the-variants.{Nothing}
 use Rattle.queue.specs.paper.Records.{Bytes, Held, Rec, Queue, queued, mined, conflicted, cancelled, expired}
-use Rattle.queue.specs.paper.Lists.{isSome, one, total, filter, find}
+use Rattle.queue.specs.paper.Lists.{isSome, one, total, filter, find, isEmpty?, maybe}
 use Rattle.queue.specs.paper.Ids.{below?}
 use Rattle.queue.specs.paper.Sound.{holder?, pending?, mined?, inputs, content, labelLen, among?, clash?, heldRight?}
-use Rattle.queue.specs.paper.Changing.{named?, Admission, reached?, newRec, put, cursorAfter, tipAfter, pendings, pendingBytes, admitNew, admitFound, admit}
+use Rattle.queue.specs.paper.Changing.{named?, Admission, reached?, newRec, put, pendings, pendingBytes, admitNew, admit, done}
 
 abbrev pub LabelBytes : Option Bytes → Type 0
 LabelBytes none = Unit {0}
@@ -147,7 +148,7 @@ module _ (a : Admission) (q : Queue) (f : Fit q) (o : Admissible (q .limits .K) 
             (sub-pairwise Apart u (s .apart));
       }) (let x = put-total (λ r. one (not (holder? r))) in let z = s .fewTombs in omega arith)
 
-  cursor-ok : (l : List Rec) → (cursorAfter a q l < 256 ^ 4) × optC idC .ok (tipAfter a q l)
+  cursor-ok : (l : List Rec) → (cond (isEmpty? l) (a .tipHeight) (q .cursor) < 256 ^ 4) × optC idC .ok (cond (isEmpty? l) (a .tip) (q .tip))
   cursor-ok [] = (o .tipHeight, o .tip)
   cursor-ok (r ∷ l) = (f .cursor, f .tip)
 
@@ -161,11 +162,11 @@ module _ (a : Admission) (q : Queue) (f : Fit q) (o : Admissible (q .limits .K) 
       (λ z. let r10 = leb-false (q .limits .P) (pendings (q .recs)) x in
       let r11 = ltb-false (q .limits .B) (pendingBytes (q .recs) + length (a .held .bytes)) y in
       let c = cursor-ok (q .recs) in
-      rw (x, y, z) (committed-kept (cursorAfter a q (q .recs)) (tipAfter a q (q .recs)) (q .counter) (put (newRec a) (q .recs)) q f (c .0) (c .1) (f .counter)
+      rw (x, y, z) (committed-kept _ _ (q .counter) (put (newRec a) (q .recs)) q f (c .0) (c .1) (f .counter)
       (put-sound r10 r11 z)
       (insert-all lt Fields (newRec a) rest (new-fields (omega arith)) (sub-all Fields (filter-sub (λ x. not (named? (newRec a .id) x)) (q .recs)) (f .recs)))))))
 
-  found-leaves : (x : Option Rec) → Leaves q (admitFound a q x)
+  found-leaves : (x : Option Rec) → Leaves q (maybe (admitNew a q) (λ r. cond (pending? (r .state) || mined? r) (done Nothing q r) (admitNew a q)) x)
   found-leaves none = new-leaves
   found-leaves (some r) = cases (pending? (r .state) || mined? r) (λ t. rw t (same-kept q f)) (λ t. rw t new-leaves)
 
@@ -196,6 +197,6 @@ admit-wholly a q = cases (reached? (a .due) (a .now))
         (λ y. rw (x, y) tt)
         (λ y. cases (clash? (a .held .ins) (q .recs)) (λ z. rw (x, y, z) tt) (λ z. rw (x, y, z) tt)))
 
-    found : (x : Option Rec) → Wholly (admitFound a q x)
+    found : (x : Option Rec) → Wholly (maybe (admitNew a q) (λ r. cond (pending? (r .state) || mined? r) (done Nothing q r) (admitNew a q)) x)
     found none = free
     found (some r) = cases (pending? (r .state) || mined? r) (λ t. rw t tt) (λ t. rw t free)

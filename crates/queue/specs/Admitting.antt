@@ -15,11 +15,12 @@ use Rattle.queue.specs.Arguments.{Small, AdmitLent}
 use Rattle.queue.specs.Forms.{queueC}
 use Rattle.queue.specs.Areas.{readArea}
 use Rattle.queue.specs.Opens.{AreaAs}
+use Rattle.queue.specs.declared.Kind.the-variants.{Nothing}
 use Rattle.queue.specs.paper.Records.{Bytes, Id, Terms, Held, Rec, Queue}
-use Rattle.queue.specs.paper.Lists.{filter, find}
-use Rattle.queue.specs.paper.Sound.{need, labelLen, clash?}
+use Rattle.queue.specs.paper.Lists.{filter, find, maybe}
+use Rattle.queue.specs.paper.Sound.{need, labelLen, clash?, pending?, mined?}
 use Rattle.queue.specs.paper.Area.{flagged, areaBytes, over}
-use Rattle.queue.specs.paper.Changing.{named?, put, newRec, committed, pendings, pendingBytes, admitNew, admitFound, admit}
+use Rattle.queue.specs.paper.Changing.{named?, put, newRec, committed, pendings, pendingBytes, admitNew, admit, done}
 use Rattle.queue.specs.Checked.{admitShape?, Outcome, told}
 use Rattle.queue.specs.paper.Calls.{items, given, AdmitArgs, admission, id?, whole?, flag?, givenId?, overK?, entryBytes}
 use Rattle.queue.specs.declared.admit.Asked.{Asked}
@@ -175,7 +176,7 @@ abbrev pub NewTold : Bytes → AdmitArgs → Outcome → Bytes → Bytes → Typ
 NewTold s g o next out = (q : Queue) → readArea s ≡ some q → o ≡ told entryBytes next out (admitNew (admission g) q)
 
 abbrev pub FoundTold : Bytes → AdmitArgs → Outcome → Bytes → Bytes → Type 0
-FoundTold s g o next out = (q : Queue) → readArea s ≡ some q → o ≡ told entryBytes next out (admitFound (admission g) q (find (named? (g .id)) (q .recs)))
+FoundTold s g o next out = (q : Queue) → readArea s ≡ some q → o ≡ told entryBytes next out (maybe (admitNew (admission g) q) (λ r. cond (pending? (r .state) || mined? r) (done Nothing q r) (admitNew (admission g) q)) (find (named? (g .id)) (q .recs)))
 
 abbrev pub AdmitTold : Bytes → AdmitArgs → Outcome → Bytes → Bytes → Type 0
 AdmitTold s g o next out = (q : Queue) → readArea s ≡ some q → o ≡ told entryBytes next out (admit (admission g) q)

@@ -10,10 +10,10 @@ use Rattle.queue.specs.declared.Answer.{Answer}
 use Rattle.queue.specs.Hex.{textOf, digOf}
 use Rattle.queue.specs.paper.Records.{Bytes, Id, Limits, Rec, Queue}
 use Rattle.queue.specs.paper.Lists.{all?, find}
-use Rattle.queue.specs.paper.Ids.{cmpL, same?}
-use Rattle.queue.specs.paper.Sound.{need, sound?, inRange, counts?, right?, rising?, distinct?, apart?, used?, clash?}
+use Rattle.queue.specs.paper.Ids.{cmpL, same?, rise?}
+use Rattle.queue.specs.paper.Sound.{need, sound?, inRange, counts?, right?, distinct?, apart?, used?, clash?}
 use Rattle.queue.specs.paper.Area.{termsBytes, placeBytes, heldBytes, recBytes, headBytes, queueBytes, areaBytes, imageBytes, over}
-use Rattle.queue.specs.paper.Changing.{Out, refused, done, named?, committed, moved, newRec, admit, finished, finishThose, forget, cancel, due?, expire, Applied, confirm, judged, touch, releases, released, reconcile, reopened, reopen, setCursor}
+use Rattle.queue.specs.paper.Changing.{Out, refused, done, named?, committed, moved, newRec, admit, finished, finishThose, forget, cancel, due?, expire, Applied, confirm, touch, releases, reconcile, reopened, reopen, setCursor, touchedRecs, toRelease}
 use Rattle.queue.specs.paper.Calls.{kindNumber, number, fresh, settleNext}
 
 -- the number that a call gives back: a refusal's own, or 100 and the kind
@@ -192,5 +192,5 @@ cards =
     ∷ []
 
 pub all-cards : all? (λ b. b) cards ≡ true
-unfolding cmpL over need sound? inRange counts? right? rising? distinct? apart? used? clash? termsBytes placeBytes heldBytes recBytes headBytes queueBytes areaBytes imageBytes committed moved newRec admit finished finishThose forget cancel due? expire confirm judged touch releases released reconcile reopened reopen setCursor textOf digOf
+unfolding cmpL over need sound? inRange counts? right? rise? distinct? apart? used? clash? termsBytes placeBytes heldBytes recBytes headBytes queueBytes areaBytes imageBytes committed moved newRec admit finished finishThose forget cancel due? expire confirm touch releases touchedRecs toRelease reconcile reopened reopen setCursor textOf digOf
 all-cards = refl

@@ -18,7 +18,7 @@ use Rattle.queue.specs.paper.Lists.{map}
 use Rattle.queue.specs.paper.Sound.{need}
 use Rattle.queue.specs.paper.Area.{over}
 use Rattle.queue.specs.paper.Changing.{Out, refused, done, admit, cancel, expire, reconcile, reopen, setCursor}
-use Rattle.queue.specs.paper.Calls.{id?, whole?, items, rise?, flag?, given, givenId?, idList?, entryBytes, idsBytes, releasedBytes, nothingBytes, AdmitArgs, admission, ReconcileArgs, reconciliation, Call, admitting, cancelling, expiring, reconciling, reopening, settingCursor, shape?, overK?, Worked, refusing, worked, rules, work, nextArea, onLent, callOf}
+use Rattle.queue.specs.paper.Calls.{id?, whole?, items, flag?, given, givenId?, idList?, entryBytes, idsBytes, releasedBytes, nothingBytes, AdmitArgs, admission, ReconcileArgs, reconciliation, Call, admitting, cancelling, expiring, reconciling, reopening, settingCursor, shape?, overK?, Worked, refusing, worked, rules, work, nextArea, onLent, callOf}
 
 -- what a call that writes one area or one output gives back, and leaves there
 abbrev pub Written : Type 0

@@ -17,7 +17,7 @@ use Rattle.queue.specs.Sounds.{InRange, Right, Before, Distinct, Apart, 
 use Rattle.queue.specs.paper.Records.{Limits, Rec}
 use Rattle.queue.specs.paper.Lists.{one, count}
 use Rattle.queue.specs.paper.Sound.{holder?, mined?, content, holders, holderBytes, minedHolders, minedBytes, tombstones, stamped?}
-use Rattle.queue.specs.paper.Changing.{higher, stays?, forget}
+use Rattle.queue.specs.paper.Changing.{higher, forget}
 
 -- all rules but those on the number of tombstones
 pub record Core (m : Limits) (counter : ℕ) (l : List Rec) : Type 0 where
@@ -159,6 +159,10 @@ all-under : (l : List Rec) (t : ℕ) → tombstones l ≤ t → count (under? l 
 all-under l t h = total-same (Counted l) (λ r. one (under? l t r)) (λ r. one (not (holder? r))) (λ r k. cases (holder? r)
     (λ u. rw u)
     (λ u. let z = higher-all l r u k in rw (u, lt-ltb (higher (r .finish) l) t (omega arith)))) l (counted l)
+
+-- is a record kept?
+abbrev pub stays? : ℕ → List Rec → Rec → Bool
+stays? t l r = holder? r || ltb (higher (r .finish) l) t
 
 forget-under : (t : ℕ) (l : List Rec) → tombstones (forget t l) ≡ count (under? l t) l
 unfolding forget

@@ -20,10 +20,10 @@ use Rattle.queue.specs.Forget.{Core, core-sound, forget-sub, forget-soun
 use Rattle.queue.specs.declared.Kind.{Kind}
 use Rattle.queue.specs.declared.Kind.the-variants.{Nothing, Memory, Whole, Cursor}
 use Rattle.queue.specs.paper.Records.{Id, Limits, Held, Rec, Queue, queued, mined, conflicted, cancelled, expired}
-use Rattle.queue.specs.paper.Lists.{isSome, one, any?, total, count, filter, find, map}
+use Rattle.queue.specs.paper.Lists.{isSome, one, any?, total, count, filter, find, map, maybe}
 use Rattle.queue.specs.paper.Ids.{same?}
 use Rattle.queue.specs.paper.Sound.{inRange, holder?, pending?, mined?, content, minedHolders, heldRight?, reasonRight?, placeRight?, markRight?, finishRight?}
-use Rattle.queue.specs.paper.Changing.{Out, refused, done, top, named?, committed, moved, finished, finishThose, forget, finishAll, cancelFound, cancel, due?, expire, reopened, listed?, reopen, setCursor}
+use Rattle.queue.specs.paper.Changing.{Out, refused, done, top, named?, committed, moved, finished, finishThose, forget, finishAll, cancel, due?, expire, reopened, listed?, reopen, setCursor}
 use Rattle.queue.specs.paper.Calls.{fresh}
 
 -- what else the kind says of the next queue
@@ -287,7 +287,7 @@ module _ (i : Id) (q : Queue) (f : Fit q) where
   unfolding cancel
   cancel-leaves = found (find (named? i) (q .recs)) refl
     where
-      found : (o : Option Rec) → find (named? i) (q .recs) ≡ o → Leaves q (cancelFound i q o)
+      found : (o : Option Rec) → find (named? i) (q .recs) ≡ o → Leaves q (maybe (refused 13) (λ r. cond (mined? r) (refused 14) (cond (holder? r) (finishAll (named? i) cancelled 1 (finished cancelled 1 (q .counter + 1) r) q) (done Nothing q r))) o)
       found none e = tt
       found (some r) e = cases (mined? r)
           (λ t. rw t tt)
@@ -450,7 +450,7 @@ pub cancel-wholly : (i : Id) (q : Queue) → Wholly (cancel i q)
 unfolding cancel
 cancel-wholly i q = found (find (named? i) (q .recs))
   where
-    found : (o : Option Rec) → Wholly (cancelFound i q o)
+    found : (o : Option Rec) → Wholly (maybe (refused 13) (λ r. cond (mined? r) (refused 14) (cond (holder? r) (finishAll (named? i) cancelled 1 (finished cancelled 1 (q .counter + 1) r) q) (done Nothing q r))) o)
     found none = tt
     found (some r) = cases (mined? r)
         (λ t. rw t tt)

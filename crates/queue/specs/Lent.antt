@@ -6,9 +6,10 @@ use lib.ListN.{length, take}
 use Rattle.queue.specs.Arguments.{Small}
 use Rattle.queue.specs.Reopens.{IdsRise, idsAt}
 use Rattle.queue.specs.Touching.{appliedIn, EntriesRise}
+use Rattle.queue.specs.paper.Ids.{rise?}
 use Rattle.queue.specs.paper.Records.{Bytes}
 use Rattle.queue.specs.paper.Lists.{map}
-use Rattle.queue.specs.paper.Calls.{id?, whole?, flag?, items, rise?, appliedOf}
+use Rattle.queue.specs.paper.Calls.{id?, whole?, flag?, items, appliedOf}
 
 -- check 5 in parts
 pub record EntriesAre (t : Bytes) (r : Bool) : Type 0 where

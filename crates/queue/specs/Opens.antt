@@ -14,9 +14,10 @@ use Rattle.queue.specs.Forms.{formC, afterIn, Framed, Store, headFor, st
 use Rattle.queue.specs.Areas.{readArea, zero?}
 use Rattle.queue.specs.Facts.{HeadAs}
 use Rattle.queue.specs.Sums.{SumsAs}
+use Rattle.queue.specs.paper.Ids.{rise?}
 use Rattle.queue.specs.paper.Records.{Bytes, Limits, Rec, Queue}
-use Rattle.queue.specs.paper.Lists.{all?}
-use Rattle.queue.specs.paper.Sound.{inRange, need, right?, counts?, rising?, distinct?, apart?, sound?}
+use Rattle.queue.specs.paper.Lists.{all?, map}
+use Rattle.queue.specs.paper.Sound.{inRange, need, right?, counts?, distinct?, apart?, sound?}
 use Rattle.queue.specs.declared.area.Open.{Open}
 use Rattle.queue.specs.declared.area.Area.{Area}
 use Rattle.queue.specs.declared.scan.Span.{Span}
@@ -40,7 +41,7 @@ pub record StoreAs (hex : Bool) (s : Bytes) (base : ℕ) (x : Open) (st : Store)
 -- the rules of a sound queue on its limits, counter and records
 unfoldable pub soundL : Limits → ℕ → List Rec → Bool
 soundL m counter l =
-    inRange m && (counts? m l && (all? (right? (m .K) counter) l && (rising? l && (distinct? l && apart? l))))
+    inRange m && (counts? m l && (all? (right? (m .K) counter) l && (rise? (map (λ r. r .id) l) && (distinct? l && apart? l))))
 
 pub sound-list : (q : Queue) → sound? q ≡ soundL (q .limits) (q .counter) (q .recs)
 unfolding sound? soundL

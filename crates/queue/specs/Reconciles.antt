@@ -2,7 +2,7 @@
 use mathlib.Core.Path.{_≡_, refl, sym, _∙_}
 use mathlib.Core.Bool.{Bool, true, false, cond, not, _&&_, _||_}
 use mathlib.Core.Option.{Option, none, some}
-use mathlib.Core.List.{List, [], _∷_, _++_}
+use mathlib.Core.List.{List, [], _∷_}
 use Prim.Native.Nat.{ℕ, zero, suc, _+_, _*_, _-_, _^_, _≤_, _<_, min}
 use native.Mathlib.Omega.{arith}
 use lib.Dec.{ltb, leb, eqb}
@@ -19,10 +19,10 @@ use Rattle.queue.specs.Forget.{Core, core-sound, forget-sub, forget-soun
 use Rattle.queue.specs.Keeps.{Leaves, moved-fit, committed-kept, pending-mined, pending-held, unmined-place, unmined-mark, no-place, no-mark, in-range, right-later, finish-le, finished-fields, apart-finished, finished-apart, Alike, alike-rising, alike-distinct, alike-apart, alike-total, mined-weight}
 use Rattle.queue.specs.declared.Kind.the-variants.{Nothing, Memory, Whole, Cursor}
 use Rattle.queue.specs.paper.Records.{Id, Limits, Held, Rec, Queue, queued, mined, conflicted, cancelled, expired}
-use Rattle.queue.specs.paper.Lists.{isSome, one, all?, any?, total, filter, find, sort, map}
+use Rattle.queue.specs.paper.Lists.{isSome, one, all?, any?, total, filter, find, sort, map, maybe, isEmpty?}
 use Rattle.queue.specs.paper.Ids.{same?}
 use Rattle.queue.specs.paper.Sound.{holder?, pending?, mined?, inputs, content, among?, holders, holderBytes, tombstones, heldRight?, reasonRight?, placeRight?, markRight?}
-use Rattle.queue.specs.paper.Changing.{Out, refused, done, top, topHeight, moved, finished, Applied, Reconciling, confirmed?, confirm, judged, judge, touchFound, touch, orElse, minedHeight, newer?, releases, released, onePast, placeIn, releaseOne, trimmed, someReleased?, reconcileTo, reconcileOn, queuedOutputs, reconcile}
+use Rattle.queue.specs.paper.Changing.{Out, refused, done, top, topHeight, moved, finished, Applied, Reconciling, confirmed?, confirm, judge, touchFound, touch, minedHeight, newer?, releases, onePast, placeIn, releaseOne, trimmed, reconcile, remade, ownOf, touchedRecs, toRelease, committed}
 
 abbrev pub AppliedOk : Applied → Type 0
 AppliedOk a = (a .height < 256 ^ 4) × idC .ok (a .block)
@@ -33,19 +33,35 @@ pub record Reconcilable (c : Reconciling) : Type 0 where
   pub tip : idC .ok (c .tip)
   pub applied : All AppliedOk (c .applied)
 
+-- the walk over any records
+unfoldable pub released : Reconciling → Limits → List Rec → List Id
+released c m l = releases m (c .height) (c .window) 0 0 (sort newer? (filter (λ r. mined? r && holder? r) l))
+
+-- what a reconciliation says, given whether a record changed, the records then, and the ids released
+abbrev pub reconcileTo : Reconciling → Queue → Bool → List Rec → List Id → Out (Bool × List Id)
+reconcileTo c q changed l ids =
+    cond (ltb top (q .counter + length ids)) (refused 15)
+    (cond (changed || not (isEmpty? ids))
+    (done Whole
+    (committed (c .height) (some (c .tip)) (q .counter + length ids) (trimmed (q .limits .T) ids (map (releaseOne (q .counter) ids) l)) q)
+    (true, ids))
+    (cond (leb (min (q .persisted + 32) topHeight) (c .height))
+    (done Cursor (moved (c .height) (c .height) (some (c .tip)) q) (false, []))
+    (done Memory (moved (q .persisted) (c .height) (some (c .tip)) q) (false, []))))
+
 -- ---- each record by itself
 
 module _ (P : Rec → Type 0) (c : Reconciling) (own : List Id) (ok : All AppliedOk (c .applied)) (r : Rec) (same : P r)
-    (confirms : (a : Applied) → AppliedOk a → P (confirm a r)) (queues : pending? (r .state) ≡ true → P (judged queued 0 r)) (conflicts : pending? (r .state) ≡ true → P (judged conflicted 5 r)) where
-  judge-cases : (fine : Bool) → pending? (r .state) ≡ true → P (orElse r (judge fine r))
+    (confirms : (a : Applied) → AppliedOk a → P (confirm a r)) (queues : pending? (r .state) ≡ true → P (remade queued 0 (r .place) (r .mark) (r .finish) (r .body) r)) (conflicts : pending? (r .state) ≡ true → P (remade conflicted 5 (r .place) (r .mark) (r .finish) (r .body) r)) where
+  judge-cases : (fine : Bool) → pending? (r .state) ≡ true → P (maybe r (λ y. y) (cond fine (judge queued 0 r) (judge conflicted 5 r)))
   judge-cases true p = cases (eqb (r .state) queued && eqb (r .reason) 0) (λ t. rw t same) (λ t. rw t (queues p))
   judge-cases false p = cases (eqb (r .state) conflicted && eqb (r .reason) 5) (λ t. rw t same) (λ t. rw t (conflicts p))
 
-  pub touch-cases : P (orElse r (touch c own r))
+  pub touch-cases : P (maybe r (λ y. y) (touch c own r))
   unfolding touch
   touch-cases = go (find (λ a. same? (r .id) (a .id)) (c .applied)) refl
     where
-      go : (x : Option Applied) → find (λ a. same? (r .id) (a .id)) (c .applied) ≡ x → P (orElse r (touchFound (c .caughtUp) own r x))
+      go : (x : Option Applied) → find (λ a. same? (r .id) (a .id)) (c .applied) ≡ x → P (maybe r (λ y. y) (touchFound (c .caughtUp) own r x))
       go (some a) e = let k = find-all (λ a. same? (r .id) (a .id)) AppliedOk (c .applied) a e ok in
           cases (mined? r && confirmed? a (r .place)) (λ t. rw t same) (λ t. rw t (confirms a (k .0)))
       go none e = cases (c .caughtUp && pending? (r .state))
@@ -83,8 +99,7 @@ confirm-right K c a r h = record { held = refl; reason = refl; place = refl; mar
 held-now : (s : ℕ) (h : Bool) → h ≡ true → pending? s ≡ true → heldRight? s h ≡ true
 held-now s h e p = rw (e, p)
 
-judged-right : (state reason : ℕ) → pending? state ≡ true → reasonRight? state reason ≡ true → (K c : ℕ) (r : Rec) → pending? (r .state) ≡ true → Right K c r → Right K c (judged state reason r)
-unfolding judged
+judged-right : (state reason : ℕ) → pending? state ≡ true → reasonRight? state reason ≡ true → (K c : ℕ) (r : Rec) → pending? (r .state) ≡ true → Right K c r → Right K c (remade state reason (r .place) (r .mark) (r .finish) (r .body) r)
 judged-right state reason p w K c r t h =
     let n = pending-mined (r .state) t in
     let k = unmined-place (r .state) (isSome (r .place)) n (h .place) in
@@ -103,19 +118,19 @@ judged-right state reason p w K c r t h =
 
 module _ (c : Reconciling) (own : List Id) (ok : All AppliedOk (c .applied)) where
   abbrev pub touched : Rec → Rec
-  touched r = orElse r (touch c own r)
+  touched r = maybe r (λ y. y) (touch c own r)
 
   pub touched-right : (K n : ℕ) (r : Rec) → Right K n r → Right K n (touched r)
   touched-right K n r h = touch-cases (Right K n) c own ok r h (λ a _. confirm-right K n a r h) (λ p. judged-right queued 0 refl refl K n r p h) (λ p. judged-right conflicted 5 refl refl K n r p h)
 
   pub touched-alike : (r : Rec) → Alike r (touched r)
-  unfolding confirm judged
+  unfolding confirm
   touched-alike r =
       touch-cases (Alike r) c own ok r (record { id = refl; body = refl; finish = refl })
       (λ a _. record { id = refl; body = refl; finish = refl }) (λ p. record { id = refl; body = refl; finish = refl }) (λ p. record { id = refl; body = refl; finish = refl })
 
   pub touched-fields : (r : Rec) → Fields r → Fields (touched r)
-  unfolding confirm judged placeC optC pairC beC
+  unfolding confirm placeC optC pairC beC
   touched-fields r h = touch-cases Fields c own ok r h
       (λ a k. record { id = h .id; state = omega arith; reason = omega arith; terms = h .terms; place = k; mark = pick (eqb (r .state) cancelled || eqb (r .state) expired) (r .state) (r .mark) (h .state) (h .mark); finish = h .finish; body = h .body })
       (λ p. record { id = h .id; state = omega arith; reason = omega arith; terms = h .terms; place = h .place; mark = h .mark; finish = h .finish; body = h .body })
@@ -401,7 +416,7 @@ module _ (c : Reconciling) (q : Queue) (f : Fit q) (o : Reconcilable c) (own : L
   unfolding moved optC
   to-leaves changed ids e = cases (ltb top (q .counter + length ids))
       (λ t. rw t tt)
-      (λ t. let room = ltb-false top (q .counter + length ids) t in cases (changed || someReleased? ids)
+      (λ t. let room = ltb-false top (q .counter + length ids) t in cases (changed || not (isEmpty? ids))
       (λ u. rw (t, u) (committed-kept (c .height) (some (c .tip)) (q .counter + length ids) _ q f (o .height) (o .tip) (omega arith)
       (trimmed-sound (q .limits) (q .counter) now ids (rw e at now-core) (let a = now-total (λ b. one (not (isSome b))) in let b = f .sound .fewTombs in omega arith))
       (trimmed-fields (q .limits .T) ids _ (now-fields ids room))))
@@ -410,9 +425,8 @@ module _ (c : Reconciling) (q : Queue) (f : Fit q) (o : Reconcilable c) (own : L
       (λ v. rw (t, u, v) (record { fit = moved-fit (q .persisted) (c .height) (some (c .tip)) q (f .persisted) (o .height) (o .tip) f; limits = refl; level = refl }))))
 
 pub reconcile-leaves : (c : Reconciling) (q : Queue) → Fit q → Reconcilable c → Leaves q (reconcile c q)
-unfolding reconcile
-reconcile-leaves c q f o =
-    to-leaves c q f o (c .available ++ queuedOutputs (q .recs)) (any? (λ r. isSome (touch c (c .available ++ queuedOutputs (q .recs)) r)) (q .recs)) _ refl
+unfolding reconcile released toRelease touchedRecs
+reconcile-leaves c q f o = to-leaves c q f o (ownOf c q) (any? (λ r. isSome (touch c (ownOf c q) r)) (q .recs)) _ refl
 
 -- ---- the answer
 
@@ -453,16 +467,13 @@ Near (done Cursor q a) = Unit {0}
 
 pub reconcile-near : (c : Reconciling) (q : Queue) → Near (reconcile c q)
 unfolding reconcile moved
-reconcile-near c q = on (c .available ++ queuedOutputs (q .recs))
+reconcile-near c q = go (any? (λ r. isSome (touch c (ownOf c q) r)) (q .recs)) (touchedRecs c q) (toRelease c q)
   where
     go : (changed : Bool) (l : List Rec) (ids : List Id) → Near (reconcileTo c q changed l ids)
     go changed l ids = cases (ltb top (q .counter + length ids))
         (λ t. rw t tt)
-        (λ t. cases (changed || someReleased? ids)
+        (λ t. cases (changed || not (isEmpty? ids))
         (λ u. rw (t, u) tt)
         (λ u. cases (leb (min (q .persisted + 32) topHeight) (c .height))
         (λ v. rw (t, u, v) tt)
         (λ v. let z = leb-false (min (q .persisted + 32) topHeight) (c .height) v in rw (t, u, v) (omega arith))))
-
-    on : (own : List Id) → Near (reconcileOn c q own)
-    on own = go (any? (λ r. isSome (touch c own r)) (q .recs)) (map (λ r. orElse r (touch c own r)) (q .recs)) (released c (q .limits) (map (λ r. orElse r (touch c own r)) (q .recs)))

@@ -1,6 +1,6 @@
 -- Reconciliation as the code goes, and what its parts ask and say.
 use mathlib.Core.Path.{_≡_}
-use mathlib.Core.Bool.{Bool, true, false, cond, _||_}
+use mathlib.Core.Bool.{Bool, true, false, cond, not, _||_}
 use mathlib.Core.Option.{Option, none, some}
 use mathlib.Core.List.{List, [], _∷_, _++_}
 use Prim.Native.Nat.{ℕ, _+_, _≤_, _<_, min}
@@ -21,10 +21,10 @@ use Rattle.queue.specs.Arguments.{Small}
 use Rattle.queue.specs.Reconciles.{Reconcilable}
 use Rattle.queue.specs.SelectAs.{idAt}
 use Rattle.queue.specs.Touching.{appliedIn, EntriesRise, ownIds, Judged}
-use Rattle.queue.specs.paper.Records.{Bytes, Id, Rec, Queue}
-use Rattle.queue.specs.paper.Lists.{isSome, one, any?, map, concat}
+use Rattle.queue.specs.paper.Records.{Bytes, Id, Queue}
+use Rattle.queue.specs.paper.Lists.{isSome, one, any?, map, concat, isEmpty?}
 use Rattle.queue.specs.paper.Area.{areaBytes, over}
-use Rattle.queue.specs.paper.Changing.{Reconciling, queuedOutputs, touch, orElse, released, releaseOne, trimmed, committed, moved, someReleased?, topHeight, reconcile}
+use Rattle.queue.specs.paper.Changing.{Reconciling, touch, releaseOne, trimmed, committed, moved, topHeight, reconcile, ownOf, touchedRecs, toRelease}
 use Rattle.queue.specs.Checked.{Outcome, told}
 use Rattle.queue.specs.paper.Calls.{releasedBytes}
 use Rattle.queue.specs.declared.area.Area.{Area}
@@ -49,33 +49,24 @@ pub record LentTo (height : ℕ) (tip : Id) (t : Bytes) (k : ℕ) (caught : Bool
 pub record JudgedIn (s : Bytes) (a : Area) (t : Bytes) (k : ℕ) (caught : Bool) (ids : Bytes) (m : ℕ) (v : List ℕ) : Type 0 where
   pub all : Judged t caught (ownIds (idsAt ids m) (listAt (formC false recC) (a .open .head .count) s (a .open .start))) (appliedIn t k) (listAt (formC false recC) (a .open .head .count) s (a .open .start)) v
 
--- the records after the verdicts, the ids released, and whether a verdict changed one
-abbrev pub ownOf : Reconciling → Queue → List Id
-ownOf c q = c .available ++ queuedOutputs (q .recs)
-
-unfoldable pub touchedL : Reconciling → Queue → List Rec
-touchedL c q = map (λ r. orElse r (touch c (ownOf c q) r)) (q .recs)
-
-unfoldable pub goneIds : Reconciling → Queue → List Id
-goneIds c q = released c (q .limits) (touchedL c q)
-
+-- whether a verdict changed a record
 unfoldable pub anyTouched : Reconciling → Queue → Bool
 anyTouched c q = any? (λ r. isSome (touch c (ownOf c q) r)) (q .recs)
 
 -- the queue of a whole write
 unfoldable pub wholeQ : Reconciling → Queue → Queue
 wholeQ c q =
-    committed (c .height) (some (c .tip)) (q .counter + length (goneIds c q)) (trimmed (q .limits .T) (goneIds c q) (map (releaseOne (q .counter) (goneIds c q)) (touchedL c q))) q
+    committed (c .height) (some (c .tip)) (q .counter + length (toRelease c q)) (trimmed (q .limits .T) (toRelease c q) (map (releaseOne (q .counter) (toRelease c q)) (touchedRecs c q))) q
 
 -- the places of the released, in the order of the walk
 pub record GoneAre (s : Bytes) (c : Reconciling) (gone : List ℕ) : Type 0 where
-  pub are : (q : Queue) → readArea s ≡ some q → map (idAt s) gone ≡ goneIds c q
+  pub are : (q : Queue) → readArea s ≡ some q → map (idAt s) gone ≡ toRelease c q
   pub placed : All (λ p. p + 33 ≤ length s) gone
   pub few : length gone ≤ 2048
 
 -- did a record change, or is one released?
 abbrev pub ChangedIs : Bytes → Reconciling → Bool → Type 0
-ChangedIs s c b = (q : Queue) → readArea s ≡ some q → b ≡ (anyTouched c q || someReleased? (goneIds c q))
+ChangedIs s c b = (q : Queue) → readArea s ≡ some q → b ≡ (anyTouched c q || not (isEmpty? (toRelease c q)))
 
 -- what a reconciliation that changes nothing leaves: kind 3 or 1, and the cursor
 abbrev pub cursorKind : ℕ → ℕ → Kind

@@ -13,22 +13,22 @@ use Rattle.queue.specs.Forms.{formC}
 use Rattle.queue.specs.SelectAs.{Row, rows, Even, idAt, idOf}
 use Rattle.queue.specs.Touching.{asTouched, verdictOf}
 use Rattle.queue.specs.paper.Records.{Bytes, Id, Limits, Rec}
-use Rattle.queue.specs.paper.Lists.{total, filter, find, map}
+use Rattle.queue.specs.paper.Lists.{total, filter, find, map, maybe}
 use Rattle.queue.specs.paper.Ids.{same?}
 use Rattle.queue.specs.paper.Sound.{holder?, mined?, content}
-use Rattle.queue.specs.paper.Changing.{Applied, touchFound, orElse, minedHeight}
+use Rattle.queue.specs.paper.Changing.{Applied, touchFound, minedHeight}
 use Rattle.queue.specs.declared.frame.Facts.{Facts}
 use Rattle.queue.specs.declared.touch.Verdict.{Verdict}
 
 -- a record after the verdict on it
 unfoldable pub nextR : Bool → List Id → List Applied → Rec → Rec
-nextR caught own es r = orElse r (touchFound caught own r (find (λ a. same? (r .id) (a .id)) es))
+nextR caught own es r = maybe r (λ y. y) (touchFound caught own r (find (λ a. same? (r .id) (a .id)) es))
 
 -- records after verdicts in numbers; the n records at `at`; and the Mined holders of these
 unfoldable pub nextV : Bytes → List Rec → List ℕ → List Rec
 nextV t [] v = []
 nextV t (r ∷ l) [] = r ∷ nextV t l []
-nextV t (r ∷ l) (c ∷ v) = orElse r (asTouched t (verdictOf c) r) ∷ nextV t l v
+nextV t (r ∷ l) (c ∷ v) = maybe r (λ y. y) (asTouched t (verdictOf c) r) ∷ nextV t l v
 
 unfoldable pub nextL : Bytes → ℕ → ℕ → Bytes → List ℕ → List Rec
 nextL s at n t v = nextV t (listAt (formC false recC) n s at) v

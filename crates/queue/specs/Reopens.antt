@@ -13,13 +13,14 @@ use Rattle.queue.specs.Reads.{whole, listAt}
 use Rattle.queue.specs.Forms.{queueC}
 use Rattle.queue.specs.Areas.{readArea}
 use Rattle.queue.specs.Opens.{AreaAs}
+use Rattle.queue.specs.paper.Ids.{rise?}
 use Rattle.queue.specs.paper.Records.{Bytes, Id, Rec, Queue}
 use Rattle.queue.specs.paper.Lists.{map}
 use Rattle.queue.specs.paper.Sound.{need, among?}
 use Rattle.queue.specs.paper.Area.{areaBytes, over}
 use Rattle.queue.specs.paper.Changing.{committed, reopened, listed?, reopen}
 use Rattle.queue.specs.Checked.{Outcome, told}
-use Rattle.queue.specs.paper.Calls.{nothingBytes, rise?}
+use Rattle.queue.specs.paper.Calls.{nothingBytes}
 use Rattle.queue.specs.declared.frame.Seen.{Seen}
 use Rattle.queue.specs.declared.frame.Facts.{Facts}
 use Rattle.queue.specs.declared.area.Area.{Area}

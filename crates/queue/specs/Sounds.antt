@@ -14,9 +14,9 @@ use Rattle.queue.specs.Frames.{tagC, idC, termsC, placeC, bodyC, recC, l
 use Rattle.queue.specs.Forms.{storeOf, queueC, store-ok, ok-store, queue-ok, ok-queue}
 use Rattle.queue.specs.Order.{same-is, same-self, below-trans, or-false, or-true}
 use Rattle.queue.specs.paper.Records.{Id, Limits, Rec, Queue}
-use Rattle.queue.specs.paper.Lists.{isSome, one, all?, count}
-use Rattle.queue.specs.paper.Ids.{below?, same?}
-use Rattle.queue.specs.paper.Sound.{inRange, holder?, inputs, outputs, content, labelLen, rising?, holders, holderBytes, minedHolders, minedBytes, tombstones, heldRight?, among?, used?, clash?, apart?, reasonRight?, placeRight?, markRight?, finishRight?, stamped?, distinct?, right?, counts?, sound?}
+use Rattle.queue.specs.paper.Lists.{isSome, one, all?, count, map}
+use Rattle.queue.specs.paper.Ids.{below?, same?, rise?}
+use Rattle.queue.specs.paper.Sound.{inRange, holder?, inputs, outputs, content, labelLen, holders, holderBytes, minedHolders, minedBytes, tombstones, heldRight?, among?, used?, clash?, apart?, reasonRight?, placeRight?, markRight?, finishRight?, stamped?, distinct?, right?, counts?, sound?}
 
 -- the rules of one record
 pub record Right (K counter : ℕ) (r : Rec) : Type 0 where
@@ -103,20 +103,20 @@ of-range m h =
 abbrev pub Before : Rec → Rec → Type 0
 Before r s = below? (r .id) (s .id) ≡ true
 
-pub rising-of : (l : List Rec) → rising? l ≡ true → Pairwise Before l
-unfolding rising?
+pub rising-of : (l : List Rec) → rise? (map (λ r. r .id) l) ≡ true → Pairwise Before l
+unfolding rise?
 rising-of [] e = tt
 rising-of (r ∷ []) e = (tt, tt)
 rising-of (r ∷ x ∷ l) e =
-    let h = and-true (below? (r .id) (x .id)) (rising? (x ∷ l)) e in
+    let h = and-true (below? (r .id) (x .id)) (rise? (map (λ r. r .id) (x ∷ l))) e in
     let i = rising-of (x ∷ l) (h .1) in
     ((h .0, all-map l (λ s k. below-trans (r .id) (x .id) (s .id) (h .0) k) (i .0)), i)
 
-pub of-rising : (l : List Rec) → Pairwise Before l → rising? l ≡ true
-unfolding rising?
+pub of-rising : (l : List Rec) → Pairwise Before l → rise? (map (λ r. r .id) l) ≡ true
+unfolding rise?
 of-rising [] h = refl
 of-rising (r ∷ []) h = refl
-of-rising (r ∷ x ∷ l) h = and-both (below? (r .id) (x .id)) (rising? (x ∷ l)) (h .0 .0) (of-rising (x ∷ l) (h .1))
+of-rising (r ∷ x ∷ l) h = and-both (below? (r .id) (x .id)) (rise? (map (λ r. r .id) (x ∷ l))) (h .0 .0) (of-rising (x ∷ l) (h .1))
 
 -- "finish numbers of tombstones are distinct"
 abbrev pub Distinct : Rec → Rec → Type 0
@@ -249,7 +249,7 @@ sound-of q e =
     let d = and-true _ _ (c0 .1) in
     let f = and-true _ _ (c1 .0) in
     let g = and-true (all? (right? (q .limits .K) (q .counter)) (q .recs)) _ (b .1) in
-    let h = and-true (rising? (q .recs)) _ (g .1) in
+    let h = and-true (rise? (map (λ r. r .id) (q .recs))) _ (g .1) in
     let i = and-true (distinct? (q .recs)) _ (h .1) in
     record {
       range = range-of (q .limits) (a .0);

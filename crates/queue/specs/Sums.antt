@@ -8,9 +8,10 @@ use Rattle.queue.specs.Frames.{recC}
 use Rattle.queue.specs.Forms.{formC, Many}
 use Rattle.queue.specs.Reads.{listAt}
 use Rattle.queue.specs.Rules.{rightF, weight, sum}
+use Rattle.queue.specs.paper.Ids.{rise?}
 use Rattle.queue.specs.paper.Records.{Bytes, Rec}
-use Rattle.queue.specs.paper.Lists.{all?}
-use Rattle.queue.specs.paper.Sound.{right?, rising?}
+use Rattle.queue.specs.paper.Lists.{all?, map}
+use Rattle.queue.specs.paper.Sound.{right?}
 use Rattle.queue.specs.declared.frame.Facts.{Facts}
 use Rattle.queue.specs.declared.frame.Finish.{Finish}
 use Rattle.queue.specs.declared.scan.Sums.{Sums}
@@ -44,7 +45,7 @@ pub record SumsAs (k : ℕ) (c : Finish) (a : Sums) (l : List Rec) : Type 0 wher
   pub mined : a .mined ≡ sum MinedHolders l
   pub minedbytes : a .minedbytes ≡ sum MinedBytes l
   pub right : a .right ≡ all? (right? k (c .0)) l
-  pub rises : a .rises ≡ rising? l
+  pub rises : a .rises ≡ rise? (map (λ r. r .id) l)
 
 pub record Checked (hex : Bool) (s : Bytes) (at n k : ℕ) (c : Finish) (r : Read) : Type 0 where
   pub many : Many (formC hex recC) s at n (r .ok) (r .next)

@@ -13,10 +13,10 @@ use Rattle.queue.specs.Forms.{formC}
 use Rattle.queue.specs.Facts.{SeenAs}
 use Rattle.queue.specs.paper.Records.{Bytes, Id, Rec, queued, conflicted}
 use Rattle.queue.specs.paper.Lists.{isSome, find, map}
-use Rattle.queue.specs.paper.Ids.{same?}
+use Rattle.queue.specs.paper.Ids.{same?, rise?}
 use Rattle.queue.specs.paper.Sound.{mined?}
-use Rattle.queue.specs.paper.Changing.{Applied, confirmed?, confirm, judged, queuedOutputs, touchFound}
-use Rattle.queue.specs.paper.Calls.{pieces, appliedOf, rise?}
+use Rattle.queue.specs.paper.Changing.{Applied, confirmed?, confirm, queuedOutputs, touchFound, remade}
+use Rattle.queue.specs.paper.Calls.{pieces, appliedOf}
 use Rattle.queue.specs.declared.frame.Seen.{Seen}
 use Rattle.queue.specs.declared.frame.Facts.{Facts}
 use Rattle.queue.specs.declared.reading.Found.{Found}
@@ -64,7 +64,7 @@ unfoldable pub asTouched : Bytes → Verdict → Rec → Option Rec
 asTouched t v r =
     cond (eqb (v .what) 0) none
     (cond (eqb (v .what) 1) (some (confirm (entryIn t (v .at)) r))
-    (cond (eqb (v .what) 2) (some (judged queued 0 r)) (some (judged conflicted 5 r))))
+    (cond (eqb (v .what) 2) (some (remade queued 0 (r .place) (r .mark) (r .finish) (r .body) r)) (some (remade conflicted 5 (r .place) (r .mark) (r .finish) (r .body) r))))
 
 -- a verdict in one number: what, and the number of the applied entry, which stands in t
 unfoldable pub verdictOf : ℕ → Verdict

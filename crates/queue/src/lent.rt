@@ -3,12 +3,12 @@ use super::logic::both;
 use super::reopen::rise;
 use super::view::cmp_at;
 use super::view::size;
+ghost use Rattle.queue.specs.paper.Ids.{rise?};
 ghost use mathlib.Core.Path.{_≡_};
 ghost use Prim.Native.Nat.{_*_};
 ghost use lib.ListN.{length};
 ghost use Rattle.queue.specs.Touching.{entryIds};
 ghost use Rattle.queue.specs.Lent.{EntriesAre, IdsAre, ReconcileAsked};
-ghost use Rattle.queue.specs.paper.Calls.{rise?};
 
 // Do the ids of k entries rise strictly?
 pub fn entries_rise(t: &[u8], k: u64) -> bool

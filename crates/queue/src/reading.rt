@@ -23,10 +23,10 @@ ghost use Rattle.queue.specs.Forms.{formC};
 ghost use Rattle.queue.specs.Splice.{Put};
 ghost use Rattle.queue.specs.Reads.{whole, listAt};
 ghost use Rattle.queue.specs.ReadingAs.{FoundAs, FoundEnd, LookAs, PlaceAs, partIn, EntryIn, entryAt, entryLen};
-ghost use Rattle.queue.specs.paper.Lists.{one, find};
+ghost use Rattle.queue.specs.paper.Lists.{one, find, isEmpty?};
 ghost use Rattle.queue.specs.paper.Changing.{named?};
 ghost use Rattle.queue.specs.Checked.{written};
-ghost use Rattle.queue.specs.paper.Reading.{isEmpty?, deadlineDue?};
+ghost use Rattle.queue.specs.paper.Reading.{deadlineDue?};
 ghost use Rattle.queue.specs.paper.Calls.{cursorBytes, entryOf, signedBytesOf, readOf, numberOf};
 
 pub struct Found {

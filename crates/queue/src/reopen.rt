@@ -31,11 +31,11 @@ ghost use Rattle.queue.specs.Reads.{whole, listAt};
 ghost use Rattle.queue.specs.Forms.{formC};
 ghost use Rattle.queue.specs.CallsAs.{AreaIn};
 ghost use Rattle.queue.specs.Reopens.{IdsIn, IdsRise, idsAt, listedS, again, stateF, reasonF, leadBytes, reopenedBytes, reopenedLen, againBytes, PartsIn, AgainFrom, AgainTo, ReopenTold};
+ghost use Rattle.queue.specs.paper.Ids.{rise?};
 ghost use Rattle.queue.specs.paper.Lists.{any?, map};
 ghost use Rattle.queue.specs.paper.Changing.{listed?};
 ghost use Rattle.queue.specs.paper.Sound.{among?};
 ghost use Rattle.queue.specs.Checked.{outcome, reopenOf};
-ghost use Rattle.queue.specs.paper.Calls.{rise?};
 
 // Do n lent ids rise strictly?
 pub fn rise(ids: &[u8], n: u64) -> bool

@@ -11,12 +11,12 @@ use Rattle.queue.specs.declared.Answer.{Answer}
 use Rattle.queue.specs.declared.Answer.the-variants.{Done}
 use Rattle.queue.specs.Codec.{All}
 use Rattle.queue.specs.paper.Records.{Bytes, Limits, Queue}
-use Rattle.queue.specs.paper.Lists.{maybe, map}
+use Rattle.queue.specs.paper.Lists.{maybe, isEmpty?, map}
 use Rattle.queue.specs.paper.Sound.{inRange, need, holders, holderBytes, tombstones, apart?, different?}
 use Rattle.queue.specs.paper.Area.{areaBytes, imageBytes}
-use Rattle.queue.specs.paper.Reading.{isEmpty?, selectedAt}
-use Rattle.queue.specs.paper.Calls.{idsBytes, Call, admitting, cancelling, expiring, reconciling, reopening, settingCursor, work, freshOf, toldOut, selectionAtOf}
-use Rattle.pokerbox.specs.paper.Machine.{Fate, kept, failed, cutBefore, cutAfter, Step, call, cut, Told, byKind, run, Plain, restart, plainStep, World, worldStep, starts}
+use Rattle.queue.specs.paper.Reading.{selectedAt}
+use Rattle.queue.specs.paper.Calls.{idsBytes, Call, admitting, cancelling, expiring, reconciling, reopening, settingCursor, work, byKind, freshOf, toldOut, selectionAtOf}
+use Rattle.pokerbox.specs.paper.Machine.{Fate, kept, failed, cutBefore, cutAfter, Step, call, cut, Told, run, Plain, restart, plainStep, World, worldStep, starts}
 
 -- ---- which lists: any, as far as numbers fit their widths and bytes are bytes (a caller can lend nothing else), and "all
 -- other areas, and the output lent to the image writer, are long enough"
@@ -35,13 +35,11 @@ CallOk (reconciling a) =
 CallOk (reopening ids) = Small ids
 CallOk (settingCursor height flag tip) = Small tip × (height < 4294967296)
 
--- the output to the image writer, should a write be due
-abbrev pub TextOk : Answer → Queue → Bytes → Type 0
-TextOk a next text = byKind a false false true true ≡ true → length (imageBytes next) ≤ length text
-
+-- the output to the image writer, should a write be due; the area to opening or a fresh queue
 abbrev pub StepOk : Limits → Plain → Step → Type 0
 StepOk m p (call c l fate) =
-    let w = work c (p .queue) (length (l .next)) (length (l .out)) in CallOk c × (TextOk (w .answer) (w .next) (l .text) × (need m ≤ length (l .other)))
+    let w = work c (p .queue) (length (l .next)) (length (l .out)) in
+    CallOk c × ((byKind (w .answer) false false true true ≡ true → length (imageBytes (w .next)) ≤ length (l .text)) × (need m ≤ length (l .other)))
 StepOk m p (cut l) = need m ≤ length (l .other)
 
 -- each step, where the machine stands then
@@ -81,13 +79,6 @@ abbrev pub movedLast : Limits → Plain → Bool → List Step → Bool
 movedLast m p old [] = old
 movedLast m p old (x ∷ xs) = movedLast m (plainStep m p x .1) (movedBy p old x) xs
 
--- "With nothing stored, the image's cursor counts as 0."
-abbrev pub imageCursor : Option Queue → ℕ
-imageCursor o = maybe 0 (λ q. q .cursor) o
-
-abbrev pub images : Option Queue → Option Bytes
-images o = maybe none (λ q. some (imageBytes q)) o
-
 -- ---- the claim
 
 -- After a list of steps, on bytes and files (v) and on the plain machine (p): "All answers and the queue equal those of document
@@ -97,28 +88,25 @@ pub record Holds (m : Limits) (xs : List Step) (v : List Told × World) (p : Lis
   pub answers : v .0 ≡ p .0
   pub later : Bytes
   pub queue : v .1 .area ≡ areaBytes (p .1 .queue) ++ later
-  pub file : v .1 .file ≡ images (p .1 .stored)
+  pub file : v .1 .file ≡ maybe none (λ q. some (imageBytes q)) (p .1 .stored)
   -- "Opening what is stored, or starting fresh where nothing is, gives exactly the records of that machine's queue"
   pub opening : (other : Bytes) → need m ≤ length other → (rest : Bytes) × (starts m (v .1 .file) other ≡ (Done Nothing, areaBytes (restart m (p .1 .stored) .queue) ++ rest))
   pub records : restart m (p .1 .stored) .queue .recs ≡ p .1 .queue .recs
   -- "No input id is in two records. Holders number at most 2P with at most 2B signed bytes, tombstones at most T. A cursor last
-  -- moved by a successful reconciliation is at most 31 blocks above the image's."
+  -- moved by a successful reconciliation is at most 31 blocks above the image's." "With nothing stored, the image's cursor counts
+  -- as 0."
   pub limits : p .1 .queue .limits ≡ m
   pub apart : apart? (p .1 .queue .recs) ≡ true
   pub holders : holders (p .1 .queue .recs) ≤ 2 * m .P
   pub bytes : holderBytes (p .1 .queue .recs) ≤ 2 * m .B
   pub tombstones : tombstones (p .1 .queue .recs) ≤ m .T
-  pub cursor : movedLast m (restart m none) false xs ≡ true → p .1 .queue .cursor ≤ imageCursor (p .1 .stored) + 31
+  pub cursor : movedLast m (restart m none) false xs ≡ true → p .1 .queue .cursor ≤ maybe 0 (λ q. q .cursor) (p .1 .stored) + 31
 
 -- "The queue starts fresh, under any limits in range, with nothing stored": the area, and no first file; the second may hold
--- anything
-abbrev pub world : Limits → Bytes → Option Bytes → World
-world m first second = record { area = freshOf m first .1; file = none; second = second }
-
--- "For every list .." (every list, so every first part of one: the claim holds after each call and each cut)
+-- anything. "For every list .." (every list, so every first part of one: the claim holds after each call and each cut)
 abbrev pub Always : (Limits → List Step → List Told × World → List Told × Plain → Type 0) → Type 0
 Always C = (m : Limits) (first : Bytes) (second : Option Bytes) (xs : List Step) → inRange m ≡ true → need m ≤ length first → StepsOk m (restart m none) xs
-    → C m xs (run (worldStep m) (world m first second) xs) (run (plainStep m) (restart m none) xs)
+    → C m xs (run (worldStep m) (record { area = freshOf m first .1; file = none; second = second }) xs) (run (plainStep m) (restart m none) xs)
 
 unfoldable pub Claim : Type 0
 Claim = Always Holds

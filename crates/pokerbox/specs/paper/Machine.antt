@@ -3,13 +3,14 @@ use mathlib.Core.Option.{Option, none, some}
 use mathlib.Core.List.{List, [], _∷_}
 use Prim.Native.Nat.{ℕ}
 use lib.ListN.{length, take}
-use Rattle.queue.specs.declared.Kind.the-variants.{Nothing, Memory, Whole, Cursor}
+use Rattle.queue.specs.declared.Kind.the-variants.{Nothing}
 use Rattle.queue.specs.declared.Answer.{Answer}
 use Rattle.queue.specs.declared.Answer.the-variants.{Refused, Done}
 use Rattle.queue.specs.paper.Records.{Bytes, Limits, Queue}
+use Rattle.queue.specs.paper.Lists.{maybe}
 use Rattle.queue.specs.paper.Area.{over}
 use Rattle.queue.specs.paper.Changing.{moved}
-use Rattle.queue.specs.paper.Calls.{Call, Worked, work, callOf, fresh, freshOf, settleOf}
+use Rattle.queue.specs.paper.Calls.{Call, work, byKind, callOf, fresh, freshOf, settleOf}
 use Rattle.image.specs.paper.Image.{imageOf, openOf}
 
 -- "the outcome of each write": kept, failed, cut before the rename or after it. "Cut before the rename, the second file may hold
@@ -31,7 +32,8 @@ pub data Step : Type 0 where
   call : Call → Lent → Fate → Step
   cut : Lent → Step
 
--- What a step answers: the call's answer, the output as the call left it, and settling's answer where a write was settled.
+-- What a step answers: the call's answer, the output as the call left it, and settling's answer where a write was settled. A cut
+-- between calls answers nothing.
 pub record Told : Type 0 where
   pub answer : Answer
   pub out : Bytes
@@ -39,18 +41,6 @@ pub record Told : Type 0 where
 
 abbrev pub tells : {S : Type 0} → Answer → Bytes → Option Answer × S → Told × S
 tells a out s = (record { answer = a; out = out; settled = s .0 }, s .1)
-
--- a cut between calls answers nothing
-abbrev pub silent : {S : Type 0} → Lent → S → Told × S
-silent l s = tells (Done Nothing) (l .out) (none, s)
-
--- "Refusals other than 17, and kind 0, move neither."; else as memory, whole write or cursor write
-abbrev pub byKind : {X : Type 0} → Answer → X → X → X → X → X
-byKind (Refused n) same memory whole cursor = same
-byKind (Done Nothing) same memory whole cursor = same
-byKind (Done Memory) same memory whole cursor = memory
-byKind (Done Whole) same memory whole cursor = whole
-byKind (Done Cursor) same memory whole cursor = cursor
 
 -- every step of a list, with what each answers
 abbrev pub run : {S : Type 0} → (S → Step → Told × S) → S → List Step → List Told × S
@@ -78,17 +68,15 @@ wrote m p next lost (failed second) = (some (Refused 17), record { queue = lost;
 wrote m p next lost (cutBefore second) = (none, restart m (p .stored))
 wrote m p next lost cutAfter = (none, restart m (some next))
 
--- "Kind 1: the queue becomes next, stored stays."
+-- "Refusals other than 17, and kind 0, move neither." "Kind 1: the queue becomes next, stored stays."
 abbrev pub settling : Limits → Plain → Queue → Fate → Answer → Option Answer × Plain
 settling m p next fate a = byKind a (none, p) (none, record { queue = next; stored = p .stored })
     (wrote m p next (p .queue) fate) (wrote m p next (moved (p .queue .persisted) (next .cursor) (next .tip) next) fate)
 
-abbrev pub plainCall : Limits → Plain → Bytes → Fate → Worked → Told × Plain
-plainCall m p out fate w = tells (w .answer) (over (w .bytes) out) (settling m p (w .next) fate (w .answer))
-
 unfoldable pub plainStep : Limits → Plain → Step → Told × Plain
-plainStep m p (call c l fate) = plainCall m p (l .out) fate (work c (p .queue) (length (l .next)) (length (l .out)))
-plainStep m p (cut l) = silent l (restart m (p .stored))
+plainStep m p (call c l fate) =
+    let w = work c (p .queue) (length (l .next)) (length (l .out)) in tells (w .answer) (over (w .bytes) (l .out)) (settling m p (w .next) fate (w .answer))
+plainStep m p (cut l) = tells (Done Nothing) (l .out) (none, restart m (p .stored))
 
 -- ---- the same on bytes: what the exported calls' contracts say, and the two files
 
@@ -103,8 +91,7 @@ imageText area text = let w = imageOf area text 0 .1 in take (w .1) (w .0)
 
 -- "Opening reads the first file alone, all of it."
 unfoldable pub starts : Limits → Option Bytes → Bytes → Answer × Bytes
-starts m none other = freshOf m other
-starts m (some text) other = openOf text other
+starts m file other = maybe (freshOf m other) (λ text. openOf text other) file
 
 abbrev pub restarted : Limits → Bytes → Option Bytes → Option Bytes → World
 restarted m other file second = record { area = starts m file other .1; file = file; second = second }
@@ -124,9 +111,7 @@ abbrev pub settlingBytes : Limits → World → Lent → Bytes → Fate → Answ
 settlingBytes m w l next fate a = byKind a (none, w) (none, record { area = next; file = w .file; second = w .second })
     (wroteBytes m w l next 2 fate) (wroteBytes m w l next 3 fate)
 
-abbrev pub worldCall : Limits → World → Lent → Fate → Answer × (Bytes × Bytes) → Told × World
-worldCall m w l fate o = tells (o .0) (o .1 .1) (settlingBytes m w l (o .1 .0) fate (o .0))
-
 unfoldable pub worldStep : Limits → World → Step → Told × World
-worldStep m w (call c l fate) = worldCall m w l fate (callOf c (w .area) (l .next) (l .out))
-worldStep m w (cut l) = silent l (restarted m (l .other) (w .file) (w .second))
+worldStep m w (call c l fate) =
+    let o = callOf c (w .area) (l .next) (l .out) in tells (o .0) (o .1 .1) (settlingBytes m w l (o .1 .0) fate (o .0))
+worldStep m w (cut l) = tells (Done Nothing) (l .out) (none, restarted m (l .other) (w .file) (w .second))

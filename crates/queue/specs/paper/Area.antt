@@ -1,18 +1,17 @@
 -- Document 01, "Image", and docs/AREA.md: the bytes of a sound queue in an area, and its image. Numbers are big-endian.
-use mathlib.Core.Option.{Option, none, some}
+use mathlib.Core.Option.{Option}
 use mathlib.Core.List.{List, [], _∷_, _++_}
 use Prim.Native.Nat.{ℕ, _+_, _-_, _*_, _^_}
 use lib.ListN.{length, drop, replicate}
 use Rattle.queue.specs.paper.Records.{Bytes, Id, Limits, Terms, Held, Rec, Queue}
-use Rattle.queue.specs.paper.Lists.{map, concat}
+use Rattle.queue.specs.paper.Lists.{maybe, map, concat}
 use Rattle.queue.specs.paper.Sound.{need}
 use Rattle.queue.specs.Codec.{be}
 use Rattle.queue.specs.Hex.{textOf}
 
 -- "A flag is 0 or 1; an absent value has no bytes."
 abbrev pub flagged : {A : Type 0} → (A → Bytes) → Option A → Bytes
-flagged f none = 0 ∷ []
-flagged f (some a) = 1 ∷ f a
+flagged f o = maybe (0 ∷ []) (λ a. 1 ∷ f a) o
 
 -- "created 8; time flag, 8; height flag, 4; priority 4, two's complement; label flag, length 1, bytes; fee 8; size 4; cost 8"
 unfoldable pub termsBytes : Terms → Bytes

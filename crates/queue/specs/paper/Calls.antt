@@ -15,18 +15,23 @@ use Rattle.queue.specs.Codec.{be}
 use Rattle.queue.specs.Areas.{readArea}
 use Rattle.queue.specs.paper.Records.{Bytes, Id, Limits, Terms, Held, Rec, Queue}
 use Rattle.queue.specs.paper.Lists.{isSome, maybe, one, find, map, concat}
-use Rattle.queue.specs.paper.Ids.{below?, same?}
+use Rattle.queue.specs.paper.Ids.{rise?}
 use Rattle.queue.specs.paper.Sound.{inRange, need, inputs}
 use Rattle.queue.specs.paper.Area.{flagged, termsBytes, placeBytes, headBytes, recBytes, areaBytes, beVal, over}
 use Rattle.queue.specs.paper.Changing.{Out, refused, done, named?, moved, Admission, admit, cancel, expire, Applied, Reconciling, reconcile, reopen, setCursor}
 use Rattle.queue.specs.paper.Reading.{selectionAt}
 
+-- by cases: a refusal or kind 0; kind 1, memory only; kind 2, a whole write; kind 3, a cursor write
+abbrev pub byKind : {X : Type 0} → Answer → X → X → X → X → X
+byKind (Refused n) same memory whole cursor = same
+byKind (Done Nothing) same memory whole cursor = same
+byKind (Done Memory) same memory whole cursor = memory
+byKind (Done Whole) same memory whole cursor = whole
+byKind (Done Cursor) same memory whole cursor = cursor
+
 -- the number that a call gives back: a refusal's own, or 100 and the kind
 abbrev pub kindNumber : Kind → ℕ
-kindNumber Nothing = 0
-kindNumber Memory = 1
-kindNumber Whole = 2
-kindNumber Cursor = 3
+kindNumber k = byKind (Done k) 0 1 2 3
 
 abbrev pub number : Answer → ℕ
 number (Refused n) = n
@@ -53,12 +58,6 @@ pieces n (suc k) s = take n s ∷ pieces n k (drop n s)
 unfoldable pub items : ℕ → Bytes → List Bytes
 items n s = pieces n (length s / n) s
 
--- "not strictly rising"
-unfoldable pub rise? : List Id → Bool
-rise? [] = true
-rise? (i ∷ []) = true
-rise? (i ∷ x ∷ l) = below? i x && rise? (x ∷ l)
-
 -- "flag .. not listed"
 abbrev pub flag? : ℕ → Bool
 flag? n = leb n 1
@@ -66,6 +65,7 @@ flag? n = leb n 1
 abbrev pub given : {A : Type 0} → ℕ → A → Option A
 given flag a = cond (eqb flag 1) (some a) none
 
+-- "list not whole", "not strictly rising"
 abbrev pub idList? : Bytes → Bool
 idList? s = whole? 32 s && rise? (items 32 s)
 
@@ -220,11 +220,7 @@ work c q lent room = cond (ltb lent (need (q .limits))) (refusing 2 q) (cond (sh
 
 -- "0 nothing, next untouched"
 abbrev pub nextArea : Answer → Queue → Bytes → Bytes
-nextArea (Refused n) q next = next
-nextArea (Done Nothing) q next = next
-nextArea (Done Memory) q next = over (areaBytes q) next
-nextArea (Done Whole) q next = over (areaBytes q) next
-nextArea (Done Cursor) q next = over (areaBytes q) next
+nextArea a q next = let written = over (areaBytes q) next in byKind a next written written written
 
 abbrev pub onLent : Bytes → Bytes → Worked → Answer × (Bytes × Bytes)
 onLent next out w = (w .answer, (nextArea (w .answer) (w .next) next, over (w .bytes) out))

@@ -4,8 +4,7 @@ use mathlib.Core.Bool.{Bool, true, false, _&&_}
 use Prim.Native.Nat.{ℕ, _≤_, _+_, _-_, _*_, _<_}
 use lib.ListN.{length, take, drop}
 use borrow.Author.Tests.{not-true, not-false}
-use Rattle.queue.specs.paper.Lists.{one}
-use Rattle.queue.specs.paper.Reading.{isEmpty?}
+use Rattle.queue.specs.paper.Lists.{one, isEmpty?}
 use Rattle.queue.proofs.ReadingLaws.{number-3, number-100, empty-is}
 use borrow.Author.Needs.{needs}
 use Rattle.queue.proofs.reading.is_empty.Statement.{statement}

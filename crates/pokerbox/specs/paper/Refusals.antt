@@ -2,7 +2,7 @@
 -- it is "given if and only if". The first that holds is given; where none holds, the call is answered.
 use mathlib.Core.Path.{_≡_}
 use mathlib.Core.Bool.{Bool, true, false, cond, not, _&&_, _||_}
-use mathlib.Core.List.{List, [], _∷_, _++_}
+use mathlib.Core.List.{List, [], _∷_}
 use Prim.Native.Nat.{ℕ, _+_}
 use lib.Dec.{ltb, leb, eqb}
 use lib.ListN.{length}
@@ -10,10 +10,10 @@ use Rattle.queue.specs.declared.Answer.{Answer}
 use Rattle.queue.specs.declared.Answer.the-variants.{Refused, Done}
 use Rattle.queue.specs.Areas.{readArea, readImage}
 use Rattle.queue.specs.paper.Records.{Bytes, Id, Limits, Queue}
-use Rattle.queue.specs.paper.Lists.{isSome, maybe, any?, count, find, map}
+use Rattle.queue.specs.paper.Lists.{isSome, maybe, any?, count, find}
 use Rattle.queue.specs.paper.Sound.{inRange, need, holder?, pending?, mined?, labelLen, clash?}
 use Rattle.queue.specs.paper.Area.{imageBytes}
-use Rattle.queue.specs.paper.Changing.{Out, refused, done, top, named?, reached?, Admission, pendings, pendingBytes, admit, cancel, due?, expire, Reconciling, touch, orElse, released, queuedOutputs, reconcile}
+use Rattle.queue.specs.paper.Changing.{Out, refused, done, top, named?, reached?, pendings, pendingBytes, admit, cancel, due?, expire, toRelease, reconcile}
 use Rattle.queue.specs.paper.Calls.{id?, entryBytes, idsBytes, releasedBytes, Call, admitting, cancelling, expiring, reconciling, reopening, settingCursor, admission, reconciliation, shape?, overK?, callOf, freshOf, soundOf, settleShape?, settleOf, readOf, numberOf, entryOf, signedBytesOf}
 use Rattle.image.specs.paper.Image.{imageOf, openOf}
 
@@ -51,10 +51,6 @@ answer bytes (done k q a) = bytes a
 -- "a pending or Mined id then gives its old record": none of 10, 11, 12 is asked
 abbrev pub known? : Id → Queue → Bool
 known? i q = maybe false (λ r. pending? (r .state) || mined? r) (find (named? i) (q .recs))
-
--- the records that a reconciliation finishes
-abbrev pub toRelease : Reconciling → Queue → List Id
-toRelease c q = released c (q .limits) (map (λ r. orElse r (touch c (c .available ++ queuedOutputs (q .recs)) r)) (q .recs))
 
 abbrev pub ruleChecks : Call → Queue → ℕ → Checks
 ruleChecks (admitting a) q room =
