@@ -35,6 +35,7 @@ const CALLS: &[&str] = &[
     "signed_bytes",
     "selection_entries",
     "selection_entries_at",
+    "best_fees",
     "due",
     "confirmations",
 ];
