@@ -2,7 +2,7 @@
 
 use std::collections::BTreeSet;
 
-use crate::fees::{candidates, MAX_BUDGET, MAX_CANDIDATES};
+use crate::fees::{MAX_BUDGET, MAX_CANDIDATES};
 use crate::rules::selection_at;
 use crate::sound::is_sound;
 use crate::values::{
@@ -417,11 +417,14 @@ fn parts(rng: &mut Rng, count: usize) -> Vec<u64> {
 /// from it.
 pub fn fees_limit(rng: &mut Rng, queue: &Queue, now: TimeMs, height: Height) -> u64 {
     let mask = rng.u64();
-    let candidates = candidates(queue, now, height);
-    let some = candidates.iter().enumerate();
-    let some = some.filter(|(at, _)| mask >> at & 1 == 1);
-    let sum: u64 = some.map(|(_, one)| one.size).sum();
-    let all: u64 = candidates.iter().map(|one| one.size).sum();
+    let selected = selection_at(queue, now, height);
+    let first = selected.iter().take(MAX_CANDIDATES).enumerate();
+    let sizes: Vec<(usize, u64)> = first
+        .map(|(at, record)| (at, record.byte_count() as u64))
+        .collect();
+    let some = sizes.iter().filter(|(at, _)| mask >> at & 1 == 1);
+    let sum: u64 = some.map(|(_, size)| size).sum();
+    let all: u64 = sizes.iter().map(|(_, size)| size).sum();
     match rng.below(12) {
         0 => 0,
         1 => u64::MAX,
