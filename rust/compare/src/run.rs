@@ -220,16 +220,19 @@ impl<'a, S: Side> Pair<'a, S> {
                 let found = self.set_of(queue, &asked, answer);
                 self.same("the set of best_fees", (asked, found), (asked, Ok(())))?;
             }
-            let refused = (number != calls::ANSWERED).then_some(number);
-            let right = refused.map_or(Ok(padded(&expected, length)), Err);
+            let right = match number {
+                calls::ANSWERED => Ok(padded(&expected, length)),
+                refusal => Err(refusal),
+            };
             self.same("the answer of best_fees", (asked, answer), (asked, right))?;
             counts.fees(number);
-            // The output may be a byte too short; every other refusal comes before that one.
-            let short = self.unit.best_fees(&asked, expected.len() - 1);
-            let right = refused.unwrap_or(calls::OUTPUT_SHORT);
-            let what = "the refusals of best_fees";
-            self.same(what, (asked, short), (asked, Err(right)))?;
-            counts.fees(right);
+            // An output that is a byte too short.
+            let short = expected.len() - 1;
+            let refusal = Model.best_fees(self.unit.area(), &asked, &mut vec![0; short]);
+            let answer = self.unit.best_fees(&asked, short);
+            let what = "best_fees with a short output";
+            self.same(what, (asked, answer), (asked, Err(refusal)))?;
+            counts.fees(refusal);
         }
         Ok(())
     }

@@ -58,13 +58,15 @@ fn the_library_answers_as_the_oracle() {
     assert_eq!(counts.met_by_fees(), [4, 5, 21, 100]);
 }
 
+type BestFees = fn(&[u8], &Fees, &mut [u8]) -> u64;
+
 /// The model, some of whose calls may be wrong.
 struct Faulty {
     settle: fn(&[u8], &mut [u8], u64, u64) -> u64,
     cancel: fn(&[u8], &mut [u8], &[u8], &mut [u8]) -> u64,
     open: fn(&[u8], &mut [u8]) -> u64,
     read: fn(Reading, &[u8], &mut [u8]) -> u64,
-    best_fees: fn(&[u8], &Fees, &mut [u8]) -> u64,
+    best_fees: BestFees,
 }
 
 const RIGHT: Faulty = Faulty {
@@ -245,7 +247,7 @@ fn first_that_break(area: &[u8], asked: &Fees, out: &mut [u8]) -> u64 {
 
 #[test]
 fn a_wrong_set_is_noticed_by_the_oracles_selection() {
-    let sides: [(fn(&[u8], &Fees, &mut [u8]) -> u64, &str, &str); 3] = [
+    let sides: [(BestFees, &str, &str); 3] = [
         (
             |area, asked, out| changed(area, asked, out, |ids| ids.rotate_left(32)),
             "turned-set",

@@ -91,8 +91,8 @@ impl Node {
         Some(Node {
             decided: self.decided + 1,
             taken,
-            fee: self.fee + next.fee,
             bytes_left: self.bytes_left.checked_sub(next.size)?,
+            fee: self.fee + next.fee,
         })
     }
 

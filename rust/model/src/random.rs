@@ -442,7 +442,7 @@ pub fn fees_limit(rng: &mut Rng, queue: &Queue, now: TimeMs, height: Height) -> 
 pub fn fees_budget(rng: &mut Rng) -> u64 {
     match rng.below(40) {
         0 => 0,
-        1 => MAX_BUDGET + 1 + (rng.u64() >> rng.below(64)) / 2,
+        1 => rng.pick(&[MAX_BUDGET + 1, MAX_BUDGET + 1, 1 << 32, u64::MAX]),
         2 => MAX_BUDGET,
         3 => 1,
         4 => 2,
