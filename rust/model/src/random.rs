@@ -430,7 +430,8 @@ pub fn fees_limit(rng: &mut Rng, queue: &Queue, now: TimeMs, height: Height) -> 
         1 => u64::MAX,
         2 => all,
         3 => all.saturating_sub(1),
-        4 => rng.u64(),
+        // Large, with small last bytes.
+        4 => (1 << rng.pick(&[32, 40, 63])) + sum,
         5 => rng.below(8) as u64,
         6 => sum + 1,
         7 => sum.saturating_sub(1),
@@ -442,7 +443,7 @@ pub fn fees_limit(rng: &mut Rng, queue: &Queue, now: TimeMs, height: Height) -> 
 pub fn fees_budget(rng: &mut Rng) -> u64 {
     match rng.below(40) {
         0 => 0,
-        1 => rng.pick(&[MAX_BUDGET + 1, MAX_BUDGET + 1, 1 << 32, u64::MAX]),
+        1 => rng.pick(&[MAX_BUDGET + 1, MAX_BUDGET + 1, (1 << 32) + 9, u64::MAX]),
         2 => MAX_BUDGET,
         3 => 1,
         4 => 2,
