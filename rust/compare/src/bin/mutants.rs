@@ -138,7 +138,10 @@ fn run(settings: &Settings) -> Result<bool, String> {
                 )
             }
         };
-        let by = tests.map_or(by.clone(), |count| format!("{by}; {count} tests of model"));
+        let by = match tests {
+            None | Some(0) => by,
+            Some(count) => format!("{by}; {count} of the model's tests"),
+        };
         let (what, call) = (&edit.what, &edit.call);
         println!("| {number} | {what} | {call} | library | {after} | {seconds} | {by} |");
         let is_noticed = !matches!(seen, Seen::Nothing(_));
