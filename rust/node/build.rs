@@ -35,6 +35,7 @@ const CALLS: &[&str] = &[
     "signed_bytes",
     "selection_entries",
     "selection_entries_at",
+    "best_fees",
     "due",
     "confirmations",
 ];
@@ -62,13 +63,10 @@ fn main() {
     if missing.is_empty() {
         println!("cargo:rustc-cfg=all_exported");
     }
-    // For this crate, and for the build scripts of crates that depend on it.
     println!(
         "cargo:rustc-env=POKERBOX_MISSING_CALLS={}",
         missing.join(",")
     );
-    println!("cargo:calls={}", CALLS.join(","));
-    println!("cargo:not_exported_yet={}", missing.join(","));
     println!("cargo:rerun-if-changed=build.rs");
     println!("cargo:rerun-if-env-changed={FOLDER_VARIABLE}");
     println!("cargo:rerun-if-env-changed={LIST_VARIABLE}");

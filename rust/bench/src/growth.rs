@@ -74,6 +74,10 @@ impl Lent {
         }
     }
 
+    pub fn area(&self) -> &[u8] {
+        &self.area
+    }
+
     pub fn sound(&self) -> (f64, f64) {
         times(self.enough, || raw::sound(&self.area).expect("sound"))
     }

@@ -1,9 +1,9 @@
-//! The same work by the exported calls and by `PrivateTransactionQueue`, as a table of times; then how the library's times grow.
-//! `--short` prints the ratios of the growth alone, `--full` the full units.
-
-mod growth;
+//! The same work by the exported calls and by `PrivateTransactionQueue`, as a table of times; then best fees, and how the
+//! library's times grow. `--short` prints the ratios of the growth alone, `--full` the full units, `--fees` best fees.
 
 mod commit;
+mod fees;
+mod growth;
 
 use std::collections::{BTreeMap, BTreeSet};
 use std::hint::black_box;
@@ -40,6 +40,7 @@ fn main() {
     match first.as_deref() {
         Some("--short") => return growth::ratios(ENOUGH),
         Some("--full") => return growth::full_units(ENOUGH),
+        Some("--fees") => return fees::rows(ENOUGH),
         _ => (),
     }
     let folder = first.map_or(std::env::temp_dir(), PathBuf::from);
@@ -60,6 +61,7 @@ fn main() {
         Bench::new(limits, records, tombstones, &path).run();
     }
     let _ = std::fs::remove_file(&path);
+    fees::rows(ENOUGH);
     println!("### Growth\n");
     growth::ratios(ENOUGH);
     growth::full_units(ENOUGH);
@@ -141,10 +143,6 @@ fn queue(limits: Limits, records: usize, tombstones: usize) -> Queue {
     queue.persisted = Height(100);
     queue.records.sort_by_key(|record| record.id);
     queue
-}
-
-fn is_exported(call: &str) -> bool {
-    !pokerbox::not_exported_yet().contains(&call)
 }
 
 /// The queue with this record Mined.
@@ -229,12 +227,8 @@ impl<'a> Bench<'a> {
         println!("Microseconds, least (median) of {LEAST} to {MOST} runs.\n");
         println!("| work | library | Rust | library / Rust |\n|---|---:|---:|---:|");
         let mut rows = self.changing();
-        if is_exported("admit") {
-            rows.push(self.admission());
-        }
-        if is_exported("reconcile") {
-            rows.push(self.reconciliation());
-        }
+        rows.push(self.admission());
+        rows.push(self.reconciliation());
         rows.push(self.commit());
         rows.extend(self.parts());
         rows.extend(self.readings());

@@ -11,6 +11,8 @@ pub struct Counts {
     calls: BTreeMap<&'static str, BTreeMap<String, u64>>,
     writes: BTreeMap<&'static str, u64>,
     readings: BTreeMap<&'static str, u64>,
+    /// Best fees, by the number given back.
+    fees: BTreeMap<u64, u64>,
     pub cuts_between_calls: u64,
 }
 
@@ -30,6 +32,15 @@ impl Counts {
 
     pub fn reading(&mut self, reading: &'static str) {
         *self.readings.entry(reading).or_default() += 1;
+    }
+
+    pub fn fees(&mut self, number: u64) {
+        *self.fees.entry(number).or_default() += 1;
+    }
+
+    /// The numbers that best fees gave back.
+    pub fn met_by_fees(&self) -> Vec<u64> {
+        self.fees.keys().copied().collect()
     }
 
     /// The answer of the one call that was counted.
@@ -67,6 +78,12 @@ impl fmt::Display for Counts {
             .iter()
             .map(|(reading, count)| format!("{reading} {count}"))
             .collect();
-        writeln!(f, "  reading calls: {}", readings.join(", "))
+        writeln!(f, "  reading calls: {}", readings.join(", "))?;
+        let fees: Vec<String> = self
+            .fees
+            .iter()
+            .map(|(number, count)| format!("{number}: {count}"))
+            .collect();
+        writeln!(f, "  best_fees: {}", fees.join(", "))
     }
 }

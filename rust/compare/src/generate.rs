@@ -5,9 +5,10 @@ use std::collections::{BTreeMap, BTreeSet};
 
 use model::random::{self, Rng};
 use model::rules::{reserved_inputs, Admission, Reconciliation};
-use model::{Confirmation, Height, Id, Limits, Queue, Record};
+use model::{Confirmation, Height, Id, Limits, Queue, Record, TimeMs};
 
 use crate::list::{Call, Event, List, Start, Write};
+use crate::side::Fees;
 
 /// A list without events.
 pub fn list(rng: &mut Rng, limits: Limits) -> List {
@@ -16,12 +17,39 @@ pub fn list(rng: &mut Rng, limits: Limits) -> List {
     } else {
         Start::Fresh
     };
+    let probe = (random::time(rng), random::height(rng));
     List {
         limits,
         start,
         events: Vec::new(),
-        probe: (random::time(rng), random::height(rng)),
+        probe,
+        // The other draws stay what they are.
+        fees: rng.clone().u64(),
     }
+}
+
+/// A list without events, whose start has few or many candidates for best fees.
+pub fn fees_list(rng: &mut Rng) -> List {
+    let count = rng.pick(&[1, 2, 3, 5, 8, 19, 20, 21, 22, 30]);
+    let queue = random::fees_queue(rng, count);
+    List {
+        limits: queue.limits,
+        start: Start::Queue(Box::new(queue)),
+        events: Vec::new(),
+        probe: (random::time(rng), random::height(rng)),
+        fees: rng.u64(),
+    }
+}
+
+/// What best fees is asked of this queue; the draws are the same for all queues.
+pub fn fees(seed: u64, queue: &Queue, (now, height): (TimeMs, Height)) -> [Fees; 3] {
+    let mut rng = Rng::new(seed);
+    std::array::from_fn(|_| Fees {
+        limit: random::fees_limit(&mut rng, queue, now, height),
+        budget: random::fees_budget(&mut rng),
+        now: now.0,
+        height: height.0,
+    })
 }
 
 /// Any sound queue.

@@ -3,7 +3,7 @@
 //!
 //! - [`list`]: lists of events.
 //! - [`generate`]: random events.
-//! - [`side`]: the exported calls, and the model's in place of those that are not exported yet.
+//! - [`side`]: the calls, by the library or by the model.
 //! - [`unit`]: runs events on areas as a node does.
 //! - [`oracle`]: runs events on the oracle.
 //! - [`run`]: compares the two after each event.

@@ -85,6 +85,8 @@ pub struct List {
     pub events: Vec<Event>,
     /// The time and height with which reading calls are asked after each event.
     pub probe: (TimeMs, Height),
+    /// The seed of what best fees is asked, at the start and after each event.
+    pub fees: u64,
 }
 
 impl fmt::Display for List {
@@ -107,7 +109,11 @@ impl fmt::Display for List {
                 }
             }
         }
-        writeln!(f, "reading calls at {:?}", self.probe)
+        writeln!(
+            f,
+            "reading calls at {:?}, best fees by seed {}",
+            self.probe, self.fees
+        )
     }
 }
 

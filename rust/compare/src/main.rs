@@ -6,11 +6,9 @@ use std::process::ExitCode;
 use std::time::{Duration, Instant};
 
 use compare::counts::Counts;
-use compare::generate;
-use compare::run::random_list;
+use compare::run;
 use compare::shrink::shrink;
 use compare::side::{Library, Model, Side};
-use model::random::Rng;
 use model::Limits;
 
 const USAGE: &str = "\
@@ -53,13 +51,6 @@ fn main() -> ExitCode {
         compare(&Model, &settings, &folder)
     } else {
         println!("Compared with the oracle: the library.");
-        let missing = pokerbox::not_exported_yet();
-        if !missing.is_empty() {
-            println!(
-                "Not compared, since not exported yet: {}.",
-                missing.join(", ")
-            );
-        }
         compare(&Library, &settings, &folder)
     };
     let _ = std::fs::remove_dir_all(&folder);
@@ -125,11 +116,7 @@ fn compare<S: Side>(side: &S, settings: &Settings, folder: &std::path::Path) -> 
     let mut shown = start;
     let mut seed = settings.seed;
     while counts.steps < settings.steps && end.is_none_or(|end| start.elapsed() < end) {
-        let mut rng = Rng::new(seed);
-        let limits = settings
-            .limits
-            .unwrap_or_else(|| generate::limits(&mut rng));
-        if let Err(found) = random_list(side, folder, &mut rng, limits, &mut counts) {
+        if let Err(found) = run::seed(side, folder, seed, settings.limits, &mut counts) {
             println!(
                 "A difference after {} events, in the list with seed {seed}; the smallest list found:",
                 counts.steps

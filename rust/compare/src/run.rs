@@ -1,16 +1,17 @@
 //! Compares a side with the oracle after each event.
 
+use std::collections::{BTreeMap, BTreeSet};
 use std::fmt;
 use std::path::Path;
 
 use model::random::Rng;
-use model::{calls, image, Limits, Queue};
+use model::{calls, image, Height, Id, Limits, Queue, Record, TimeMs};
 
 use crate::counts::Counts;
 use crate::generate;
 use crate::list::{Call, Event, List, Short, Write};
 use crate::oracle::{self, Oracle};
-use crate::side::{Reading, Side};
+use crate::side::{Fees, Model, Reading, Side};
 use crate::unit::{self, Unit, UNTOUCHED};
 
 /// Refusals outside the domain of demand 2 that lists meet: the oracle is not asked.
@@ -38,7 +39,8 @@ impl fmt::Display for Difference {
 pub struct Pair<'a, S: Side> {
     unit: Unit<'a, S>,
     oracle: Oracle,
-    probe: (u64, u32),
+    probe: (TimeMs, Height),
+    fees: u64,
     at: usize,
 }
 
@@ -50,7 +52,8 @@ impl<'a, S: Side> Pair<'a, S> {
             (Ok(unit), Ok(oracle)) => Ok(Pair {
                 unit,
                 oracle,
-                probe: (list.probe.0 .0, list.probe.1 .0),
+                probe: list.probe,
+                fees: list.fees,
                 at: 0,
             }),
             (unit, oracle) => Err(Difference {
@@ -60,6 +63,13 @@ impl<'a, S: Side> Pair<'a, S> {
                 oracle: format!("{:?}", oracle.err()),
             }),
         }
+    }
+
+    /// Compares what the list begins with.
+    fn start(&self, counts: &mut Counts) -> Result<(), Difference> {
+        let queue = self.unit.queue().map_err(|fault| self.fault(fault))?;
+        self.same("the queue", &queue, &self.oracle.queue())?;
+        self.fees(&queue, counts)
     }
 
     /// The queue of both.
@@ -156,6 +166,7 @@ impl<'a, S: Side> Pair<'a, S> {
         self.same("the queue", &queue, &self.oracle.queue())?;
         self.same("transactions not found", Oracle::failed(), 0)?;
         self.readings(&queue, counts)?;
+        self.fees(&queue, counts)?;
         self.stored(&queue)
     }
 
@@ -174,14 +185,13 @@ impl<'a, S: Side> Pair<'a, S> {
     }
 
     fn readings(&self, queue: &Queue, counts: &mut Counts) -> Result<(), Difference> {
-        for reading in Reading::all(self.probe.0, self.probe.1) {
+        for reading in Reading::all(self.probe.0 .0, self.probe.1 .0) {
             let expected = self.oracle.read(reading);
             let length = expected.len() + 3;
-            if let Some(answer) = self.unit.read(reading, length) {
-                counts.reading(reading.name());
-                let what = format!("the answer of {}", reading.name());
-                self.same(&what, answer, Ok(padded(&expected, length)))?;
-            }
+            let answer = self.unit.read(reading, length);
+            counts.reading(reading.name());
+            let what = format!("the answer of {}", reading.name());
+            self.same(&what, answer, Ok(padded(&expected, length)))?;
         }
         // All records of a small queue, others after other events of a large one.
         let stride = queue.records.len() / 10 + 1;
@@ -198,6 +208,84 @@ impl<'a, S: Side> Pair<'a, S> {
         counts.reading("entry and signed_bytes");
         Ok(())
     }
+
+    /// Best fees, which the oracle has not: its set is looked at beside the oracle's selection, and
+    /// all of its answer is judged by the model.
+    fn fees(&self, queue: &Queue, counts: &mut Counts) -> Result<(), Difference> {
+        for asked in generate::fees(self.fees, queue, self.probe) {
+            let (number, expected) = model_fees(self.unit.area(), &asked);
+            let length = expected.len() + 3;
+            let answer = self.unit.best_fees(&asked, length);
+            if let Ok(answer) = &answer {
+                let found = self.set_of(queue, &asked, answer);
+                self.same("the set of best_fees", (asked, found), (asked, Ok(())))?;
+            }
+            let right = match number {
+                calls::ANSWERED => Ok(padded(&expected, length)),
+                refusal => Err(refusal),
+            };
+            self.same("the answer of best_fees", (asked, answer), (asked, right))?;
+            counts.fees(number);
+            // An output that is a byte too short.
+            let short = expected.len() - 1;
+            let refusal = Model.best_fees(self.unit.area(), &asked, &mut vec![0; short]);
+            let answer = self.unit.best_fees(&asked, short);
+            let what = "best_fees with a short output";
+            self.same(what, (asked, answer), (asked, Err(refusal)))?;
+            counts.fees(refusal);
+        }
+        Ok(())
+    }
+
+    /// What is wrong with the set, by the oracle's selection and the records of both.
+    fn set_of(&self, queue: &Queue, asked: &Fees, answer: &[u8]) -> Result<(), &'static str> {
+        let selected = Reading::SelectionEntriesAt(asked.now, asked.height);
+        let selected = ids_of(&self.oracle.read(selected)).ok_or("no selection")?;
+        let ids = ids_of(&answer[20..]).ok_or("it is not whole")?;
+        if ids.iter().collect::<BTreeSet<_>>().len() != ids.len() {
+            return Err("an id is there twice");
+        }
+        let mut rest = selected.iter();
+        if !ids.iter().all(|id| rest.any(|other| other == id)) {
+            return Err("it is no part of the selection, in its order");
+        }
+        let records: Option<Vec<&Record>> = ids.iter().map(|id| queue.record(id)).collect();
+        let records = records.ok_or("an id is no record's")?;
+        let mut owners: BTreeMap<&Id, &Id> = BTreeMap::new();
+        for record in &records {
+            for input in record.inputs() {
+                if *owners.entry(input).or_insert(&record.id) != &record.id {
+                    return Err("two records have one input");
+                }
+            }
+        }
+        let bytes: usize = records.iter().map(|record| record.byte_count()).sum();
+        if bytes as u64 > asked.limit {
+            return Err("it does not fit");
+        }
+        let fee: u128 = records.iter().map(|record| u128::from(record.fee)).sum();
+        match answer[..8] == (fee as u64).to_be_bytes() && fee <= u128::from(u64::MAX) {
+            true => Ok(()),
+            false => Err("its fee is not the sum"),
+        }
+    }
+}
+
+/// The number that the model gives for best fees, and the answer's bytes.
+fn model_fees(area: &[u8], asked: &Fees) -> (u64, Vec<u8>) {
+    let mut out = vec![0; 24 + 32 * model::fees::MAX_CANDIDATES];
+    let number = Model.best_fees(area, asked, &mut out);
+    let count = ids_of(&out[20..]).map_or(0, |ids| ids.len());
+    out.truncate(24 + 32 * count);
+    (number, out)
+}
+
+/// The ids behind their count; nothing where they are not all there.
+fn ids_of(bytes: &[u8]) -> Option<Vec<Id>> {
+    let (count, ids) = bytes.split_first_chunk()?;
+    let count = u32::from_be_bytes(*count) as usize;
+    let (ids, _) = ids.split_at_checked(32 * count)?.0.as_chunks::<32>();
+    Some(ids.to_vec())
 }
 
 /// An output of so many bytes that held this answer.
@@ -236,6 +324,7 @@ fn count(call: &Call, write: Write, done: &unit::Done, counts: &mut Counts) {
 pub fn run_list<S: Side>(side: &S, folder: &Path, list: &List) -> Result<(), Difference> {
     let mut counts = Counts::default();
     let mut pair = Pair::new(side, folder, list)?;
+    pair.start(&mut counts)?;
     list.events
         .iter()
         .try_for_each(|event| pair.event(event, &mut counts))
@@ -244,8 +333,37 @@ pub fn run_list<S: Side>(side: &S, folder: &Path, list: &List) -> Result<(), Dif
 /// A list and the difference that it shows.
 pub type Found = Box<(List, Difference)>;
 
+fn started<'a, S: Side>(
+    side: &'a S,
+    folder: &Path,
+    list: &List,
+    counts: &mut Counts,
+) -> Result<Pair<'a, S>, Found> {
+    let pair = Pair::new(side, folder, list).and_then(|pair| {
+        pair.start(counts)?;
+        Ok(pair)
+    });
+    pair.map_err(|found| Box::new((list.clone(), found)))
+}
+
+/// What belongs to one seed: a random list, under these limits or random ones, and a queue for best
+/// fees.
+pub fn seed<S: Side>(
+    side: &S,
+    folder: &Path,
+    seed: u64,
+    limits: Option<Limits>,
+    counts: &mut Counts,
+) -> Result<(), Found> {
+    let mut rng = Rng::new(seed);
+    let limits = limits.unwrap_or_else(|| generate::limits(&mut rng));
+    random_list(side, folder, &mut rng, limits, counts)?;
+    let list = generate::fees_list(&mut Rng::new(seed));
+    started(side, folder, &list, counts).map(|_| ())
+}
+
 /// Makes and runs one random list. A difference comes with the list up to it.
-pub fn random_list<S: Side>(
+fn random_list<S: Side>(
     side: &S,
     folder: &Path,
     rng: &mut Rng,
@@ -260,8 +378,7 @@ pub fn random_list<S: Side>(
         1 + rng.below(120)
     };
     counts.lists += 1;
-    let mut pair =
-        Pair::new(side, folder, &list).map_err(|found| Box::new((list.clone(), found)))?;
+    let mut pair = started(side, folder, &list, counts)?;
     for _ in 0..length {
         let queue = match pair.unit.queue() {
             Ok(queue) => queue,

@@ -2,20 +2,15 @@
 
 use model::calls;
 use model::calls::{AdmitArgs, ReconcileArgs};
+use pokerbox::raw;
 
-/// The calls of docs/CALLS.md. What a side does not have, the model does.
+/// The calls of docs/CALLS.md. Each side has every call: none is made by another in its place.
 pub trait Side {
-    fn admit(&self, cur: &[u8], next: &mut [u8], args: &AdmitArgs<'_>, out: &mut [u8]) -> u64 {
-        calls::admit(cur, next, args, out)
-    }
+    fn admit(&self, cur: &[u8], next: &mut [u8], args: &AdmitArgs<'_>, out: &mut [u8]) -> u64;
 
-    fn cancel(&self, cur: &[u8], next: &mut [u8], id: &[u8], out: &mut [u8]) -> u64 {
-        calls::cancel(cur, next, id, out)
-    }
+    fn cancel(&self, cur: &[u8], next: &mut [u8], id: &[u8], out: &mut [u8]) -> u64;
 
-    fn expire(&self, cur: &[u8], next: &mut [u8], now: u64, height: u32, out: &mut [u8]) -> u64 {
-        calls::expire(cur, next, now, height, out)
-    }
+    fn expire(&self, cur: &[u8], next: &mut [u8], now: u64, height: u32, out: &mut [u8]) -> u64;
 
     fn reconcile(
         &self,
@@ -23,73 +18,43 @@ pub trait Side {
         next: &mut [u8],
         args: &ReconcileArgs<'_>,
         out: &mut [u8],
-    ) -> u64 {
-        calls::reconcile(cur, next, args, out)
-    }
+    ) -> u64;
 
-    fn reopen(&self, cur: &[u8], next: &mut [u8], ids: &[u8]) -> u64 {
-        calls::reopen(cur, next, ids)
-    }
+    fn reopen(&self, cur: &[u8], next: &mut [u8], ids: &[u8]) -> u64;
 
-    fn set_cursor(&self, cur: &[u8], next: &mut [u8], height: u32, flag: u8, tip: &[u8]) -> u64 {
-        calls::set_cursor(cur, next, height, flag, tip)
-    }
+    fn set_cursor(&self, cur: &[u8], next: &mut [u8], height: u32, flag: u8, tip: &[u8]) -> u64;
 
-    fn fresh(&self, p: u64, b: u64, t: u64, k: u64, area: &mut [u8]) -> u64 {
-        calls::fresh(p, b, t, k, area)
-    }
+    fn fresh(&self, p: u64, b: u64, t: u64, k: u64, area: &mut [u8]) -> u64;
 
-    fn settle(&self, cur: &[u8], next: &mut [u8], kind: u64, outcome: u64) -> u64 {
-        calls::settle(cur, next, kind, outcome)
-    }
+    fn settle(&self, cur: &[u8], next: &mut [u8], kind: u64, outcome: u64) -> u64;
 
-    fn image(&self, area: &[u8], out: &mut [u8], length: &mut u64) -> u64 {
-        calls::image(area, out, length)
-    }
+    fn image(&self, area: &[u8], out: &mut [u8], length: &mut u64) -> u64;
 
-    fn open(&self, text: &[u8], area: &mut [u8]) -> u64 {
-        calls::open(text, area)
-    }
+    fn open(&self, text: &[u8], area: &mut [u8]) -> u64;
 
-    fn sound(&self, area: &[u8]) -> u64 {
-        calls::sound(area)
-    }
+    fn sound(&self, area: &[u8]) -> u64;
 
-    fn entry(&self, area: &[u8], id: &[u8], out: &mut [u8]) -> u64 {
-        calls::entry(area, id, out)
-    }
+    fn entry(&self, area: &[u8], id: &[u8], out: &mut [u8]) -> u64;
 
-    fn signed_bytes(&self, area: &[u8], id: &[u8], start: &mut u64, length: &mut u64) -> u64 {
-        calls::signed_bytes(area, id, start, length)
-    }
+    fn signed_bytes(&self, area: &[u8], id: &[u8], start: &mut u64, length: &mut u64) -> u64;
 
-    /// The other reading calls: nothing where the side does not have the call.
-    fn read(&self, reading: Reading, area: &[u8], out: &mut [u8]) -> Option<u64> {
-        Some(match reading {
-            Reading::Revision => put_value(out, |value| calls::revision(area, value)),
-            Reading::IsEmpty => put_value(out, |value| calls::is_empty(area, value)),
-            Reading::DeadlineDue(now, height) => {
-                put_value(out, |value| calls::deadline_due(area, now, height, value))
-            }
-            Reading::ObservedHeight => put_value(out, |value| calls::observed_height(area, value)),
-            Reading::ObservationCursor => calls::observation_cursor(area, out),
-            Reading::RecordIds => calls::record_ids(area, out),
-            Reading::GuardedIds => calls::guarded_ids(area, out),
-            Reading::ReservedInputs => calls::reserved_inputs(area, out),
-            Reading::ReservationSnapshot => calls::reservation_snapshot(area, out),
-            Reading::GuardSnapshot => calls::guard_snapshot(area, out),
-            Reading::List => calls::list(area, out),
-            Reading::SelectionEntries => calls::selection_entries(area, out),
-            Reading::SelectionEntriesAt(now, height) => {
-                calls::selection_entries_at(area, now, height, out)
-            }
-            Reading::Due(now, height) => calls::due(area, now, height, out),
-            Reading::Confirmations => calls::confirmations(area, out),
-        })
-    }
+    fn best_fees(&self, area: &[u8], asked: &Fees, out: &mut [u8]) -> u64;
+
+    /// The other reading calls.
+    fn read(&self, reading: Reading, area: &[u8], out: &mut [u8]) -> u64;
 }
 
-/// A reading call without an id. One that answers a number writes it as 8 bytes here.
+/// What best fees is given beside the area and the output.
+#[derive(Debug, Clone, Copy, PartialEq, Eq)]
+pub struct Fees {
+    pub limit: u64,
+    pub budget: u64,
+    pub now: u64,
+    pub height: u32,
+}
+
+/// A reading call that the oracle has, too, without an id. One that answers a number writes it as 8
+/// bytes here.
 #[derive(Debug, Clone, Copy, PartialEq, Eq)]
 pub enum Reading {
     Revision,
@@ -165,26 +130,98 @@ fn put_value(out: &mut [u8], call: impl FnOnce(&mut u64) -> u64) -> u64 {
 #[derive(Debug, Clone, Copy, Default)]
 pub struct Model;
 
-impl Side for Model {}
+impl Side for Model {
+    fn admit(&self, cur: &[u8], next: &mut [u8], args: &AdmitArgs<'_>, out: &mut [u8]) -> u64 {
+        calls::admit(cur, next, args, out)
+    }
 
-/// The library. A call that it does not export yet is made by the model, so that lists go on; a
-/// reading call without an id is left out.
+    fn cancel(&self, cur: &[u8], next: &mut [u8], id: &[u8], out: &mut [u8]) -> u64 {
+        calls::cancel(cur, next, id, out)
+    }
+
+    fn expire(&self, cur: &[u8], next: &mut [u8], now: u64, height: u32, out: &mut [u8]) -> u64 {
+        calls::expire(cur, next, now, height, out)
+    }
+
+    fn reconcile(
+        &self,
+        cur: &[u8],
+        next: &mut [u8],
+        args: &ReconcileArgs<'_>,
+        out: &mut [u8],
+    ) -> u64 {
+        calls::reconcile(cur, next, args, out)
+    }
+
+    fn reopen(&self, cur: &[u8], next: &mut [u8], ids: &[u8]) -> u64 {
+        calls::reopen(cur, next, ids)
+    }
+
+    fn set_cursor(&self, cur: &[u8], next: &mut [u8], height: u32, flag: u8, tip: &[u8]) -> u64 {
+        calls::set_cursor(cur, next, height, flag, tip)
+    }
+
+    fn fresh(&self, p: u64, b: u64, t: u64, k: u64, area: &mut [u8]) -> u64 {
+        calls::fresh(p, b, t, k, area)
+    }
+
+    fn settle(&self, cur: &[u8], next: &mut [u8], kind: u64, outcome: u64) -> u64 {
+        calls::settle(cur, next, kind, outcome)
+    }
+
+    fn image(&self, area: &[u8], out: &mut [u8], length: &mut u64) -> u64 {
+        calls::image(area, out, length)
+    }
+
+    fn open(&self, text: &[u8], area: &mut [u8]) -> u64 {
+        calls::open(text, area)
+    }
+
+    fn sound(&self, area: &[u8]) -> u64 {
+        calls::sound(area)
+    }
+
+    fn entry(&self, area: &[u8], id: &[u8], out: &mut [u8]) -> u64 {
+        calls::entry(area, id, out)
+    }
+
+    fn signed_bytes(&self, area: &[u8], id: &[u8], start: &mut u64, length: &mut u64) -> u64 {
+        calls::signed_bytes(area, id, start, length)
+    }
+
+    fn best_fees(&self, area: &[u8], asked: &Fees, out: &mut [u8]) -> u64 {
+        let Fees { limit, budget, .. } = *asked;
+        calls::best_fees(area, limit, budget, asked.now, asked.height, out)
+    }
+
+    fn read(&self, reading: Reading, area: &[u8], out: &mut [u8]) -> u64 {
+        match reading {
+            Reading::Revision => put_value(out, |value| calls::revision(area, value)),
+            Reading::IsEmpty => put_value(out, |value| calls::is_empty(area, value)),
+            Reading::DeadlineDue(now, height) => {
+                put_value(out, |value| calls::deadline_due(area, now, height, value))
+            }
+            Reading::ObservedHeight => put_value(out, |value| calls::observed_height(area, value)),
+            Reading::ObservationCursor => calls::observation_cursor(area, out),
+            Reading::RecordIds => calls::record_ids(area, out),
+            Reading::GuardedIds => calls::guarded_ids(area, out),
+            Reading::ReservedInputs => calls::reserved_inputs(area, out),
+            Reading::ReservationSnapshot => calls::reservation_snapshot(area, out),
+            Reading::GuardSnapshot => calls::guard_snapshot(area, out),
+            Reading::List => calls::list(area, out),
+            Reading::SelectionEntries => calls::selection_entries(area, out),
+            Reading::SelectionEntriesAt(now, height) => {
+                calls::selection_entries_at(area, now, height, out)
+            }
+            Reading::Due(now, height) => calls::due(area, now, height, out),
+            Reading::Confirmations => calls::confirmations(area, out),
+        }
+    }
+}
+
+/// The library.
 #[derive(Debug, Clone, Copy, Default)]
 pub struct Library;
-
-/// The library's reading where it is exported, else nothing.
-macro_rules! if_exported {
-    ($call:literal, $library:expr) => {{
-        #[cfg(exported = $call)]
-        {
-            $library
-        }
-        #[cfg(not(exported = $call))]
-        {
-            return None;
-        }
-    }};
-}
 
 /// The number of docs/CALLS.md.
 trait Number {
@@ -207,9 +244,8 @@ fn number(answer: impl Number) -> u64 {
     answer.number()
 }
 
-#[cfg(exported = "admit")]
-fn admit_args<'a>(args: &AdmitArgs<'a>) -> pokerbox::raw::AdmitArgs<'a> {
-    pokerbox::raw::AdmitArgs {
+fn admit_args<'a>(args: &AdmitArgs<'a>) -> raw::AdmitArgs<'a> {
+    raw::AdmitArgs {
         id: args.id,
         inputs: args.inputs,
         outputs: args.outputs,
@@ -230,9 +266,8 @@ fn admit_args<'a>(args: &AdmitArgs<'a>) -> pokerbox::raw::AdmitArgs<'a> {
     }
 }
 
-#[cfg(exported = "reconcile")]
-fn reconcile_args<'a>(args: &ReconcileArgs<'a>) -> pokerbox::raw::ReconcileArgs<'a> {
-    pokerbox::raw::ReconcileArgs {
+fn reconcile_args<'a>(args: &ReconcileArgs<'a>) -> raw::ReconcileArgs<'a> {
+    raw::ReconcileArgs {
         height: args.height,
         tip: args.tip,
         applied: args.applied,
@@ -242,26 +277,19 @@ fn reconcile_args<'a>(args: &ReconcileArgs<'a>) -> pokerbox::raw::ReconcileArgs<
     }
 }
 
-#[allow(unused_imports)]
-use pokerbox::raw;
-
 impl Side for Library {
-    #[cfg(exported = "admit")]
     fn admit(&self, cur: &[u8], next: &mut [u8], args: &AdmitArgs<'_>, out: &mut [u8]) -> u64 {
         number(raw::admit(cur, next, &admit_args(args), out))
     }
 
-    #[cfg(exported = "cancel")]
     fn cancel(&self, cur: &[u8], next: &mut [u8], id: &[u8], out: &mut [u8]) -> u64 {
         number(raw::cancel(cur, next, id, out))
     }
 
-    #[cfg(exported = "expire")]
     fn expire(&self, cur: &[u8], next: &mut [u8], now: u64, height: u32, out: &mut [u8]) -> u64 {
         number(raw::expire(cur, next, now, height, out))
     }
 
-    #[cfg(exported = "reconcile")]
     fn reconcile(
         &self,
         cur: &[u8],
@@ -272,103 +300,71 @@ impl Side for Library {
         number(raw::reconcile(cur, next, &reconcile_args(args), out))
     }
 
-    #[cfg(exported = "reopen")]
     fn reopen(&self, cur: &[u8], next: &mut [u8], ids: &[u8]) -> u64 {
         number(raw::reopen(cur, next, ids))
     }
 
-    #[cfg(exported = "set_cursor")]
     fn set_cursor(&self, cur: &[u8], next: &mut [u8], height: u32, flag: u8, tip: &[u8]) -> u64 {
         number(raw::set_cursor(cur, next, height, flag, tip))
     }
 
-    #[cfg(exported = "fresh")]
     fn fresh(&self, p: u64, b: u64, t: u64, k: u64, area: &mut [u8]) -> u64 {
         number(raw::fresh(p, b, t, k, area))
     }
 
-    #[cfg(exported = "settle")]
     fn settle(&self, cur: &[u8], next: &mut [u8], kind: u64, outcome: u64) -> u64 {
         number(raw::settle(cur, next, kind, outcome))
     }
 
-    #[cfg(exported = "image")]
     fn image(&self, area: &[u8], out: &mut [u8], length: &mut u64) -> u64 {
         number(raw::image(area, out, length))
     }
 
-    #[cfg(exported = "open")]
     fn open(&self, text: &[u8], area: &mut [u8]) -> u64 {
         number(raw::open(text, area))
     }
 
-    #[cfg(exported = "sound")]
     fn sound(&self, area: &[u8]) -> u64 {
         number(raw::sound(area))
     }
 
-    #[cfg(exported = "entry")]
     fn entry(&self, area: &[u8], id: &[u8], out: &mut [u8]) -> u64 {
         number(raw::entry(area, id, out))
     }
 
-    #[cfg(exported = "signed_bytes")]
     fn signed_bytes(&self, area: &[u8], id: &[u8], start: &mut u64, length: &mut u64) -> u64 {
         number(raw::signed_bytes(area, id, start, length))
     }
 
-    #[allow(unreachable_code, unused_variables)]
-    fn read(&self, reading: Reading, area: &[u8], out: &mut [u8]) -> Option<u64> {
-        Some(match reading {
-            Reading::Revision => if_exported!(
-                "revision",
-                put_value(out, |value| number(raw::revision(area, value)))
-            ),
-            Reading::IsEmpty => if_exported!(
-                "is_empty",
-                put_value(out, |value| number(raw::is_empty(area, value)))
-            ),
-            Reading::DeadlineDue(now, height) => if_exported!(
-                "deadline_due",
-                put_value(out, |value| {
-                    number(raw::deadline_due(area, now, height, value))
-                })
-            ),
-            Reading::ObservedHeight => if_exported!(
-                "observed_height",
+    fn best_fees(&self, area: &[u8], asked: &Fees, out: &mut [u8]) -> u64 {
+        let Fees { limit, budget, .. } = *asked;
+        let answer = raw::best_fees(area, limit, budget, asked.now, asked.height, out);
+        number(answer)
+    }
+
+    fn read(&self, reading: Reading, area: &[u8], out: &mut [u8]) -> u64 {
+        match reading {
+            Reading::Revision => put_value(out, |value| number(raw::revision(area, value))),
+            Reading::IsEmpty => put_value(out, |value| number(raw::is_empty(area, value))),
+            Reading::DeadlineDue(now, height) => put_value(out, |value| {
+                number(raw::deadline_due(area, now, height, value))
+            }),
+            Reading::ObservedHeight => {
                 put_value(out, |value| number(raw::observed_height(area, value)))
-            ),
-            Reading::ObservationCursor => if_exported!(
-                "observation_cursor",
-                number(raw::observation_cursor(area, out))
-            ),
-            Reading::RecordIds => if_exported!("record_ids", number(raw::record_ids(area, out))),
-            Reading::GuardedIds => if_exported!("guarded_ids", number(raw::guarded_ids(area, out))),
-            Reading::ReservedInputs => {
-                if_exported!("reserved_inputs", number(raw::reserved_inputs(area, out)))
             }
-            Reading::ReservationSnapshot => if_exported!(
-                "reservation_snapshot",
-                number(raw::reservation_snapshot(area, out))
-            ),
-            Reading::GuardSnapshot => {
-                if_exported!("guard_snapshot", number(raw::guard_snapshot(area, out)))
-            }
-            Reading::List => if_exported!("list", number(raw::list(area, out))),
-            Reading::SelectionEntries => if_exported!(
-                "selection_entries",
-                number(raw::selection_entries(area, out))
-            ),
-            Reading::SelectionEntriesAt(now, height) => if_exported!(
-                "selection_entries_at",
+            Reading::ObservationCursor => number(raw::observation_cursor(area, out)),
+            Reading::RecordIds => number(raw::record_ids(area, out)),
+            Reading::GuardedIds => number(raw::guarded_ids(area, out)),
+            Reading::ReservedInputs => number(raw::reserved_inputs(area, out)),
+            Reading::ReservationSnapshot => number(raw::reservation_snapshot(area, out)),
+            Reading::GuardSnapshot => number(raw::guard_snapshot(area, out)),
+            Reading::List => number(raw::list(area, out)),
+            Reading::SelectionEntries => number(raw::selection_entries(area, out)),
+            Reading::SelectionEntriesAt(now, height) => {
                 number(raw::selection_entries_at(area, now, height, out))
-            ),
-            Reading::Due(now, height) => {
-                if_exported!("due", number(raw::due(area, now, height, out)))
             }
-            Reading::Confirmations => {
-                if_exported!("confirmations", number(raw::confirmations(area, out)))
-            }
-        })
+            Reading::Due(now, height) => number(raw::due(area, now, height, out)),
+            Reading::Confirmations => number(raw::confirmations(area, out)),
+        }
     }
 }

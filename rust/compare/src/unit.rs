@@ -5,7 +5,7 @@ use model::rules::{Admission, Reconciliation};
 use model::{area, image, Id, Limits, Queue};
 
 use crate::list::{Call, Start, Write};
-use crate::side::{Reading, Side};
+use crate::side::{Fees, Reading, Side};
 
 /// Bytes lent after the need; no call may change them.
 const LATER: [u8; 5] = [0xee; 5];
@@ -173,20 +173,25 @@ impl<'s, S: Side> Unit<'s, S> {
         Ok(text)
     }
 
-    /// The output that a reading call leaves in `length` bytes; nothing where the side does not
-    /// have the call.
-    pub fn read(&self, reading: Reading, length: usize) -> Option<Result<Vec<u8>, u64>> {
+    /// The output of `length` bytes that a call leaves, or its refusal.
+    fn output(length: usize, call: impl FnOnce(&mut [u8]) -> u64) -> Result<Vec<u8>, u64> {
         let mut out = vec![UNTOUCHED; length];
-        let number = self.side.read(reading, &self.current, &mut out)?;
-        Some(if number == 100 { Ok(out) } else { Err(number) })
-    }
-
-    pub fn entry(&self, id: &Id, length: usize) -> Result<Vec<u8>, u64> {
-        let mut out = vec![UNTOUCHED; length];
-        match self.side.entry(&self.current, id, &mut out) {
+        match call(&mut out) {
             100 => Ok(out),
             number => Err(number),
         }
+    }
+
+    pub fn read(&self, reading: Reading, length: usize) -> Result<Vec<u8>, u64> {
+        Self::output(length, |out| self.side.read(reading, &self.current, out))
+    }
+
+    pub fn entry(&self, id: &Id, length: usize) -> Result<Vec<u8>, u64> {
+        Self::output(length, |out| self.side.entry(&self.current, id, out))
+    }
+
+    pub fn best_fees(&self, asked: &Fees, length: usize) -> Result<Vec<u8>, u64> {
+        Self::output(length, |out| self.side.best_fees(&self.current, asked, out))
     }
 
     pub fn signed_bytes(&self, id: &Id) -> Result<&[u8], u64> {

@@ -34,6 +34,7 @@ impl Cards {
             start: start.map_or(Start::Fresh, |queue| Start::Queue(Box::new(queue))),
             events: Vec::new(),
             probe: (TimeMs(0), Height(0)),
+            fees: 0,
         };
         let pair = Pair::new(&Model, folder.path(), &list).map_err(|found| found.to_string());
         Cards {

@@ -4,21 +4,17 @@ mod common;
 
 use common::Folder;
 use compare::counts::Counts;
-use compare::generate;
 use compare::list::List;
-use compare::run::{random_list, Found};
+use compare::run::{self, Difference, Found};
 use compare::shrink::shrink;
-use compare::side::{Library, Model, Reading, Side};
-use model::calls;
-use model::random::Rng;
+use compare::side::{Fees, Library, Model, Reading, Side};
+use model::calls::{self, AdmitArgs, ReconcileArgs};
 
 /// Runs random lists; the first one that shows a difference.
 fn lists<S: Side>(side: &S, folder: &Folder, count: u64) -> Result<Counts, Found> {
     let mut counts = Counts::default();
     for seed in 0..count {
-        let mut rng = Rng::new(seed);
-        let limits = generate::limits(&mut rng);
-        random_list(side, folder.path(), &mut rng, limits, &mut counts)?;
+        run::seed(side, folder.path(), seed, None, &mut counts)?;
     }
     Ok(counts)
 }
@@ -53,92 +49,238 @@ fn the_model_answers_as_the_oracle() {
             assert!(counts.met(call, answer), "{call} never gave {answer}");
         }
     }
+    assert_eq!(counts.met_by_fees(), [4, 5, 21, 100]);
 }
 
 #[test]
 fn the_library_answers_as_the_oracle() {
-    no_difference(&Library, "library", 100);
+    let counts = no_difference(&Library, "library", 100);
+    assert_eq!(counts.met_by_fees(), [4, 5, 21, 100]);
 }
 
-/// The smallest list that shows the fault.
-fn noticed<S: Side>(side: &S, name: &str) -> List {
+type BestFees = fn(&[u8], &Fees, &mut [u8]) -> u64;
+
+/// The model, some of whose calls may be wrong.
+struct Faulty {
+    settle: fn(&[u8], &mut [u8], u64, u64) -> u64,
+    cancel: fn(&[u8], &mut [u8], &[u8], &mut [u8]) -> u64,
+    open: fn(&[u8], &mut [u8]) -> u64,
+    read: fn(Reading, &[u8], &mut [u8]) -> u64,
+    best_fees: BestFees,
+}
+
+const RIGHT: Faulty = Faulty {
+    settle: calls::settle,
+    cancel: calls::cancel,
+    open: calls::open,
+    read: |reading, area, out| Model.read(reading, area, out),
+    best_fees: |area, asked, out| Model.best_fees(area, asked, out),
+};
+
+impl Side for Faulty {
+    fn admit(&self, cur: &[u8], next: &mut [u8], args: &AdmitArgs<'_>, out: &mut [u8]) -> u64 {
+        Model.admit(cur, next, args, out)
+    }
+
+    fn cancel(&self, cur: &[u8], next: &mut [u8], id: &[u8], out: &mut [u8]) -> u64 {
+        (self.cancel)(cur, next, id, out)
+    }
+
+    fn expire(&self, cur: &[u8], next: &mut [u8], now: u64, height: u32, out: &mut [u8]) -> u64 {
+        Model.expire(cur, next, now, height, out)
+    }
+
+    fn reconcile(
+        &self,
+        cur: &[u8],
+        next: &mut [u8],
+        args: &ReconcileArgs<'_>,
+        out: &mut [u8],
+    ) -> u64 {
+        Model.reconcile(cur, next, args, out)
+    }
+
+    fn reopen(&self, cur: &[u8], next: &mut [u8], ids: &[u8]) -> u64 {
+        Model.reopen(cur, next, ids)
+    }
+
+    fn set_cursor(&self, cur: &[u8], next: &mut [u8], height: u32, flag: u8, tip: &[u8]) -> u64 {
+        Model.set_cursor(cur, next, height, flag, tip)
+    }
+
+    fn fresh(&self, p: u64, b: u64, t: u64, k: u64, area: &mut [u8]) -> u64 {
+        Model.fresh(p, b, t, k, area)
+    }
+
+    fn settle(&self, cur: &[u8], next: &mut [u8], kind: u64, outcome: u64) -> u64 {
+        (self.settle)(cur, next, kind, outcome)
+    }
+
+    fn image(&self, area: &[u8], out: &mut [u8], length: &mut u64) -> u64 {
+        Model.image(area, out, length)
+    }
+
+    fn open(&self, text: &[u8], area: &mut [u8]) -> u64 {
+        (self.open)(text, area)
+    }
+
+    fn sound(&self, area: &[u8]) -> u64 {
+        Model.sound(area)
+    }
+
+    fn entry(&self, area: &[u8], id: &[u8], out: &mut [u8]) -> u64 {
+        Model.entry(area, id, out)
+    }
+
+    fn signed_bytes(&self, area: &[u8], id: &[u8], start: &mut u64, length: &mut u64) -> u64 {
+        Model.signed_bytes(area, id, start, length)
+    }
+
+    fn best_fees(&self, area: &[u8], asked: &Fees, out: &mut [u8]) -> u64 {
+        (self.best_fees)(area, asked, out)
+    }
+
+    fn read(&self, reading: Reading, area: &[u8], out: &mut [u8]) -> u64 {
+        (self.read)(reading, area, out)
+    }
+}
+
+/// The smallest list that shows the fault, and the difference.
+fn noticed(side: Faulty, name: &str) -> (List, Difference) {
     let folder = Folder::new(name);
-    let Err(found) = lists(side, &folder, 500) else {
+    let Err(found) = lists(&side, &folder, 500) else {
         panic!("{name} was not noticed");
     };
-    shrink(side, folder.path(), *found).0
-}
-
-/// Settles a failed cursor write as kept.
-struct KeepsPersisted;
-
-impl Side for KeepsPersisted {
-    fn settle(&self, cur: &[u8], next: &mut [u8], kind: u64, outcome: u64) -> u64 {
-        if (kind, outcome) == (3, 1) {
-            return 17;
-        }
-        calls::settle(cur, next, kind, outcome)
-    }
+    shrink(&side, folder.path(), *found)
 }
 
 #[test]
 fn a_persisted_height_that_moves_on_a_failed_write_is_noticed() {
-    let list = noticed(&KeepsPersisted, "keeps-persisted");
+    // Settles a failed cursor write as kept.
+    let side = Faulty {
+        settle: |cur, next, kind, outcome| match (kind, outcome) {
+            (3, 1) => 17,
+            _ => calls::settle(cur, next, kind, outcome),
+        },
+        ..RIGHT
+    };
+    let (list, _) = noticed(side, "keeps-persisted");
     assert_eq!(list.events.len(), 1, "{list}");
-}
-
-/// Takes a record's repeated cancellation for an absent one.
-struct ForgetsTombstones;
-
-impl Side for ForgetsTombstones {
-    fn cancel(&self, cur: &[u8], next: &mut [u8], id: &[u8], out: &mut [u8]) -> u64 {
-        match calls::cancel(cur, next, id, out) {
-            100 => 13,
-            number => number,
-        }
-    }
 }
 
 #[test]
 fn a_wrong_refusal_is_noticed() {
-    let list = noticed(&ForgetsTombstones, "forgets-tombstones");
+    // Takes a record's repeated cancellation for an absent one.
+    let side = Faulty {
+        cancel: |cur, next, id, out| match calls::cancel(cur, next, id, out) {
+            100 => 13,
+            number => number,
+        },
+        ..RIGHT
+    };
+    let (list, _) = noticed(side, "forgets-tombstones");
     assert!(list.events.len() <= 3, "{list}");
-}
-
-/// Leaves out the order by time of creation.
-struct WrongOrder;
-
-impl Side for WrongOrder {
-    fn read(&self, reading: Reading, area: &[u8], out: &mut [u8]) -> Option<u64> {
-        match reading {
-            Reading::SelectionEntries => Model.read(Reading::GuardedIds, area, out),
-            other => Model.read(other, area, out),
-        }
-    }
 }
 
 #[test]
 fn a_wrong_selection_is_noticed() {
-    let list = noticed(&WrongOrder, "wrong-order");
+    // Leaves out the order by time of creation.
+    let side = Faulty {
+        read: |reading, area, out| match reading {
+            Reading::SelectionEntries => Model.read(Reading::GuardedIds, area, out),
+            other => Model.read(other, area, out),
+        },
+        ..RIGHT
+    };
+    let (list, _) = noticed(side, "wrong-order");
     assert!(list.events.len() <= 3, "{list}");
-}
-
-/// Opens an image as an empty queue.
-struct OpensEmpty;
-
-impl Side for OpensEmpty {
-    fn open(&self, text: &[u8], area: &mut [u8]) -> u64 {
-        let number = calls::open(text, area);
-        if let Some(queue) = model::area::decode(area) {
-            let fresh = model::area::encode(&model::Queue::fresh(queue.limits));
-            area[..fresh.len()].copy_from_slice(&fresh);
-        }
-        number
-    }
 }
 
 #[test]
 fn an_empty_queue_after_a_cut_is_noticed() {
-    let list = noticed(&OpensEmpty, "opens-empty");
+    // Opens an image as an empty queue.
+    let side = Faulty {
+        open: |text, area| {
+            let number = calls::open(text, area);
+            if let Some(queue) = model::area::decode(area) {
+                let fresh = model::area::encode(&model::Queue::fresh(queue.limits));
+                area[..fresh.len()].copy_from_slice(&fresh);
+            }
+            number
+        },
+        ..RIGHT
+    };
+    let (list, _) = noticed(side, "opens-empty");
     assert!(list.events.len() <= 3, "{list}");
+}
+
+/// The number, once an answer of two records or more was changed by `change`, which has their ids.
+fn changed(area: &[u8], asked: &Fees, out: &mut [u8], change: fn(&mut [u8])) -> u64 {
+    let number = Model.best_fees(area, asked, out);
+    if number == 100 && out[23] >= 2 {
+        let length = 24 + 32 * usize::from(out[23]);
+        change(&mut out[24..length]);
+    }
+    number
+}
+
+/// As many records, the first of the selection, where they break the limit.
+fn first_that_break(area: &[u8], asked: &Fees, out: &mut [u8]) -> u64 {
+    let number = Model.best_fees(area, asked, out);
+    if number != 100 {
+        return number;
+    }
+    let queue = model::area::decode(area).expect("a sound area");
+    let (now, height) = (model::TimeMs(asked.now), model::Height(asked.height));
+    let mut first = model::fees::candidates(&queue, now, height);
+    first.truncate(usize::from(out[23]));
+    let bytes: u64 = first.iter().map(|one| one.size).sum();
+    if bytes > asked.limit {
+        let fee: u64 = first.iter().map(|one| one.fee).sum();
+        out[..8].copy_from_slice(&fee.to_be_bytes());
+        for (at, one) in first.iter().enumerate() {
+            out[24 + 32 * at..][..32].copy_from_slice(&one.id);
+        }
+    }
+    number
+}
+
+#[test]
+fn a_wrong_set_is_noticed_by_the_oracles_selection() {
+    let sides: [(BestFees, &str, &str); 3] = [
+        (
+            |area, asked, out| changed(area, asked, out, |ids| ids.rotate_left(32)),
+            "turned-set",
+            "it is no part of the selection, in its order",
+        ),
+        (
+            |area, asked, out| changed(area, asked, out, |ids| ids.copy_within(32..64, 0)),
+            "repeated-id",
+            "an id is there twice",
+        ),
+        (first_that_break, "breaks-the-limit", "it does not fit"),
+    ];
+    for (best_fees, name, wrong) in sides {
+        let side = Faulty { best_fees, ..RIGHT };
+        let (list, found) = noticed(side, name);
+        assert_eq!(found.what, "the set of best_fees", "{list}{found}");
+        assert!(found.side.contains(wrong), "{list}{found}");
+    }
+}
+
+#[test]
+fn a_wrong_distance_is_noticed() {
+    let side = Faulty {
+        best_fees: |area, asked, out| {
+            let number = Model.best_fees(area, asked, out);
+            if number == 100 {
+                out[19] ^= 1;
+            }
+            number
+        },
+        ..RIGHT
+    };
+    let (list, found) = noticed(side, "wrong-distance");
+    assert_eq!(found.what, "the answer of best_fees", "{list}{found}");
+    assert!(list.events.is_empty(), "{list}{found}");
 }

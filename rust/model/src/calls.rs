@@ -5,7 +5,7 @@ use std::collections::{BTreeMap, BTreeSet};
 
 use crate::rules::{self, Admission, Change, Kind, Reconciliation, ABSENT};
 use crate::values::{Confirmation, Height, Id, Limits, Queue, Record, TimeMs};
-use crate::{area, frame, image};
+use crate::{area, fees, frame, image};
 
 pub const LIMIT: u64 = 1;
 pub const AREA_SHORT: u64 = 2;
@@ -474,6 +474,38 @@ pub fn selection_entries_at(lent: &[u8], now: u64, height: u32, out: &mut [u8]) 
         let selected = rules::selection_at(queue, TimeMs(now), Height(height));
         ids_bytes(selected.into_iter().map(|record| &record.id))
     })
+}
+
+/// Fee 8, nodes 4, distance 8, then ids.
+pub fn best_fees(
+    lent: &[u8],
+    limit: u64,
+    budget: u64,
+    now: u64,
+    height: u32,
+    out: &mut [u8],
+) -> u64 {
+    number(try_best_fees(lent, limit, budget, now, height, out))
+}
+
+fn try_best_fees(
+    lent: &[u8],
+    limit: u64,
+    budget: u64,
+    now: u64,
+    height: u32,
+    out: &mut [u8],
+) -> Answer {
+    let queue = read_area(lent)?;
+    if !(1..=fees::MAX_BUDGET).contains(&budget) {
+        return Err(SHAPE);
+    }
+    let best = fees::best_fees(&queue, limit, budget, TimeMs(now), Height(height))?;
+    let mut answer = best.fee.to_be_bytes().to_vec();
+    answer.extend(best.nodes.to_be_bytes());
+    answer.extend(best.distance.to_be_bytes());
+    answer.extend(ids_bytes(&best.ids));
+    write_output(&answer, out)
 }
 
 pub fn due(lent: &[u8], now: u64, height: u32, out: &mut [u8]) -> u64 {

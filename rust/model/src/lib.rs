@@ -5,12 +5,14 @@
 //! - [`sound`]: which queues are sound, rule by rule.
 //! - [`frame`], [`area`], [`image`]: the encodings.
 //! - [`rules`]: each call as a function on queues.
+//! - [`fees`]: document 02's best fees for a block, as a function on queues.
 //! - [`calls`]: each call as the exported function of that name has it, on lent bytes.
 //! - [`load`]: large sound queues with chosen ids, to measure with.
 //! - [`random`]: random sound queues and damaged bytes for tests.
 
 pub mod area;
 pub mod calls;
+pub mod fees;
 pub mod frame;
 pub mod image;
 pub mod load;

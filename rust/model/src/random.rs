@@ -2,6 +2,8 @@
 
 use std::collections::BTreeSet;
 
+use crate::fees::{MAX_BUDGET, MAX_CANDIDATES};
+use crate::rules::selection_at;
 use crate::sound::is_sound;
 use crate::values::{
     Confirmation, FinishNumber, Height, Holder, Id, Limits, Queue, Reason, Record, State, TimeMs,
@@ -310,6 +312,144 @@ fn number_tombstones(rng: &mut Rng, queue: &mut Queue) {
             }
             record.finish = FinishNumber(number);
         }
+    }
+}
+
+/// A sound queue of which every moment selects so many records, and a few that none selects: due
+/// already, Conflicted, Mined or finished. Sizes and priorities are small, so that many are equal.
+pub fn fees_queue(rng: &mut Rng, selected: usize) -> Queue {
+    let others = rng.below(4);
+    let count = selected + others;
+    let size = rng.pick(&[0, 1, 5, 12]);
+    let mut queue = Queue::fresh(Limits {
+        pending: 1 + count as u32,
+        bytes: 1 + (count * size) as u32,
+        tombstones: 1 + others as u32,
+        inputs: 1 + rng.below(2) as u32,
+    });
+    let mut room = Room::new(&queue.limits);
+    let priorities = rng.pick(&[&[4][..], &[0, 1], &[i32::MIN, -1, 0, 1, i32::MAX]]);
+    // Which of the ids are not selected is left to chance.
+    let mut ids: Vec<Id> = (0..count).map(nth_id).collect();
+    for n in 0..count {
+        let at = rng.below(ids.len());
+        let id = ids.swap_remove(at);
+        let state = if n < selected || rng.once_in(3) {
+            State::Queued
+        } else {
+            rng.pick(&[State::Conflicted, State::Mined, State::Cancelled])
+        };
+        let holder = (state != State::Cancelled).then(|| Holder {
+            inputs: room.take_inputs(rng),
+            outputs: box_ids(rng, &queue.limits),
+            bytes: vec![n as u8; rng.up_to(size)],
+        });
+        let mut record = room.filled(rng, id, state, holder);
+        record.priority = rng.pick(priorities);
+        record.height_deadline = None;
+        record.time_deadline = (n >= selected).then_some(TimeMs(0));
+        queue.records.push(record);
+    }
+    queue.records.sort_by_key(|record| record.id);
+    number_tombstones(rng, &mut queue);
+    put_fees(rng, &mut queue);
+    debug_assert!(is_sound(&queue));
+    queue
+}
+
+/// Gives the selected records other fees, by their places in the order.
+fn put_fees(rng: &mut Rng, queue: &mut Queue) {
+    let order: Vec<Id> = selection_at(queue, TimeMs(0), Height(0))
+        .iter()
+        .map(|record| record.id)
+        .collect();
+    let fees = fees(rng, order.len());
+    for record in &mut queue.records {
+        if let Some(at) = order.iter().position(|id| *id == record.id) {
+            record.fee = fees[at];
+        }
+    }
+}
+
+/// Fees of so many selected records: small ones, equal ones, and sums at the edge of 64 bits.
+pub fn fees(rng: &mut Rng, count: usize) -> Vec<u64> {
+    let candidates = count.min(MAX_CANDIDATES);
+    let mut fees = match rng.below(8) {
+        0 => vec![rng.below(3) as u64; count],
+        1 => (0..count).map(|_| rng.u64() >> 5).collect(),
+        2 | 3 => (0..count).map(|_| rng.below(4) as u64).collect(),
+        4 | 5 => (0..count).map(|_| rng.below(1_000) as u64).collect(),
+        // The candidates' sum is the top, or 1 more where that can be.
+        _ => {
+            let mut fees = parts(rng, candidates);
+            let more = rng.once_in(2);
+            if let (true, Some(fee)) = (more, fees.iter_mut().find(|fee| **fee < u64::MAX)) {
+                *fee += 1;
+            }
+            fees
+        }
+    };
+    // Those behind the candidates have any.
+    while fees.len() < count {
+        fees.push(rng.pick(&[0, 1, u64::MAX]));
+    }
+    fees
+}
+
+/// So many numbers whose sum is the top of 64 bits.
+fn parts(rng: &mut Rng, count: usize) -> Vec<u64> {
+    let mut left = u64::MAX;
+    let mut parts = Vec::new();
+    for n in 0..count {
+        let part = match rng.below(4) {
+            _ if n + 1 == count => left,
+            0 => 0,
+            1 => left,
+            _ => left / (1 + rng.below(count) as u64),
+        };
+        left -= part;
+        parts.push(part);
+    }
+    parts
+}
+
+/// A byte limit for best fees: what some of the candidates have together, or about that, or far
+/// from it.
+pub fn fees_limit(rng: &mut Rng, queue: &Queue, now: TimeMs, height: Height) -> u64 {
+    let mask = rng.u64();
+    let selected = selection_at(queue, now, height);
+    let first = selected.iter().take(MAX_CANDIDATES).enumerate();
+    let sizes: Vec<(usize, u64)> = first
+        .map(|(at, record)| (at, record.byte_count() as u64))
+        .collect();
+    let some = sizes.iter().filter(|(at, _)| mask >> at & 1 == 1);
+    let sum: u64 = some.map(|(_, size)| size).sum();
+    let all: u64 = sizes.iter().map(|(_, size)| size).sum();
+    match rng.below(12) {
+        0 => 0,
+        1 => u64::MAX,
+        2 => all,
+        3 => all.saturating_sub(1),
+        // Large, with small last bytes.
+        4 => (1 << rng.pick(&[32, 40, 63])) + sum,
+        5 => rng.below(8) as u64,
+        6 => sum + 1,
+        7 => sum.saturating_sub(1),
+        _ => sum,
+    }
+}
+
+/// A budget for best fees: mostly small, rarely the top, rarely out of range.
+pub fn fees_budget(rng: &mut Rng) -> u64 {
+    match rng.below(40) {
+        0 => 0,
+        1 => rng.pick(&[MAX_BUDGET + 1, MAX_BUDGET + 1, (1 << 32) + 9, u64::MAX]),
+        2 => MAX_BUDGET,
+        3 => 1,
+        4 => 2,
+        5..=9 => 1 + rng.below(3_000) as u64,
+        10..=24 => 1 + rng.below(130) as u64,
+        _ => 1 + rng.below(40) as u64,
     }
 }
 

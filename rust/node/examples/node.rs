@@ -18,15 +18,19 @@ fn main() -> Result<(), Box<dyn std::error::Error>> {
     let signed = b"signed bytes".to_vec();
     store.admit(&Admission {
         priority: 7,
+        fee: 1_000_000,
         ..Admission::new(id, inputs, outputs, signed, TimeMs(1_000), Height(100))
     })?;
 
-    // What the template builder takes, best first.
+    // What the template builder takes: the most fee in at most 500,000 bytes, by 10,000 steps of a
+    // search over the first 20 records of `selection_entries_at`.
     let queue = store.queue();
-    for id in queue.selection_entries_at(TimeMs(1_000), Height(100))? {
+    let best = queue.best_fees(500_000, 10_000, TimeMs(1_000), Height(100))?;
+    for id in best.ids {
         let signed: &[u8] = queue.signed_bytes(id)?;
         println!("{id}: {} signed bytes", signed.len());
     }
+    println!("fee {}, at most {} more", best.fee, best.distance);
 
     // A write that fails is refusal 17: the queue is as before, and the call can be made again.
     std::fs::create_dir(folder.join("image.new"))?; // in the way of the second file

@@ -11,9 +11,9 @@
  * written overlaps nothing else that is lent to the same call. Numbers in bytes are big-endian.
  *
  * Each call gives back one number:
- *   1 to 17     a refusal; nothing lent has changed, except the next area after 17;
- *   100         the call was answered;
- *   100 to 103  a changing call's kind on top of 100.
+ *   1 to 17, 21  a refusal; nothing lent has changed, except the next area after 17;
+ *   100          the call was answered;
+ *   100 to 103   a changing call's kind on top of 100.
  *
  * A flag is 0 or 1; what stands beside a flag of 0 is not looked at. An id has 32 bytes. A list of
  * ids is 32 bytes an id.
@@ -49,6 +49,7 @@ extern "C" {
 #define POKERBOX_COUNTER_EXHAUSTED 15
 #define POKERBOX_NOT_AN_IMAGE 16
 #define POKERBOX_WRITE_FAILED 17
+#define POKERBOX_FEES_TOO_LARGE 21
 
 /* Answers: of calls without a kind, and of changing calls by kind. */
 #define POKERBOX_ANSWERED 100
@@ -88,6 +89,10 @@ extern "C" {
 #define POKERBOX_MAX_BYTES 16777216
 #define POKERBOX_MAX_TOMBSTONES 1024
 #define POKERBOX_MAX_INPUTS 128
+
+/* pokerbox_best_fees: how many records are candidates, and the largest budget. */
+#define POKERBOX_MAX_CANDIDATES 20
+#define POKERBOX_MAX_BUDGET 2097151
 
 /* The bytes that an area needs under the limits P, B, T, K: 2B + 2P * (512 + 64K) + 512T + 512. */
 #define POKERBOX_AREA_LEN(p, b, t, k) \
@@ -173,6 +178,15 @@ uint64_t pokerbox_selection_entries(const uint8_t *area, size_t area_len, uint8_
  * `height`: priority falling, then created, then id rising. */
 uint64_t pokerbox_selection_entries_at(const uint8_t *area, size_t area_len, uint64_t now,
                                        uint32_t height, uint8_t *out, size_t out_len);
+
+/* Of the first POKERBOX_MAX_CANDIDATES records that pokerbox_selection_entries_at gives at `now` and
+ * `height`, the set with the most fee whose signed bytes are at most `limit` together, as good as
+ * `budget` steps allow, 1 to POKERBOX_MAX_BUDGET. `out` gets the set's fee, 8 bytes, the steps used,
+ * 4 bytes, the distance, 8 bytes, a count of 4 bytes and the set's ids in the order of the
+ * selection; 664 bytes are enough. No set of these records that fits has more than the fee plus the
+ * distance. */
+uint64_t pokerbox_best_fees(const uint8_t *area, size_t area_len, uint64_t limit, uint64_t budget,
+                            uint64_t now, uint32_t height, uint8_t *out, size_t out_len);
 
 /* The revision behind `value`. */
 uint64_t pokerbox_revision(const uint8_t *area, size_t area_len, uint64_t *value);

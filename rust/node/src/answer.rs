@@ -49,6 +49,28 @@ pub struct Reconciled {
     pub released: Vec<TxId>,
 }
 
+/// A set of records for a block.
+#[derive(Debug, Clone, PartialEq, Eq)]
+pub struct BestFees {
+    /// The set, in the order of the selection. No two of its records spend the same input.
+    pub ids: Vec<TxId>,
+    /// The sum of its fees.
+    pub fee: u64,
+    /// The steps that were used, at most the budget.
+    pub nodes: u32,
+    /// No set of the candidates that fits has more than `fee` plus this. 0 when the budget was
+    /// enough to try all sets; above 0, a larger budget may find more fee, or only prove that there
+    /// is none.
+    pub distance: u64,
+}
+
+impl BestFees {
+    /// So many records, the first of the selection, are candidates.
+    pub const MAX_CANDIDATES: u32 = 20;
+    /// The largest budget: enough to try all sets of the candidates.
+    pub const MAX_BUDGET: u64 = 2_097_151;
+}
+
 /// A record that expiry would finish.
 #[derive(Debug, Clone, Copy, PartialEq, Eq)]
 pub struct Due {
@@ -165,6 +187,16 @@ impl<'a> Reader<'a> {
         Reconciled {
             changed: self.flag(),
             released: self.counted(Self::tx_id),
+        }
+    }
+
+    pub fn best_fees(&mut self) -> BestFees {
+        let (fee, nodes, distance) = (self.u64(), self.u32(), self.u64());
+        BestFees {
+            ids: self.counted(Self::tx_id),
+            fee,
+            nodes,
+            distance,
         }
     }
 

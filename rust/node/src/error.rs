@@ -1,9 +1,9 @@
-//! Document 01's refusals.
+//! The refusals of documents 01 and 02.
 
 use std::fmt;
 
-/// A refusal: document 01's numbers 1 to 17. Nothing lent has changed, except the next area after
-/// [`Error::WriteFailed`].
+/// A refusal: the numbers 1 to 17 of document 01, and 21 of document 02. Nothing lent has changed,
+/// except the next area after [`Error::WriteFailed`].
 #[derive(Debug, Clone, Copy, PartialEq, Eq, PartialOrd, Ord, Hash)]
 pub enum Error {
     /// A limit is out of range.
@@ -40,11 +40,13 @@ pub enum Error {
     NotAnImage = 16,
     /// The write failed.
     WriteFailed = 17,
+    /// The candidates' fees have no sum of 64 bits.
+    FeesTooLarge = 21,
 }
 
 impl Error {
     /// All refusals, in the order of their numbers.
-    pub const ALL: [Error; 17] = [
+    pub const ALL: [Error; 18] = [
         Error::LimitOutOfRange,
         Error::AreaTooShort,
         Error::AreaNotSound,
@@ -62,9 +64,10 @@ impl Error {
         Error::CounterExhausted,
         Error::NotAnImage,
         Error::WriteFailed,
+        Error::FeesTooLarge,
     ];
 
-    /// The number in document 01's table.
+    /// The number in the table of docs/CALLS.md.
     pub fn number(self) -> u64 {
         self as u64
     }
@@ -93,8 +96,8 @@ impl Error {
             }
             Error::Malformed => {
                 "an argument is malformed: an id has 32 bytes, a list is whole, the ids of \
-                 applied, available and reopening lists rise strictly, and a flag, kind or outcome \
-                 is a listed one; correct it and call again"
+                 applied, available and reopening lists rise strictly, a flag, kind or outcome is a \
+                 listed one, and a budget is from 1 to 2,097,151; correct it and call again"
             }
             Error::TooManyInputs => {
                 "the transaction has more inputs or outputs than the limit K: queue a smaller one"
@@ -134,6 +137,11 @@ impl Error {
             Error::WriteFailed => {
                 "the image was not written, and the call took no effect beyond the cursor: free or \
                  replace the disk and make the call again"
+            }
+            Error::FeesTooLarge => {
+                "the fees of the first 20 selected records sum to more than \
+                 18,446,744,073,709,551,615: look for a fee that cannot be true among their \
+                 entries, and cancel that record"
             }
         }
     }

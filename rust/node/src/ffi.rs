@@ -200,6 +200,16 @@ mod c {
             out: *mut u8,
             out_len: usize,
         ) -> u64;
+        pub fn pokerbox_best_fees(
+            area: *const u8,
+            area_len: usize,
+            limit: u64,
+            budget: u64,
+            now: u64,
+            height: u32,
+            out: *mut u8,
+            out_len: usize,
+        ) -> u64;
         pub fn pokerbox_due(
             area: *const u8,
             area_len: usize,
@@ -429,6 +439,29 @@ pub fn selection_entries_at(area: &[u8], now: u64, height: u32, out: &mut [u8]) 
         c::pokerbox_selection_entries_at(
             area.as_ptr(),
             area.len(),
+            now,
+            height,
+            out.as_mut_ptr(),
+            out.len(),
+        )
+    }
+}
+
+#[cfg(exported = "best_fees")]
+pub fn best_fees(
+    area: &[u8],
+    limit: u64,
+    budget: u64,
+    now: u64,
+    height: u32,
+    out: &mut [u8],
+) -> u64 {
+    unsafe {
+        c::pokerbox_best_fees(
+            area.as_ptr(),
+            area.len(),
+            limit,
+            budget,
             now,
             height,
             out.as_mut_ptr(),

@@ -3,7 +3,7 @@
 use std::collections::{BTreeMap, BTreeSet};
 use std::fmt;
 
-use crate::answer::{Entry, Reader};
+use crate::answer::{BestFees, Entry, Reader};
 use crate::error::Error;
 use crate::raw;
 use crate::types::{BlockId, Height, InputId, Kind, Limits, OutputId, TimeMs, TxId};
@@ -428,6 +428,53 @@ impl Queue {
             Self::ids_len(self.max_holders()),
             |area, out| raw::selection_entries_at(area, now.0, height.0, out),
             |answer| answer.counted(Reader::tx_id),
+        )
+    }
+
+    /// What to put into a block: of the first 20 records that [`Queue::selection_entries_at`] gives
+    /// at this moment, the set with the most fee whose signed bytes are at most `limit` together. A
+    /// child may be in it without its parent.
+    ///
+    /// The search tries sets until `budget` steps are used up, 1 to [`BestFees::MAX_BUDGET`], and
+    /// gives the best set that it met; the answer says how much better another could be.
+    /// [`Error::Malformed`] is for a budget out of range, [`Error::FeesTooLarge`] for candidates
+    /// whose fees have no sum of 64 bits.
+    ///
+    /// ```
+    /// use pokerbox::{Admission, BestFees, Height, InputId, Limits, Outcome, Queue, TimeMs, TxId};
+    ///
+    /// let mut queue = Queue::fresh(Limits::new(16, 65_536, 16, 8)?)?;
+    /// // Fees 5, 4, 3 for 6, 5, 5 bytes.
+    /// for (n, fee, bytes) in [(1, 5, 6), (2, 4, 5), (3, 3, 5)] {
+    ///     let (id, inputs) = (TxId([n; 32]), vec![InputId([n; 32])]);
+    ///     let signed = vec![n; bytes];
+    ///     let given = Admission {
+    ///         fee,
+    ///         ..Admission::new(id, inputs, vec![], signed, TimeMs(1_000), Height(100))
+    ///     };
+    ///     queue.admit(&given)?.settle(Outcome::Kept)?;
+    /// }
+    /// // Two steps find the first record, and that 2 more may be possible.
+    /// let best = queue.best_fees(10, 2, TimeMs(1_000), Height(100))?;
+    /// assert_eq!((best.ids, best.fee, best.distance), (vec![TxId([1; 32])], 5, 2));
+    /// // Enough steps find the second and the third.
+    /// let best = queue.best_fees(10, BestFees::MAX_BUDGET, TimeMs(1_000), Height(100))?;
+    /// assert_eq!(best.ids, [TxId([2; 32]), TxId([3; 32])]);
+    /// assert_eq!((best.fee, best.nodes, best.distance), (7, 11, 0));
+    /// # Ok::<(), pokerbox::Error>(())
+    /// ```
+    #[cfg(exported = "best_fees")]
+    pub fn best_fees(
+        &self,
+        limit: u64,
+        budget: u64,
+        now: TimeMs,
+        height: Height,
+    ) -> Result<BestFees, Error> {
+        self.read(
+            20 + Self::ids_len(BestFees::MAX_CANDIDATES as usize),
+            |area, out| raw::best_fees(area, limit, budget, now.0, height.0, out),
+            |answer| answer.best_fees(),
         )
     }
 

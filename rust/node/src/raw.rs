@@ -222,6 +222,21 @@ pub fn selection_entries_at(
     answered(ffi::selection_entries_at(area, now, height, out))
 }
 
+/// Of the first 20 records that [`selection_entries_at`] gives, a set with the most fee whose signed
+/// bytes are at most `limit`, as good as `budget` steps allow. `out` gets its fee, 8 bytes, the steps
+/// used, 4, the distance, 8, a count and the ids: at most 664 bytes.
+#[cfg(exported = "best_fees")]
+pub fn best_fees(
+    area: &[u8],
+    limit: u64,
+    budget: u64,
+    now: u64,
+    height: u32,
+    out: &mut [u8],
+) -> Result<(), Error> {
+    answered(ffi::best_fees(area, limit, budget, now, height, out))
+}
+
 /// A count, then id and state of each record that expiry would finish, by id.
 #[cfg(exported = "due")]
 pub fn due(area: &[u8], now: u64, height: u32, out: &mut [u8]) -> Result<(), Error> {

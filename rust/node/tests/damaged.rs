@@ -125,13 +125,16 @@ fn args(rng: &mut Rng, queue: &Queue) -> Args {
         .collect();
     ids.sort();
     ids.dedup();
+    let (now, height) = (random::time(rng), random::height(rng));
     Args {
         id: lent_id(rng, queue),
         ids: ids.concat(),
-        now: random::time(rng).0,
-        height: random::height(rng).0,
+        now: now.0,
+        height: height.0,
         kind: rng.pick(&[2, 3, 0, u64::MAX]),
         outcome: rng.pick(&[0, 1, 2]),
+        limit: random::fees_limit(rng, queue, now, height),
+        budget: random::fees_budget(rng),
     }
 }
 

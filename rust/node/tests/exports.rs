@@ -488,6 +488,187 @@ moment_readings! {
     "due" due;
 }
 
+/// What best fees is given beside the area and the output.
+#[derive(Debug, Clone, Copy)]
+struct Fees {
+    limit: u64,
+    budget: u64,
+    now: u64,
+    height: u32,
+}
+
+#[cfg(exported = "best_fees")]
+impl Fees {
+    fn new(rng: &mut Rng, queue: &Queue) -> Self {
+        let (now, height) = (random::time(rng), random::height(rng));
+        Fees {
+            limit: random::fees_limit(rng, queue, now, height),
+            budget: random::fees_budget(rng),
+            now: now.0,
+            height: height.0,
+        }
+    }
+
+    fn library(&self, lent: &[u8], out: &mut [u8]) -> Result<(), pokerbox::Error> {
+        raw::best_fees(lent, self.limit, self.budget, self.now, self.height, out)
+    }
+
+    fn model(&self, lent: &[u8], out: &mut [u8]) -> u64 {
+        calls::best_fees(lent, self.limit, self.budget, self.now, self.height, out)
+    }
+
+    /// The number and the answer by the model.
+    fn answer(&self, lent: &[u8]) -> (u64, Vec<u8>) {
+        let mut out = vec![0; 24 + 32 * 20];
+        let number = self.model(lent, &mut out);
+        let count = u32::from_be_bytes(out[20..24].try_into().expect("4 bytes"));
+        out.truncate(24 + 32 * count as usize);
+        (number, out)
+    }
+
+    fn same(&self, met: &mut Met, lent: &[u8], out: &[u8]) {
+        let before = lent.to_vec();
+        same(
+            met,
+            &[],
+            out,
+            |_, out| self.library(lent, out),
+            |_, out| self.model(lent, out),
+        );
+        assert!(*lent == before, "the area");
+    }
+}
+
+#[test]
+#[cfg(exported = "best_fees")]
+fn best_fees() {
+    let mut met = Met::default();
+    many(2 * CASES, |rng| {
+        let (queue, lent) = lent_queue(rng);
+        let fees = Fees::new(rng, &queue);
+        let out = output(rng, fees.answer(&lent).1.len());
+        fees.same(&mut met, &lent, &out);
+    });
+    met.expect(&[3, 4, 5, 21, 100]);
+}
+
+/// Few and many candidates, records of one priority, fees around the top, every sort of budget.
+#[test]
+#[cfg(exported = "best_fees")]
+fn best_fees_of_many() {
+    for count in [0, 1, 2, 3, 6, 12, 19, 20, 21, 22, 40] {
+        let (mut met, mut whole) = (Met::default(), 0);
+        many(300, |rng| {
+            let queue = random::fees_queue(rng, count);
+            let lent = area::encode(&queue);
+            let fees = Fees::new(rng, &queue);
+            let (number, answer) = fees.answer(&lent);
+            whole += u64::from(number == 100 && fees.budget == model::fees::MAX_BUDGET);
+            let out = output(rng, answer.len());
+            fees.same(&mut met, &lent, &out);
+        });
+        // One record's fee alone is never too large.
+        match count {
+            0 | 1 => met.expect(&[4, 5, 100]),
+            _ => met.expect(&[4, 5, 21, 100]),
+        }
+        assert!(whole > 0, "{count}: the top budget was not met");
+    }
+}
+
+/// Each end of the ranges: budgets around the whole tree, limits around the sums, outputs around
+/// the answer.
+#[test]
+#[cfg(exported = "best_fees")]
+fn best_fees_at_the_edges() {
+    const TOP: u64 = model::fees::MAX_BUDGET;
+    let mut met = Met::default();
+    for count in [0, 1, 4, 7] {
+        many(6, |rng| {
+            let queue = random::fees_queue(rng, count);
+            let lent = area::encode(&queue);
+            let sizes = queue.pending().map(|record| record.byte_count() as u64);
+            let all: u64 = sizes.sum();
+            for limit in [0, 1, all / 2, all.max(1) - 1, all, all + 1, u64::MAX] {
+                let whole = Fees {
+                    limit,
+                    budget: TOP,
+                    now: 0,
+                    height: 0,
+                };
+                let nodes = whole.answer(&lent).1[8..12].try_into().expect("4 bytes");
+                let nodes = u64::from(u32::from_be_bytes(nodes));
+                for budget in [
+                    0,
+                    1,
+                    2,
+                    3,
+                    nodes,
+                    nodes + 1,
+                    TOP - 1,
+                    TOP,
+                    TOP + 1,
+                    u64::MAX,
+                ]
+                .into_iter()
+                .chain(nodes.checked_sub(1))
+                {
+                    let fees = Fees { budget, ..whole };
+                    let length = fees.answer(&lent).1.len();
+                    for length in [0, length - 1, length, length + 1] {
+                        fees.same(&mut met, &lent, &vec![0xee; length]);
+                    }
+                }
+            }
+        });
+    }
+    met.expect(&[4, 5, 21, 100]);
+}
+
+/// Sums of 64 bits and of more, and which records they go by.
+#[test]
+#[cfg(exported = "best_fees")]
+fn best_fees_at_the_top_sum() {
+    const TOP: u64 = u64::MAX;
+    let cases: [(&[(usize, u64)], u64); 8] = [
+        (&[], 100),
+        (&[(0, TOP)], 100),
+        (&[(0, TOP), (1, 1)], 21),
+        (&[(18, TOP - 1), (19, 1)], 100),
+        (&[(18, TOP), (19, 1)], 21),
+        // The 21st and later are no candidates.
+        (&[(19, TOP), (20, 1)], 100),
+        (&[(20, TOP), (21, TOP)], 100),
+        // Of 64 bits only zeros are left.
+        (&[(3, 1 << 63), (9, 1 << 63)], 21),
+    ];
+    for (given, expected) in cases {
+        let mut met = Met::default();
+        many(8, |rng| {
+            let mut queue = random::fees_queue(rng, 24);
+            let selected = model::rules::selection_at(&queue, model::TimeMs(9), model::Height(9));
+            let order: Vec<_> = selected.iter().map(|record| record.id).collect();
+            for record in &mut queue.records {
+                let at = order.iter().position(|id| *id == record.id);
+                let fee = given.iter().find(|(place, _)| Some(*place) == at);
+                record.fee = fee.map_or(0, |(_, fee)| *fee);
+            }
+            let lent = area::encode(&queue);
+            // None fits, or all; with 21 that plays no part.
+            for limit in [0, u64::MAX] {
+                let fees = Fees {
+                    limit,
+                    budget: 1 + rng.below(60) as u64,
+                    now: 9,
+                    height: 9,
+                };
+                fees.same(&mut met, &lent, &[0xee; 664]);
+            }
+        });
+        met.expect(&[expected]);
+    }
+}
+
 #[test]
 #[cfg(exported = "deadline_due")]
 fn deadline_due() {

@@ -2,7 +2,7 @@
 
 use std::collections::{BTreeMap, BTreeSet};
 
-use pokerbox::{Error, Kind, Limits, Outcome, Reason, State};
+use pokerbox::{BestFees, Error, Kind, Limits, Outcome, Reason, State};
 
 /// By function, the types of its parameters in Rust's words.
 type Declarations = BTreeMap<String, Vec<String>>;
@@ -65,7 +65,7 @@ fn the_header_declares_what_rust_declares() {
     let header = text("include/pokerbox.h");
     let declarations = c_declarations(&header);
     assert_eq!(declarations, rust_declarations());
-    assert_eq!(declarations.len(), 28);
+    assert_eq!(declarations.len(), 29);
 }
 
 #[test]
@@ -95,6 +95,14 @@ fn constants(header: &str) -> BTreeMap<String, u64> {
         .collect()
 }
 
+/// What the header says of refusals is what there is: a list, never a range.
+#[test]
+fn the_header_names_the_refusals() {
+    let numbers: Vec<u64> = (1..=17).chain([21]).collect();
+    assert_eq!(Error::ALL.map(Error::number), *numbers);
+    assert!(text("include/pokerbox.h").contains("\n *   1 to 17, 21  a refusal;"));
+}
+
 /// A variant's name as a constant's: `QueueFull` is `QUEUE_FULL`.
 fn constant(prefix: &str, variant: impl std::fmt::Debug) -> String {
     let mut name = String::from(prefix);
@@ -116,6 +124,11 @@ fn the_header_defines_the_numbers_of_rust() {
         ("MAX_BYTES".to_string(), Limits::MAX_BYTES.into()),
         ("MAX_TOMBSTONES".to_string(), Limits::MAX_TOMBSTONES.into()),
         ("MAX_INPUTS".to_string(), Limits::MAX_INPUTS.into()),
+        (
+            "MAX_CANDIDATES".to_string(),
+            BestFees::MAX_CANDIDATES.into(),
+        ),
+        ("MAX_BUDGET".to_string(), BestFees::MAX_BUDGET),
     ]);
     expected.extend(Error::ALL.map(|error| (constant("", error), error.number())));
     expected.extend(KINDS.map(|kind| (constant("KIND", kind), kind as u64)));

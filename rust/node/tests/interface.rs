@@ -2,8 +2,8 @@
 
 use pokerbox::store::StoreError;
 use pokerbox::{
-    Admission, Error, Height, InputId, Kind, Limits, Outcome, OutputId, ParseIdError, Queue,
-    Reason, State, TimeMs, TxId,
+    Admission, BestFees, Error, Height, InputId, Kind, Limits, Outcome, OutputId, ParseIdError,
+    Queue, Reason, State, TimeMs, TxId,
 };
 
 fn limits() -> Limits {
@@ -21,15 +21,18 @@ fn limits_have_ranges() {
 
 #[test]
 fn every_refusal_says_what_to_do() {
-    for (at, error) in Error::ALL.into_iter().enumerate() {
-        assert_eq!(error.number(), at as u64 + 1);
-        assert_eq!(Error::from_number(error.number()), Some(error));
+    let numbers: Vec<u64> = (1..=17).chain([21]).collect();
+    assert_eq!(Error::ALL.len(), numbers.len());
+    for (number, error) in numbers.iter().zip(Error::ALL) {
+        assert_eq!(error.number(), *number);
         let text = error.to_string();
-        assert!(text.starts_with(&format!("refusal {}: ", at + 1)), "{text}");
+        assert!(text.starts_with(&format!("refusal {number}: ")), "{text}");
         assert!(text.matches(':').count() >= 2, "what to do: {text}");
     }
-    assert_eq!(Error::from_number(0), None);
-    assert_eq!(Error::from_number(18), None);
+    for number in 0..200 {
+        let error = Error::from_number(number).map(Error::number);
+        assert_eq!(error, numbers.contains(&number).then_some(number));
+    }
 }
 
 #[test]
@@ -117,6 +120,58 @@ fn a_fresh_queue_refuses_what_is_absent() {
     assert_eq!(queue.entry(id), Err(Error::NotFound));
     assert_eq!(queue.signed_bytes(id), Err(Error::NotFound));
     assert_eq!(queue.selection_entries(), Ok(vec![]));
+}
+
+/// A queue of three with fees 5, 4, 3 and 6, 5, 5 signed bytes.
+fn three() -> Queue {
+    let mut queue = Queue::fresh(Limits::new(3, 16, 1, 1).unwrap()).unwrap();
+    for (n, fee, bytes) in [(1, 5, 6), (2, 4, 5), (3, 3, 5)] {
+        let (id, inputs) = (TxId([n; 32]), vec![InputId([n; 32])]);
+        let given = Admission {
+            fee,
+            time_deadline: (n == 3).then_some(TimeMs(9)),
+            ..Admission::new(id, inputs, vec![], vec![n; bytes], TimeMs(5), Height(6))
+        };
+        let change = queue.admit(&given).unwrap();
+        change.settle(Outcome::Kept).unwrap();
+    }
+    queue
+}
+
+#[test]
+fn best_fees_for_a_block() {
+    let queue = three();
+    let best = |limit, budget, now| {
+        let best = queue.best_fees(limit, budget, TimeMs(now), Height(6))?;
+        let ids: Vec<u8> = best.ids.iter().map(|id| id.0[0]).collect();
+        Ok((ids, best.fee, best.nodes, best.distance))
+    };
+    assert_eq!(best(10, 1, 5), Ok((vec![], 0, 1, 7)));
+    assert_eq!(best(10, 2, 5), Ok((vec![1], 5, 2, 2)));
+    assert_eq!(best(10, 100, 5), Ok((vec![2, 3], 7, 11, 0)));
+    assert_eq!(best(u64::MAX, 100, 5), Ok((vec![1, 2, 3], 12, 15, 0)));
+    assert_eq!(best(0, BestFees::MAX_BUDGET, 5), Ok((vec![], 0, 4, 0)));
+    // The third one is due.
+    assert_eq!(best(10, 100, 9), Ok((vec![1], 5, 6, 0)));
+    for budget in [0, BestFees::MAX_BUDGET + 1, u64::MAX] {
+        assert_eq!(best(10, budget, 5), Err(Error::Malformed));
+    }
+}
+
+#[test]
+fn fees_without_a_sum_are_refused() {
+    let mut queue = three();
+    let change = queue.cancel(TxId([1; 32])).unwrap();
+    change.settle(Outcome::Kept).unwrap();
+    let (inputs, now, height) = (vec![InputId([1; 32])], TimeMs(5), Height(6));
+    let given = Admission {
+        fee: u64::MAX,
+        ..Admission::new(TxId([1; 32]), inputs, vec![], vec![], now, height)
+    };
+    let change = queue.admit(&given).unwrap();
+    change.settle(Outcome::Kept).unwrap();
+    let refused = queue.best_fees(0, 1, now, height);
+    assert_eq!(refused, Err(Error::FeesTooLarge));
 }
 
 #[test]

@@ -35,6 +35,7 @@ fn the_readme_has_the_example() {
 fn the_example_runs() {
     let said = said(&run("node", &[]));
     assert!(said.contains(": 12 signed bytes"), "{said}");
+    assert!(said.contains("fee 1000000, at most 0 more"), "{said}");
     assert!(said.contains("not cancelled: "), "{said}");
     assert!(said.contains("changed: true"), "{said}");
 }

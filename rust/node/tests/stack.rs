@@ -38,7 +38,11 @@ struct Lent {
 }
 
 impl Lent {
-    fn new(rng: &mut Rng, queue: Queue) -> Self {
+    fn new(rng: &mut Rng, mut queue: Queue) -> Self {
+        // Best fees has to search, and not to refuse their sum.
+        for record in &mut queue.records {
+            record.fee = record.fee.min(1_000_000);
+        }
         let pending = queue
             .records
             .iter()
@@ -55,6 +59,9 @@ impl Lent {
                 height: rng.pick(&[0, u32::MAX]),
                 kind: rng.pick(&[2, 3]),
                 outcome: rng.pick(&[0, 1]),
+                // The whole tree of all candidates.
+                limit: u64::MAX,
+                budget: 2_097_151,
             },
             next: vec![0; queue.limits.need()],
             // No answer is longer than the image.
@@ -107,7 +114,10 @@ fn in_stack(bytes: usize, mut lent: Lent) {
     let expected = lent.numbers(false);
     let thread = std::thread::Builder::new().stack_size(bytes);
     let given = thread.spawn(move || lent.numbers(true)).expect("a thread");
-    assert_eq!(given.join().expect("no panic"), expected);
+    let given = given.join().expect("no panic");
+    assert_eq!(given, expected);
+    #[cfg(exported = "best_fees")]
+    assert!(given.contains(&("best_fees", 100)), "{given:?}");
 }
 
 #[test]

@@ -40,7 +40,6 @@ fn main() {
     let inspect = Path::new(&root).join("src/inspect.rs");
     println!("cargo:rerun-if-changed={}", source.display());
     println!("cargo:rerun-if-changed=build.rs");
-    println!("cargo:rerun-if-env-changed=ORACLE_MUTANT");
     let mut text = fs::read_to_string(&source).unwrap();
     for (old, new) in REPLACED {
         let lines = text.lines().filter(|line| *line == old).count();
@@ -51,14 +50,6 @@ fn main() {
             .collect::<Vec<_>>()
             .join("\n")
             + "\n";
-    }
-    // Only to see whether the fuzzer notices: "old=>new", once in the text.
-    if let Ok(mutant) = env::var("ORACLE_MUTANT") {
-        if !mutant.is_empty() {
-            let (old, new) = mutant.split_once("=>>").expect("ORACLE_MUTANT: old=>>new");
-            assert!(text.contains(old), "mutant's text isn't there: {old}");
-            text = text.replacen(old, new, 1);
-        }
     }
     text.push_str(&format!(
         "\n#[path = {:?}]\npub mod inspect;\n",

@@ -1,7 +1,10 @@
-//! Builds the comparison with each wrong edit of the oracle's text in `mutants.txt` and looks
-//! whether it is noticed. An edit in a call that the library does not export yet is compared with
-//! the model.
+//! Builds the comparison with each wrong edit in `mutants.txt`, of the oracle's text or the model's,
+//! and looks whether the library is then found to differ. The edits are made in a copy of the
+//! sources. Of an edit of the model, its own tests are run as well.
 
+use std::collections::BTreeSet;
+use std::fs;
+use std::io;
 use std::path::{Path, PathBuf};
 use std::process::{Command, ExitCode, Stdio};
 use std::time::Instant;
@@ -11,20 +14,23 @@ usage: mutants [--seconds N] [--seed N] [--only N] [--jobs N] [--dir DIR]
 
   --seconds  how long a comparison may take to notice (10)
   --seed     the first list's seed (1)
-  --only     only the edit with this number
+  --only     only the edit with this number, or those from N-M
   --jobs     for cargo (1)
   --dir      as for compare";
 
 struct Settings {
     seconds: String,
     seed: String,
-    only: Option<usize>,
+    /// From and to.
+    only: Option<(usize, usize)>,
     jobs: String,
     folder: Option<String>,
 }
 
 /// One wrong edit.
 struct Edit {
+    /// Below the folder of the sources.
+    file: String,
     what: String,
     call: String,
     /// No answer can differ.
@@ -66,7 +72,7 @@ fn settings(mut arguments: impl Iterator<Item = String>) -> Result<Settings, Str
         match name.as_str() {
             "--seconds" => settings.seconds = value,
             "--seed" => settings.seed = value,
-            "--only" => settings.only = Some(value.parse().map_err(|_| "no number".to_string())?),
+            "--only" => settings.only = Some(range(&value).ok_or("no number")?),
             "--jobs" => settings.jobs = value,
             "--dir" => settings.folder = Some(value),
             _ => return Err(format!("{name} is no option")),
@@ -75,15 +81,19 @@ fn settings(mut arguments: impl Iterator<Item = String>) -> Result<Settings, Str
     Ok(settings)
 }
 
+fn range(text: &str) -> Option<(usize, usize)> {
+    let (from, to) = text.split_once('-').unwrap_or((text, text));
+    Some((from.parse().ok()?, to.parse().ok()?))
+}
+
 /// Whether all edits were noticed, but for those that cannot show.
 fn run(settings: &Settings) -> Result<bool, String> {
     let package = Path::new(env!("CARGO_MANIFEST_DIR"));
-    let text = package.join("../oracle/reference/private_queue.rs.txt");
-    let text = std::fs::read_to_string(text).map_err(|error| error.to_string())?;
-    let edits = std::fs::read_to_string(package.join("mutants.txt"));
+    let edits = fs::read_to_string(package.join("mutants.txt"));
     let edits = read(&edits.map_err(|error| error.to_string())?)?;
+    let copy = Copy::new(package).map_err(|error| error.to_string())?;
     for edit in &edits {
-        let count = text.matches(&edit.old).count();
+        let count = copy.text(&edit.file)?.matches(&edit.old).count();
         if count != 1 {
             return Err(format!(
                 "{}: the old text is there {count} times",
@@ -91,24 +101,22 @@ fn run(settings: &Settings) -> Result<bool, String> {
             ));
         }
     }
-    let missing = pokerbox::not_exported_yet();
     println!("| no. | edit | call | side | noticed after | seconds | by |");
     println!("|---|---|---|---|---|---|---|");
     let (mut noticed, mut right, mut tried) = (0, 0, 0);
-    for (at, edit) in edits.iter().enumerate() {
-        if settings.only.is_some_and(|only| only != at + 1) {
+    for (number, edit) in (1..).zip(&edits) {
+        if (settings.only).is_some_and(|(from, to)| !(from..=to).contains(&number)) {
             continue;
         }
-        let side = if missing.contains(&edit.call.as_str()) {
-            "model"
-        } else {
-            "library"
-        };
-        let seen = match build(settings, package, edit)? {
-            Ok(program) => compare(settings, &program, side)?,
+        tried += 1;
+        let text = copy.text(&edit.file)?;
+        copy.put(&edit.file, &text.replace(&edit.old, &edit.new))?;
+        let seen = seen(settings, &copy, edit);
+        copy.put(&edit.file, &text)?;
+        let (seen, tests) = match seen? {
+            Ok(seen) => seen,
             Err(error) => {
                 eprintln!("{}: does not build\n{error}", edit.what);
-                tried += 1;
                 continue;
             }
         };
@@ -130,10 +138,13 @@ fn run(settings: &Settings) -> Result<bool, String> {
                 )
             }
         };
-        let (number, what, call) = (at + 1, &edit.what, &edit.call);
-        println!("| {number} | {what} | {call} | {side} | {after} | {seconds} | {by} |");
+        let by = match tests {
+            None | Some(0) => by,
+            Some(count) => format!("{by}; {count} of the model's tests"),
+        };
+        let (what, call) = (&edit.what, &edit.call);
+        println!("| {number} | {what} | {call} | library | {after} | {seconds} | {by} |");
         let is_noticed = !matches!(seen, Seen::Nothing(_));
-        tried += 1;
         noticed += usize::from(is_noticed);
         right += usize::from(is_noticed != edit.same);
     }
@@ -141,10 +152,120 @@ fn run(settings: &Settings) -> Result<bool, String> {
     Ok(right == tried)
 }
 
+/// What the comparison said, and for an edit of the model how many of its tests failed; or what the
+/// compiler said.
+type Built = Result<(Seen, Option<usize>), String>;
+
+fn seen(settings: &Settings, copy: &Copy, edit: &Edit) -> Result<Built, String> {
+    let said = copy.cargo(
+        settings,
+        &["build", "--package", "compare", "--bin", "compare"],
+    )?;
+    if let Err(error) = said {
+        return Ok(Err(error));
+    }
+    let seen = compare(settings, &copy.target.join("debug/compare"))?;
+    if !edit.file.starts_with("model/") {
+        return Ok(Ok((seen, None)));
+    }
+    let said = copy.cargo(settings, &["test", "--package", "model", "--test", "fees"])?;
+    let said = said.unwrap_or_else(|said| said);
+    let failed = between(&said, " passed; ", " failed;").and_then(|count| count.parse().ok());
+    Ok(Ok((seen, failed)))
+}
+
+/// A copy of the sources, to be edited, with a target folder of its own.
+struct Copy {
+    root: PathBuf,
+    target: PathBuf,
+    library: PathBuf,
+}
+
+impl Copy {
+    fn new(package: &Path) -> io::Result<Copy> {
+        let sources = package.join("..").canonicalize()?;
+        let target = std::env::current_exe()?.with_file_name("mutants-target");
+        let library = match std::env::var_os("POKERBOX_LIB_DIR") {
+            Some(folder) => std::path::absolute(folder)?,
+            None => sources.join("../target/staticlib"),
+        };
+        let copy = Copy {
+            root: target.join("sources"),
+            target,
+            library,
+        };
+        let (wanted, there) = (files(&sources)?, files(&copy.root)?);
+        for file in there.difference(&wanted) {
+            fs::remove_file(copy.root.join(file))?;
+        }
+        for file in &wanted {
+            let (from, to) = (sources.join(file), copy.root.join(file));
+            let bytes = fs::read(&from)?;
+            // What is the same stays, so that cargo need not build it again.
+            if fs::read(&to).ok().as_ref() != Some(&bytes) {
+                fs::create_dir_all(to.parent().expect("a folder"))?;
+                fs::write(&to, bytes)?;
+            }
+        }
+        Ok(copy)
+    }
+
+    fn text(&self, file: &str) -> Result<String, String> {
+        fs::read_to_string(self.root.join(file)).map_err(|error| format!("{file}: {error}"))
+    }
+
+    fn put(&self, file: &str, text: &str) -> Result<(), String> {
+        fs::write(self.root.join(file), text).map_err(|error| format!("{file}: {error}"))
+    }
+
+    /// What cargo said; as an error, if it failed.
+    fn cargo(&self, settings: &Settings, what: &[&str]) -> Result<Result<String, String>, String> {
+        let cargo = std::env::var_os("CARGO").unwrap_or("cargo".into());
+        let done = Command::new(cargo)
+            .args(what)
+            .args(["--quiet", "--jobs", &settings.jobs])
+            .current_dir(&self.root)
+            .env("CARGO_TARGET_DIR", &self.target)
+            .env("POKERBOX_LIB_DIR", &self.library)
+            .env("RUSTFLAGS", "--cap-lints=allow")
+            .output()
+            .map_err(|error| error.to_string())?;
+        let said = [done.stdout, done.stderr].concat();
+        let said = String::from_utf8_lossy(&said).into_owned();
+        Ok(match done.status.success() {
+            true => Ok(said),
+            false => Err(said),
+        })
+    }
+}
+
+/// The files below a folder, those of cargo's target folders apart. None if it is not there.
+fn files(root: &Path) -> io::Result<BTreeSet<PathBuf>> {
+    let (mut files, mut folders) = (BTreeSet::new(), vec![root.to_path_buf()]);
+    while let Some(folder) = folders.pop() {
+        if folder == root && !root.exists() {
+            break;
+        }
+        for entry in fs::read_dir(folder)? {
+            let path = entry?.path();
+            if !path.is_dir() {
+                let below = path.strip_prefix(root).expect("below the folder");
+                files.insert(below.to_path_buf());
+            } else if path.file_name() != Some("target".as_ref()) {
+                folders.push(path);
+            }
+        }
+    }
+    Ok(files)
+}
+
 fn read(text: &str) -> Result<Vec<Edit>, String> {
-    let mut edits = Vec::new();
+    let (mut edits, mut file) = (Vec::new(), String::new());
     let mut lines = text.lines();
     while let Some(line) = lines.next() {
+        if let Some(name) = line.strip_prefix("@ ") {
+            file = name.into();
+        }
         let Some(head) = line.strip_prefix("## ") else {
             continue;
         };
@@ -160,6 +281,7 @@ fn read(text: &str) -> Result<Vec<Edit>, String> {
         let old: Vec<&str> = lines.by_ref().take_while(|line| *line != "===").collect();
         let new: Vec<&str> = lines.by_ref().take_while(|line| *line != ">>>").collect();
         edits.push(Edit {
+            file: file.clone(),
             what: what.into(),
             call: call.into(),
             same,
@@ -170,41 +292,10 @@ fn read(text: &str) -> Result<Vec<Edit>, String> {
     Ok(edits)
 }
 
-/// The comparison with the edit, in a target folder of its own; or what the compiler said.
-fn build(
-    settings: &Settings,
-    package: &Path,
-    edit: &Edit,
-) -> Result<Result<PathBuf, String>, String> {
-    let program = std::env::current_exe().map_err(|error| error.to_string())?;
-    let target = program.with_file_name("mutants-target");
-    let cargo = std::env::var_os("CARGO").unwrap_or("cargo".into());
-    let done = Command::new(cargo)
-        .args([
-            "build",
-            "--quiet",
-            "--package",
-            "compare",
-            "--bin",
-            "compare",
-        ])
-        .args(["--jobs", &settings.jobs])
-        .current_dir(package)
-        .env("CARGO_TARGET_DIR", &target)
-        .env("ORACLE_MUTANT", format!("{}=>>{}", edit.old, edit.new))
-        .env("RUSTFLAGS", "--cap-lints=allow")
-        .output()
-        .map_err(|error| error.to_string())?;
-    if !done.status.success() {
-        return Ok(Err(String::from_utf8_lossy(&done.stderr).into_owned()));
-    }
-    Ok(Ok(target.join("debug/compare")))
-}
-
-fn compare(settings: &Settings, program: &Path, side: &str) -> Result<Seen, String> {
+fn compare(settings: &Settings, program: &Path) -> Result<Seen, String> {
     let mut command = Command::new(program);
     command.args(["--seconds", &settings.seconds, "--seed", &settings.seed]);
-    command.args(["--side", side]).stderr(Stdio::piped());
+    command.stderr(Stdio::piped());
     if let Some(folder) = &settings.folder {
         command.args(["--dir", folder]);
     }

@@ -1,4 +1,5 @@
-/* A queue in C: a transaction is admitted, stored, selected, opened again and cancelled. */
+/* A queue in C: a transaction is admitted, stored, selected for a block, opened again and
+ * cancelled. */
 
 #include <pokerbox.h>
 #include <stdint.h>
@@ -50,6 +51,18 @@ int main(void) {
     expect("select", pokerbox_selection_entries_at(next, sizeof next, 5, 6, out, sizeof out),
            POKERBOX_ANSWERED);
     expect("selected", out[3], 1);
+    expect("best fees",
+           pokerbox_best_fees(next, sizeof next, 3, POKERBOX_MAX_BUDGET, 5, 6, out, 56),
+           POKERBOX_ANSWERED);
+    expect("fee", (uint64_t)out[6] * 256 + out[7], 1000);
+    expect("steps", out[11], 3);
+    expect("distance", out[19], 0);
+    expect("taken", out[23], 1);
+    expect("taken id", (uint64_t)memcmp(out + 24, id, sizeof id), 0);
+    expect("budget 0", pokerbox_best_fees(next, sizeof next, 3, 0, 5, 6, out, 56),
+           POKERBOX_MALFORMED);
+    expect("short output", pokerbox_best_fees(next, sizeof next, 3, 9, 5, 6, out, 55),
+           POKERBOX_OUTPUT_TOO_SHORT);
 
     expect("open", pokerbox_open(image, length, cur, sizeof cur), POKERBOX_ANSWERED);
     expect("opened", (uint64_t)memcmp(cur, next, sizeof cur), 0);

@@ -16,6 +16,9 @@ pub struct Args {
     pub height: u32,
     pub kind: u64,
     pub outcome: u64,
+    /// Of best fees.
+    pub limit: u64,
+    pub budget: u64,
 }
 
 /// Reads the area, writes the next area and the output, and gives back a number. A call that
@@ -158,6 +161,9 @@ pub fn calls() -> Vec<Call> {
     ));
     call!(list, "selection_entries_at", false, |m, a, area, _, out| {
         m::selection_entries_at(area, a.now, a.height, out)
+    });
+    call!(list, "best_fees", false, |m, a, area, _, out| {
+        m::best_fees(area, a.limit, a.budget, a.now, a.height, out)
     });
     call!(list, "due", false, |m, a, area, _, out| m::due(
         area, a.now, a.height, out
