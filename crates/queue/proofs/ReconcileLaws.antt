@@ -61,7 +61,7 @@ use Rattle.queue.proofs.FrontLaws.{area-done}
 use Rattle.queue.proofs.WriteLaws.{fit, one-queue, same-queue, the-limits, queue-long, long-need}
 use Rattle.queue.proofs.ReadingLaws.{key}
 use Rattle.queue.proofs.SelectLaws.{rows-places, rows-take, sort-all, map-length, even-to, ids-size}
-use Rattle.queue.proofs.ReleaseLaws.{sort-mined, mined-stand, mined-placed, walk-ids, walk-columns}
+use Rattle.queue.proofs.ReleaseLaws.{sort-mined, mined-placed, walk-ids, walk-columns}
 use Rattle.queue.proofs.TouchLaws.{judged-any, judged-long, judged-within}
 use Rattle.queue.proofs.TrimLaws.{KeepsEach, Placed, releases-placed, trim-is}
 
@@ -445,9 +445,6 @@ module _ (cur next out : Bytes) {a : Area} (i : AreaIs cur a) (ok : a .ok ≡ tr
     module _ (n : r ≡ true) {j : Id} (z : j ≡ part 32 (view false tip 0) 0) where
       tip-key : j ≡ tip
       tip-key = key (A .good n .long) z
-
-      pub tip-room : length tip ≡ 32
-      tip-room = A .good n .long
 
       asked-is : asked height j t (length t / 68) (eqb flag 1) ids (length ids / 32) window ≡ reconciliation Given
       asked-is = three tip-key (A .good n .applied) (A .good n .available)

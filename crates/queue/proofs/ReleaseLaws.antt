@@ -283,11 +283,6 @@ sort-mined s b (v ∷ z) (x ∷ l) h p =
     (sort-all ahead? (λ (y : Row). y .1 .0 < v .1 .0) z (low-times s (v .1 .0) (v .1 .0) z l (omega arith) (h .2)))
     (sort-all newer? (λ y. below? (x .id) (y .id) ≡ true) l (p .0))
 
-pub mined-stand : (s : Bytes) (z : List Row) (l : List Rec) → MinedRows s z l → All (Stands s) (map (λ (w : Row). w .1 .1) z)
-mined-stand s [] l h = tt
-mined-stand s (v ∷ z) [] h = absurd h
-mined-stand s (v ∷ z) (x ∷ l) h = (h .0 .stands, mined-stand s z l (h .1))
-
 pub mined-placed : (s : Bytes) (z : List Row) (l : List Rec) → MinedRows s z l → All (λ p. p + 33 ≤ length s) (map (λ (w : Row). w .1 .1) z)
 mined-placed s [] l h = tt
 mined-placed s (v ∷ z) [] h = absurd h

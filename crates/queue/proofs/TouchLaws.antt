@@ -69,10 +69,6 @@ drop-take (suc a) n [] = ap (λ (k : ℕ). drop {A = ℕ} (suc a) (take k [])) (
 drop-take (suc a) n (x ∷ l) = ap (λ (k : ℕ). drop (suc a) (take k (x ∷ l))) (suc-add a n) ∙ drop-take a n l
 
 module _ (t : Bytes) (p : ℕ) where
-  entry-id : entryIn t p .id ≡ part 32 (view false t 0) p
-  unfolding part view
-  entry-id = take-take 32 68 (drop p t) (omega arith)
-
   pub entry-height : p + 68 ≤ length t → entryIn t p .height ≡ beAt 4 (view false t 0) (p + 32)
   unfolding view
   entry-height h =

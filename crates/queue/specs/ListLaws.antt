@@ -89,12 +89,6 @@ module _ {A : Type 0} where
       (λ t e′. let q : a ≡ x = cc in rw (← q) (h .0, t))
       (λ t e′. find-all p P l x e′ (h .1))
 
-  pub find-none : (p : A → Bool) (l : List A) → find p l ≡ none → All (λ a. p a ≡ false) l
-  find-none p [] e = tt
-  find-none p (a ∷ l) e = cond-cases (p a) (some a) (find p l) none e
-      (λ t e′. let z : _≡_ {A = ℕ} 0 1 = cc in absurd (omega arith))
-      (λ t e′. (t, find-none p l e′))
-
   -- the one that is found is the only one
   pub find-only : (p : A → Bool) (l : List A) → Pairwise (λ a b. p a ≡ true → p b ≡ true → ⊥) l → (x : A) → find p l ≡ some x → All (λ a. p a ≡ true → a ≡ x) l
   find-only p [] h x e = tt
@@ -107,10 +101,6 @@ module _ {A : Type 0} where
   find-count p (a ∷ l) x e = cond-cases (p a) (some a) (find p l) (some x) e
       (λ t e′. rw t (omega arith))
       (λ t e′. let i = find-count p l x e′ in omega arith)
-
-  pub any-none : (p : A → Bool) (l : List A) → any? p l ≡ false → All (λ a. p a ≡ false) l
-  any-none p [] e = tt
-  any-none p (a ∷ l) e = cases (p a) (λ t. let z = rw t at e in false-true (sym z)) (λ t. (t, any-none p l (rw t at e)))
 
   -- a record by record change
   pub map-all : (P Q : A → Type 0) (h : A → A) → ((a : A) → P a → Q (h a)) → (l : List A) → All P l → All Q (map h l)

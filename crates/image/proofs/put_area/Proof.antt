@@ -1,3 +1,4 @@
+-- Filled from its answers by tools/proofkit.py: change those, and fill it again.
 use Rattle.image.proofs.ImageLaws.{four-room, frames-room, zeros-room, area-put}
 use borrow.Author.Needs.{needs}
 use Rattle.image.proofs.put_area.Statement.{statement}

@@ -1,3 +1,4 @@
+-- Filled from its answers by tools/proofkit.py: change those, and fill it again.
 use borrow.Author.Tests.{not-true, not-false}
 use Rattle.image.proofs.ImageLaws.{write-unsound, write-held, write-short, write-room, write-done}
 use borrow.Author.Needs.{needs}

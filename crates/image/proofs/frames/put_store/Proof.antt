@@ -1,3 +1,4 @@
+-- Filled from its answers by tools/proofkit.py: change those, and fill it again.
 use native.Mathlib.Omega.{arith}
 use Rattle.image.proofs.ImageLaws.{head-room, recs-room, store-put}
 use borrow.Author.Needs.{needs}

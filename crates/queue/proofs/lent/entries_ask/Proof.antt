@@ -1,3 +1,4 @@
+-- Filled from its answers by tools/proofkit.py: change those, and fill it again.
 use Rattle.queue.proofs.LentLaws.{entries-no, entries-long, entries-are}
 use borrow.Author.Needs.{needs}
 use Rattle.queue.proofs.lent.entries_ask.Statement.{statement}

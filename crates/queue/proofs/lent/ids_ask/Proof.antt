@@ -1,3 +1,4 @@
+-- Filled from its answers by tools/proofkit.py: change those, and fill it again.
 use Rattle.queue.proofs.ReopenLaws.{lent-in}
 use Rattle.queue.proofs.LentLaws.{ids-no, ids-rise}
 use borrow.Author.Needs.{needs}

@@ -1,3 +1,4 @@
+-- Filled from its answers by tools/proofkit.py: change those, and fill it again.
 use Rattle.queue.proofs.PutLaws.{nothing, recast, fill-turn}
 use Rattle.queue.specs.Splice.{splice, be, Put}
 use mathlib.Core.Path.{_≡_, refl, ap, _∙_}

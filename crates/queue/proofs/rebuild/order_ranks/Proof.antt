@@ -1,3 +1,4 @@
+-- Filled from its answers by tools/proofkit.py: change those, and fill it again.
 use native.Mathlib.Omega.{arith}
 use Rattle.queue.specs.ReadLaws.{false-true}
 use borrow.Author.Needs.{needs}

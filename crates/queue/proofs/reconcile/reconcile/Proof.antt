@@ -1,3 +1,4 @@
+-- Filled from its answers by tools/proofkit.py: change those, and fill it again.
 use mathlib.Core.Path.{_≡_, refl, sym, ap, _∙_}
 use native.Mathlib.Omega.{arith}
 use native.Mathlib.Nat.{mod-lt}
@@ -9,7 +10,7 @@ use borrow.Author.Tests.{not-true, not-false, eq-eqb, ne-eqb}
 use Rattle.queue.proofs.PutLaws.{kept}
 use Rattle.queue.proofs.CallLaws.{view-long}
 use Rattle.queue.proofs.ExpireLaws.{area-in}
-use Rattle.queue.proofs.ReconcileLaws.{reconcile-3, reconcile-2, reconcile-5, tip-room, lent-to, reconcile-rest}
+use Rattle.queue.proofs.ReconcileLaws.{reconcile-3, reconcile-2, reconcile-5, lent-to, reconcile-rest}
 use borrow.Author.Needs.{needs}
 use Rattle.queue.proofs.reconcile.reconcile.Statement.{statement}
 use Rattle.queue.proofs.reconcile.reconcile.Tie as tie
