@@ -103,7 +103,7 @@ def main():
 def refused(out, e):
     """The facts at which e was refused; none where its function was proved, or where the proof's text did not fit the edit."""
     facts = []
-    at = re.compile(r"proofs/(?:\S*/)?%s/Proof\.antt:\S* error: `(\S+)`: (.*)" % re.escape(e["fn"]))
+    at = re.compile(r"proofs/(?:\S*/)?\+?%s/Proof\.antt:\S* error: `(\S+)`: (.*)" % re.escape(e["fn"]))
     for line in out.split("\n"):
         m = at.search(line)
         if m and "was not admitted" not in m[2]:

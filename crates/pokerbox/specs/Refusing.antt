@@ -18,13 +18,14 @@ use Rattle.queue.specs.Lists.{and-true}
 use Rattle.queue.specs.Areas.{readArea, readImage}
 use Rattle.queue.specs.Reconciles.{reconcileTo}
 use Rattle.queue.specs.paper.Records.{Bytes, Id, Limits, Held, Rec, Queue}
-use Rattle.queue.specs.paper.Lists.{isSome, maybe, any?, count, find, isEmpty?}
+use Rattle.queue.specs.paper.Lists.{isSome, maybe, any?, total, count, find, isEmpty?}
 use Rattle.queue.specs.paper.Sound.{inRange, need, holder?, pending?, mined?, labelLen, clash?}
 use Rattle.queue.specs.paper.Area.{imageBytes, over}
 use Rattle.queue.specs.paper.Changing.{Out, refused, done, top, topHeight, named?, reached?, Admission, pendings, pendingBytes, admitNew, admit, cancel, due?, expire, Reconciling, touch, reconcile, listed?, reopen, setCursor, ownOf, touchedRecs, toRelease}
 use Rattle.queue.specs.paper.Calls.{id?, entryBytes, idsBytes, releasedBytes, nothingBytes, items, given, Call, admitting, cancelling, expiring, reconciling, reopening, settingCursor, AdmitArgs, admission, ReconcileArgs, reconciliation, shape?, overK?, Worked, worked, rules, work, nextArea, onLent, callOf, freshOf, soundOf, settleShape?, settleOf, readOf, numberOf, lookUp, entryOf, signedPart, signedBytesOf}
+use Rattle.queue.specs.paper.Fees.{bestFees, candidates, sizeOf, feeOf, bestBytes, searchOf, budget?, bestFeesOf}
 use Rattle.image.specs.paper.Image.{imageOf, openOf}
-use Rattle.pokerbox.specs.paper.Refusals.{Checks, firstOf, refusal, Answers, unsound?, on, answer, known?, ruleChecks, callChecks, settleChecks, Demand1}
+use Rattle.pokerbox.specs.paper.Refusals.{Checks, firstOf, refusal, Answers, unsound?, on, answer, known?, ruleChecks, callChecks, settleChecks, feesChecks, Demand1}
 
 refused-17 : {n : ℕ} → Refused 17 ≡ Refused n → n ≡ 17
 refused-17 {n} e = let z : _≡_ {A = ℕ} 17 n = cc in sym z
@@ -278,6 +279,19 @@ signed-answers area id old = look-answers area id old _ (λ o. (13, maybe true (
     by q none = no 13 old _ refl
     by q (some h) = yes Nothing _ old _ refl
 
+fees-answers : (area : Bytes) (limit budget now height : ℕ) (out : Bytes)
+    → Answers (bestFeesOf area limit budget now height out) out (on area λ q. feesChecks (candidates now height q) limit budget (length out))
+unfolding bestFeesOf searchOf
+fees-answers area limit budget now height out = go (readArea area) refl
+  where
+    go : (o : Option Queue) → readArea area ≡ o → Answers (bestFeesOf area limit budget now height out) out (on area λ q. feesChecks (candidates now height q) limit budget (length out))
+    go none e = rw e (no 3 out _ refl)
+    go (some q) e = cases (budget? budget)
+        (λ t. cases (ltb top (total feeOf (candidates now height q)))
+        (λ u. rw (e, t, u) (no 21 out _ refl))
+        (λ u. cases (ltb (length out) (length (bestBytes (bestFees sizeOf feeOf (candidates now height q) limit budget)))) (λ v. rw (e, t, u, v) (no 4 out _ refl)) (λ v. rw (e, t, u, v) (yes Nothing _ out _ refl))))
+        (λ t. rw (e, t) (no 5 out _ refl))
+
 pub demand-1 : Demand1
 demand-1 = record {
   changing = call-answers;
@@ -290,4 +304,5 @@ demand-1 = record {
   number = number-answers;
   entry = entry-answers;
   signed = signed-answers;
+  fees = fees-answers;
 }

@@ -17,7 +17,7 @@ use Rattle.queue.specs.declared.Kind.the-variants.{Nothing, Memory, Whole, Curs
 use Rattle.queue.specs.declared.Answer.{Answer}
 use Rattle.queue.specs.declared.Answer.the-variants.{Refused, Done}
 use Rattle.queue.specs.Codec.{All}
-use Rattle.queue.specs.Lists.{Pairwise, sub-pairwise}
+use Rattle.queue.specs.Lists.{Pairwise, sub-pairwise, sub-trans}
 use Rattle.queue.specs.ListLaws.{filter-sub, sort-apart}
 use Rattle.queue.specs.ReadLaws.{false-true}
 use Rattle.queue.specs.Areas.{readArea}
@@ -30,8 +30,11 @@ use Rattle.queue.specs.paper.Sound.{inRange, need, among?, different?}
 use Rattle.queue.specs.paper.Area.{areaBytes, over}
 use Rattle.queue.specs.paper.Reading.{first?, selected?, selectedAt, selectionAt}
 use Rattle.queue.specs.paper.Calls.{work, fresh, readOf, selectionAtOf, freshOf}
+use Rattle.queue.specs.paper.Fees.{bestFees, candidates, sizeOf, feeOf, bestFeesOf}
+use Rattle.queue.specs.fees.Laws.{sub-take}
+use Rattle.queue.specs.fees.Claims.{set-sub}
 use Rattle.pokerbox.specs.paper.Machine.{Step, call, cut, Told, run, Plain, restart, plainStep, World, worldStep, starts}
-use Rattle.pokerbox.specs.paper.Claim.{CallOk, StepOk, StepsOk, mover, movedBy, movedLast, Holds, Claim, Template, Templates}
+use Rattle.pokerbox.specs.paper.Claim.{CallOk, StepOk, StepsOk, mover, movedBy, movedLast, Holds, Claim, Template, Templates, BestSet, BestSets}
 use Rattle.pokerbox.specs.Answers.{Good, work-good}
 use Rattle.pokerbox.specs.Runs.{image-room, fresh-is, starts-is, Inv, Same, restart-inv, step-same, run-same, images, TextOk}
 
@@ -88,22 +91,52 @@ ids-differ (r ∷ l) h = rw (none l (h .0)) (ids-differ l (h .1))
     none [] h = refl
     none (x ∷ l) h = rw (h .0) (none l (h .1))
 
+all-differ : (q : Queue) (now height : ℕ) → Fit q → Pairwise Diff (selectedAt now height q)
+all-differ q now height f =
+    sort-apart first? Diff diff-sym (filter (selected? now height) (q .recs)) (sub-pairwise Diff (filter-sub (selected? now height) (q .recs)) (rising-diff (q .recs) (f .sound .rising)))
+
+all-apart : (q : Queue) (now height : ℕ) → Fit q → Pairwise Apart (selectedAt now height q)
+all-apart q now height f =
+    sort-apart first? Apart apart-sym (filter (selected? now height) (q .recs)) (sub-pairwise Apart (filter-sub (selected? now height) (q .recs)) (f .sound .apart))
+
 pub template : (area : Bytes) (q : Queue) (now height : ℕ) → readArea area ≡ some q → Fit q → Template area q now height
 unfolding selectionAtOf selectionAt readOf
-template area q now height e f =
-    let s = filter-sub (selected? now height) (q .recs) in
+template area q now height e f = record {
+  told = λ out. rw e;
+  once = ids-differ (selectedAt now height q) (all-differ q now height f);
+  apart = of-apart (selectedAt now height q) (all-apart q now height f);
+}
+
+pub best-set : (area : Bytes) (q : Queue) (limit budget now height : ℕ) → readArea area ≡ some q → Fit q → BestSet area q limit budget now height
+unfolding bestFeesOf
+best-set area q limit budget now height e f =
+    let s = bestFees sizeOf feeOf (candidates now height q) limit budget .set in
+    let u = sub-trans (set-sub sizeOf feeOf (candidates now height q) limit budget) (sub-take 20 (selectedAt now height q)) in
     record {
-      told = λ out. rw e;
-      once = ids-differ (selectedAt now height q) (sort-apart first? Diff diff-sym (filter (selected? now height) (q .recs)) (sub-pairwise Diff s (rising-diff (q .recs) (f .sound .rising))));
-      apart = of-apart (selectedAt now height q) (sort-apart first? Apart apart-sym (filter (selected? now height) (q .recs)) (sub-pairwise Apart s (f .sound .apart)));
+      told = λ out. rw e refl;
+      part = u;
+      once = ids-differ s (sub-pairwise Diff u (all-differ q now height f));
+      apart = of-apart s (sub-pairwise Apart u (all-apart q now height f));
     }
+
+-- after every list of steps
+in-area : (m : Limits) (first : Bytes) (second : Option Bytes) (xs : List Step) → inRange m ≡ true → need m ≤ length first → StepsOk m (restart m none) xs
+    → (readArea (run (worldStep m) (world m first second) xs .1 .area) ≡ some (run (plainStep m) (restart m none) xs .1 .queue)) × Fit (run (plainStep m) (restart m none) xs .1 .queue)
+in-area m first second xs range room ok =
+    let s = all-same m first second xs range room ok in
+    (ap readArea (s .rep .area) ∙ fit-stands (run (plainStep m) (restart m none) xs .1 .queue) (s .inv .fit) (s .rep .later), s .inv .fit)
 
 pub no-input-twice : Templates
 unfolding Templates
 no-input-twice m first second xs range room ok now height =
-    let s = all-same m first second xs range room ok in
-    template (run (worldStep m) (world m first second) xs .1 .area) (run (plainStep m) (restart m none) xs .1 .queue) now height
-    (ap readArea (s .rep .area) ∙ fit-stands (run (plainStep m) (restart m none) xs .1 .queue) (s .inv .fit) (s .rep .later)) (s .inv .fit)
+    let s = in-area m first second xs range room ok in
+    template (run (worldStep m) (world m first second) xs .1 .area) (run (plainStep m) (restart m none) xs .1 .queue) now height (s .0) (s .1)
+
+pub no-input-twice-in-a-block : BestSets
+unfolding BestSets
+no-input-twice-in-a-block m first second xs range room ok limit budget now height =
+    let s = in-area m first second xs range room ok in
+    best-set (run (worldStep m) (world m first second) xs .1 .area) (run (plainStep m) (restart m none) xs .1 .queue) limit budget now height (s .0) (s .1)
 
 -- ---- the same for a node that always lends the image writer as much as any image takes
 

@@ -7,6 +7,7 @@ use queue::calls::cancel;
 use queue::calls::expire;
 use queue::calls::set_cursor;
 use queue::calls::settle;
+use queue::fees::best_fees;
 use queue::frame::Height;
 use queue::frame::Time;
 use queue::limits::Limits;
@@ -36,6 +37,7 @@ ghost use Rattle.queue.specs.Opens.{limits};
 ghost use Rattle.queue.specs.paper.Lists.{one, isEmpty?};
 ghost use Rattle.queue.specs.paper.Reading.{deadlineDue?, recordIds, guardedIds, reservedInputs, dueStates, confirmations};
 ghost use Rattle.queue.specs.paper.Calls.{number, kindNumber, gives, counted, entryBytes, idsBytes, placedBytes, dueBytes, cursorBytes, admitArgs, reconcileArgs, admitting, cancelling, expiring, reconciling, reopening, settingCursor, callOf, freshOf, soundOf, settleOf, readOf, numberOf, entryOf, signedBytesOf, selectionAtOf};
+ghost use Rattle.queue.specs.paper.Fees.{bestFeesOf};
 ghost use Rattle.image.specs.paper.Image.{imageOf, openOf};
 
 fn kind_number(k: Kind) -> u64
@@ -250,6 +252,21 @@ pub extern "C" fn pokerbox_selection_entries_at(
     ensures { λ r. ⌜ (r, now (out .exit)) ≡ gives (selectionAtOf (now (area .entry)) time height (now (out .entry))) ⌝ }
 {
     number(selection_at(area, Time(time), Height(height as u64), out))
+}
+
+// Best fees for a block of at most `limit` bytes: fee, nodes, distance, and the ids of the set. 3, 5, 21, 4.
+#[no_mangle]
+pub extern "C" fn pokerbox_best_fees(
+    area: &[u8],
+    limit: u64,
+    budget: u64,
+    time: u64,
+    height: u32,
+    out: &mut [u8],
+) -> u64
+    ensures { λ r. ⌜ (r, now (out .exit)) ≡ gives (bestFeesOf (now (area .entry)) limit budget time height (now (out .entry))) ⌝ }
+{
+    number(best_fees(area, limit, budget, Time(time), Height(height as u64), out))
 }
 
 // The selection at time 0 and height 0. 3, 4.

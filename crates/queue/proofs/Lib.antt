@@ -39,3 +39,6 @@ pub mod RebuildLaws
 pub mod TrimLaws
 pub mod ReconcileLaws
 pub mod LentLaws
+pub mod FeeWalkLaws
+pub mod FeeSearchLaws
+pub mod FeeLaws

@@ -1,20 +1,22 @@
--- Document 01's bench cards, its worked image and docs/AREA.md's worked areas, as one table of tests.
+-- Document 01's bench cards, its worked image and docs/AREA.md's worked areas, and the cards of document 02's requests, as one table
+-- of tests.
 use mathlib.Core.Path.{_≡_, refl}
 use mathlib.Core.Bool.{Bool, true, false, _&&_}
 use mathlib.Core.Option.{Option, none, some}
 use mathlib.Core.List.{List, [], _∷_, _++_}
-use Prim.Native.Nat.{ℕ, _+_}
+use Prim.Native.Nat.{ℕ, _+_, _-_}
 use lib.Dec.{eqb}
 use lib.ListN.{length, take, replicate}
 use Rattle.queue.specs.declared.Answer.{Answer}
 use Rattle.queue.specs.Hex.{textOf, digOf}
 use Rattle.queue.specs.paper.Records.{Bytes, Id, Limits, Rec, Queue}
-use Rattle.queue.specs.paper.Lists.{all?, find}
+use Rattle.queue.specs.paper.Lists.{all?, find, map}
 use Rattle.queue.specs.paper.Ids.{cmpL, same?, rise?}
 use Rattle.queue.specs.paper.Sound.{need, sound?, inRange, counts?, right?, distinct?, apart?, used?, clash?}
 use Rattle.queue.specs.paper.Area.{termsBytes, placeBytes, heldBytes, recBytes, headBytes, queueBytes, areaBytes, imageBytes, over}
-use Rattle.queue.specs.paper.Changing.{Out, refused, done, named?, committed, moved, newRec, admit, finished, finishThose, forget, cancel, due?, expire, Applied, confirm, touch, releases, reconcile, reopened, reopen, setCursor, touchedRecs, toRelease}
-use Rattle.queue.specs.paper.Calls.{kindNumber, number, fresh, settleNext}
+use Rattle.queue.specs.paper.Changing.{Out, refused, done, top, named?, committed, moved, newRec, admit, finished, finishThose, forget, cancel, due?, expire, Applied, confirm, touch, releases, reconcile, reopened, reopen, setCursor, touchedRecs, toRelease}
+use Rattle.queue.specs.paper.Calls.{kindNumber, number, idsBytes, fresh, settleNext}
+use Rattle.queue.specs.paper.Fees.{Best, bestFees, bestBytes, searchOf}
 
 -- the number that a call gives back: a refusal's own, or 100 and the kind
 abbrev gives : {A : Type 0} → Out A → ℕ
@@ -124,6 +126,33 @@ worked = record {
   } ∷ [];
 }
 
+-- document 02, P12: a candidate is its fee and its size
+abbrev Candidate : Type 0
+Candidate = ℕ × ℕ
+
+abbrev three : List Candidate
+three = (5, 6) ∷ (4, 5) ∷ (3, 5) ∷ []
+
+-- the fees of the set, their sum, the nodes, the distance
+abbrev finds? : List Candidate → ℕ → ℕ → List ℕ → ℕ → ℕ → ℕ → Bool
+finds? c limit budget fees fee nodes distance = shown (bestFees (λ x. x .1) (λ x. x .0) c limit budget)
+  where
+    shown : Best Candidate → Bool
+    shown b = (same? (map (λ x. x .0) (b .set)) fees && eqb (b .fee) fee) && (eqb (b .nodes) nodes && eqb (b .distance) distance)
+
+-- a record with that fee
+abbrev paying : ℕ → Rec
+paying fee = record {
+  id = id 1;
+  state = 0;
+  reason = 0;
+  terms = record { created = 0; due = none; dueHeight = none; priority = 0; label = none; fee = fee; size = 0; cost = 0 };
+  place = none;
+  mark = 0;
+  finish = 0;
+  body = none;
+}
+
 abbrev cards : List Bool
 cards =
     -- "Deadline 6 at 5 enters, 5 doesn't."
@@ -189,8 +218,28 @@ cards =
     ++ ((0 ∷ 0 ∷ 0 ∷ 0 ∷ 0 ∷ 0 ∷ 0 ∷ 5 ∷ 0 ∷ 0 ∷ 255 ∷ 255 ∷ 255 ∷ 255 ∷ 0 ∷ [])
     ++ ((0 ∷ 0 ∷ 0 ∷ 0 ∷ 0 ∷ 0 ∷ 0 ∷ 7 ∷ 0 ∷ 0 ∷ 0 ∷ 3 ∷ 0 ∷ 0 ∷ 0 ∷ 0 ∷ 0 ∷ 0 ∷ 0 ∷ 9 ∷ [])
     ++ (0 ∷ 0 ∷ 0 ∷ 0 ∷ 0 ∷ 0 ∷ 0 ∷ 0 ∷ 0 ∷ 1 ∷ 0 ∷ [])))))))))))
+    -- P12: fees 5, 4, 3 and sizes 6, 5, 5, limit 10
+    ∷ finds? three 10 1 [] 0 1 7
+    ∷ finds? three 10 2 (5 ∷ []) 5 2 2
+    ∷ finds? three 10 5 (5 ∷ []) 5 5 2
+    ∷ finds? three 10 6 (5 ∷ []) 5 6 2
+    ∷ finds? three 10 7 (4 ∷ 3 ∷ []) 7 7 0
+    ∷ finds? three 10 100 (4 ∷ 3 ∷ []) 7 11 0
+    -- no candidates; none that fits; one without bytes; of equals the first visited; a fee of 0 takes nobody's place
+    ∷ finds? [] 10 1 [] 0 1 0
+    ∷ finds? three 0 100 [] 0 4 0
+    ∷ finds? ((5, 0) ∷ []) 0 100 (5 ∷ []) 5 3 0
+    ∷ finds? ((2, 5) ∷ (2, 4) ∷ []) 5 100 (2 ∷ []) 2 6 0
+    ∷ finds? ((0, 1) ∷ []) 5 100 [] 0 3 0
+    -- the largest fee: its bound is the distance while it is unvisited; a distance above 0 though the set is the best
+    ∷ finds? ((top, 50) ∷ []) 100 1 [] 0 1 top
+    ∷ finds? ((top, 50) ∷ []) 10 1 [] 0 1 0
+    ∷ finds? ((5, 4) ∷ (3, 4) ∷ (3, 4) ∷ []) 7 2 (5 ∷ []) 5 2 1
+    -- "21, the candidates' fees sum over 18,446,744,073,709,551,615", and not at it: then 4
+    ∷ eqb (number (searchOf (paying top ∷ paying 1 ∷ []) 0 1 [] .0)) 21
+    ∷ eqb (number (searchOf (paying (top - 1) ∷ paying 1 ∷ []) 0 1 [] .0)) 4
     ∷ []
 
 pub all-cards : all? (λ b. b) cards ≡ true
-unfolding cmpL over need sound? inRange counts? right? rise? distinct? apart? used? clash? termsBytes placeBytes heldBytes recBytes headBytes queueBytes areaBytes imageBytes committed moved newRec admit finished finishThose forget cancel due? expire confirm touch releases touchedRecs toRelease reconcile reopened reopen setCursor textOf digOf
+unfolding cmpL over need sound? inRange counts? right? rise? distinct? apart? used? clash? termsBytes placeBytes heldBytes recBytes headBytes queueBytes areaBytes imageBytes committed moved newRec admit finished finishThose forget cancel due? expire confirm touch releases touchedRecs toRelease reconcile reopened reopen setCursor textOf digOf idsBytes bestBytes searchOf
 all-cards = refl

@@ -35,6 +35,7 @@ pub mod Finishing
 pub mod ReadingAs
 pub mod Writes
 pub mod SelectAs
+pub mod fees
 pub mod Signed
 pub mod CallsAs
 pub mod PiecesAs

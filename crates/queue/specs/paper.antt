@@ -6,3 +6,4 @@ pub mod Area
 pub mod Changing
 pub mod Reading
 pub mod Calls
+pub mod Fees

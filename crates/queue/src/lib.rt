@@ -4,6 +4,7 @@ pub mod admit;
 pub mod area;
 pub mod calls;
 pub mod clash;
+pub mod fees;
 pub mod filter;
 pub mod finish;
 pub mod forms;

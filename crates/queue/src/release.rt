@@ -99,7 +99,7 @@ fn is_out(height: Height, window: u64, p: u64, b: u64, level: u64, seen: u64, by
 }
 
 // A place at g, if it is to be; returns how many there are then.
-fn add_place(gone: &mut [usize], g: usize, out: bool, q: usize) -> usize
+pub fn add_place(gone: &mut [usize], g: usize, out: bool, q: usize) -> usize
     requires { ⌜ g < length (now gone) ⌝ }
     ensures { λ r. ⌜ PlaceAdded out g q (now (gone .entry)) r (now (gone .exit)) ⌝ }
 {

@@ -8,14 +8,16 @@ use lib.Dec.{eqb}
 use lib.ListN.{length}
 use Rattle.queue.specs.declared.Kind.the-variants.{Nothing}
 use Rattle.queue.specs.declared.Answer.{Answer}
-use Rattle.queue.specs.declared.Answer.the-variants.{Done}
+use Rattle.queue.specs.declared.Answer.the-variants.{Refused, Done}
 use Rattle.queue.specs.Codec.{All}
+use Rattle.queue.specs.Lists.{Sub}
 use Rattle.queue.specs.paper.Records.{Bytes, Limits, Queue}
 use Rattle.queue.specs.paper.Lists.{maybe, isEmpty?, map}
 use Rattle.queue.specs.paper.Sound.{inRange, need, holders, holderBytes, tombstones, apart?, different?}
 use Rattle.queue.specs.paper.Area.{areaBytes, imageBytes}
 use Rattle.queue.specs.paper.Reading.{selectedAt}
 use Rattle.queue.specs.paper.Calls.{idsBytes, Call, admitting, cancelling, expiring, reconciling, reopening, settingCursor, work, byKind, freshOf, toldOut, selectionAtOf}
+use Rattle.queue.specs.paper.Fees.{bestFees, candidates, sizeOf, feeOf, searchOf, budget?, bestFeesOf}
 use Rattle.pokerbox.specs.paper.Machine.{Fate, kept, failed, cutBefore, cutAfter, Step, call, cut, Told, run, Plain, restart, plainStep, World, worldStep, starts}
 
 -- ---- which lists: any, as far as numbers fit their widths and bytes are bytes (a caller can lend nothing else), and "all
@@ -122,3 +124,15 @@ pub record Template (area : Bytes) (q : Queue) (now height : ℕ) : Type 0 where
 
 unfoldable pub Templates : Type 0
 Templates = Always λ m xs v p. (now height : ℕ) → Template (v .1 .area) (p .1 .queue) now height
+
+-- Document 02, P12: what `best_fees` answers on the bytes in the area, for any byte limit, budget, time and height, are the ids of
+-- some of these records.
+pub record BestSet (area : Bytes) (q : Queue) (limit budget now height : ℕ) : Type 0 where
+  pub told : (out : Bytes)
+      → bestFeesOf area limit budget now height out ≡ cond (budget? budget) (searchOf (candidates now height q) limit budget out) (Refused 5, out)
+  pub part : Sub (bestFees sizeOf feeOf (candidates now height q) limit budget .set) (selectedAt now height q)
+  pub once : different? (map (λ r. r .id) (bestFees sizeOf feeOf (candidates now height q) limit budget .set)) ≡ true
+  pub apart : apart? (bestFees sizeOf feeOf (candidates now height q) limit budget .set) ≡ true
+
+unfoldable pub BestSets : Type 0
+BestSets = Always λ m xs v p. (limit budget now height : ℕ) → BestSet (v .1 .area) (p .1 .queue) limit budget now height

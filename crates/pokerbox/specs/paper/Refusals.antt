@@ -9,12 +9,13 @@ use lib.ListN.{length}
 use Rattle.queue.specs.declared.Answer.{Answer}
 use Rattle.queue.specs.declared.Answer.the-variants.{Refused, Done}
 use Rattle.queue.specs.Areas.{readArea, readImage}
-use Rattle.queue.specs.paper.Records.{Bytes, Id, Limits, Queue}
-use Rattle.queue.specs.paper.Lists.{isSome, maybe, any?, count, find}
+use Rattle.queue.specs.paper.Records.{Bytes, Id, Limits, Rec, Queue}
+use Rattle.queue.specs.paper.Lists.{isSome, maybe, any?, total, count, find}
 use Rattle.queue.specs.paper.Sound.{inRange, need, holder?, pending?, mined?, labelLen, clash?}
 use Rattle.queue.specs.paper.Area.{imageBytes}
 use Rattle.queue.specs.paper.Changing.{Out, refused, done, top, named?, reached?, pendings, pendingBytes, admit, cancel, due?, expire, toRelease, reconcile}
 use Rattle.queue.specs.paper.Calls.{id?, entryBytes, idsBytes, releasedBytes, Call, admitting, cancelling, expiring, reconciling, reopening, settingCursor, admission, reconciliation, shape?, overK?, callOf, freshOf, soundOf, settleShape?, settleOf, readOf, numberOf, entryOf, signedBytesOf}
+use Rattle.queue.specs.paper.Fees.{bestFees, candidates, sizeOf, feeOf, bestBytes, budget?, bestFeesOf}
 use Rattle.image.specs.paper.Image.{imageOf, openOf}
 
 -- numbers with their conditions
@@ -82,6 +83,11 @@ settleChecks cur next kind outcome =
     let back = eqb kind 2 && eqb outcome 1 in
     on cur λ q. (3, not back && unsound? next) ∷ (2, back && ltb (length next) (need (q .limits))) ∷ (5, not (settleShape? kind outcome)) ∷ (17, eqb outcome 1) ∷ []
 
+-- document 02, P12
+abbrev pub feesChecks : List Rec → ℕ → ℕ → ℕ → Checks
+feesChecks c limit budget room =
+    (5, not (budget? budget)) ∷ (21, ltb top (total feeOf c)) ∷ (4, ltb room (length (bestBytes (bestFees sizeOf feeOf c limit budget)))) ∷ []
+
 -- every exported call
 pub record Demand1 : Type 0 where
   pub changing : (c : Call) (cur next out : Bytes) → Answers (callOf c cur next out) (next, out) (callChecks c cur (length next) (length out))
@@ -97,3 +103,5 @@ pub record Demand1 : Type 0 where
       → Answers (entryOf area id out) out (on area λ q. (5, not (id? id)) ∷ (13, not (isSome (find (named? id) (q .recs)))) ∷ (4, maybe false (λ r. ltb (length out) (length (entryBytes r))) (find (named? id) (q .recs))) ∷ [])
   pub signed : (area id : Bytes) (old : ℕ × ℕ)
       → Answers (signedBytesOf area id old) old (on area λ q. (5, not (id? id)) ∷ (13, maybe true (λ r. not (holder? r)) (find (named? id) (q .recs))) ∷ [])
+  pub fees : (area : Bytes) (limit budget now height : ℕ) (out : Bytes)
+      → Answers (bestFeesOf area limit budget now height out) out (on area λ q. feesChecks (candidates now height q) limit budget (length out))
