@@ -17,6 +17,7 @@ use super::rules::weigh;
 use super::suspects::apart_few;
 use super::suspects::apart_many;
 use super::view::cmp_id;
+use super::view::same_id;
 ghost use mathlib.Core.Path.{_≡_};
 ghost use mathlib.Core.Bool.{true, false};
 ghost use Prim.Native.Nat.{_+_, _-_, _*_, _≤_, _<_};
@@ -166,7 +167,7 @@ pub fn has_id(s: &[u8], hex: bool, base: usize, at: usize, n: u64, id: [u8; 32])
     while 0 < left {
         let x = id_read(s, hex, base, i);
         let y = x.id;
-        if cmp_id(id, y) == 1 {
+        if same_id(id, y) {
             return true;
         }
         i = x.next;

@@ -4,6 +4,7 @@ use native.Mathlib.Omega.{arith}
 use mathlib.Core.Bool.{Bool, true, false, _&&_}
 use Prim.Native.Nat.{ℕ, _≤_, _+_, _-_, _*_, _<_}
 use lib.ListN.{length, take, drop}
+use borrow.Author.Tests.{eqb-true, eqb-false}
 use Rattle.queue.specs.Frames.{recC, idC}
 use Rattle.queue.specs.Forms.{formC}
 use Rattle.queue.specs.View.{view}
@@ -15,7 +16,7 @@ use Rattle.queue.proofs.scan.has_id.Tie as tie
 use Rattle.queue.proofs.scan.has_id.Reads as reads
 use Rattle.queue.proofs.scan.has_id.Lts as lts
 use Rattle.queue.proofs.frame.id_read.Reads as id-read-reads
-use Rattle.queue.proofs.view.cmp_id.Reads as cmp-id-reads
+use Rattle.queue.proofs.view.same_id.Reads as same-id-reads
 
 abbrev Inv-loop : tie.InvT-loop
 Inv-loop s hex base at n id i₀ left₀ i left = Scan idC (amongF id) (view hex s base) n at tt i left tt
@@ -29,11 +30,11 @@ loop-holds c = start idC _ _ _ _ _ (c .before .pre .0) (c .before .pre .1)
 id-read-requires : tie.Need-id-read-requires Inv-loop μ-loop
 id-read-requires c κs = search needs
 
-cmp-id-requires : tie.Need-cmp-id-requires Inv-loop μ-loop
-cmp-id-requires c κs = search needs
+same-id-requires : tie.Need-same-id-requires Inv-loop μ-loop
+same-id-requires c κs = search needs
 
 returns : tie.Need-returns Inv-loop μ-loop
-returns c = among-stop _ (c .before .before .before .before .before .loop .inv) (c .before .before .before .before .loop-test .taken) (c .before .before .before .id-read .ensures) (sym (c .before .cmp-id .ensures) ∙ c .if1 .taken)
+returns c = among-stop _ (c .before .before .before .before .before .loop .inv) (c .before .before .before .before .loop-test .taken) (c .before .before .before .id-read .ensures) (eqb-true _ 1 (sym (c .before .same-id .ensures) ∙ c .if1 .taken))
 
 sub-left : tie.Need-sub-left Inv-loop μ-loop
 sub-left c = search needs
@@ -42,7 +43,7 @@ loop-less : tie.Need-loop-less Inv-loop μ-loop
 loop-less c = search needs
 
 loop-again : tie.Need-loop-again Inv-loop μ-loop
-loop-again c = among-go _ (c .before .before .before .before .before .loop .inv) (c .before .before .before .before .loop-test .taken) (c .before .before .before .id-read .ensures) (λ e. c .if1 .left (c .before .cmp-id .ensures ∙ e))
+loop-again c = among-go _ (c .before .before .before .before .before .loop .inv) (c .before .before .before .before .loop-test .taken) (c .before .before .before .id-read .ensures) (eqb-false _ 1 (sym (c .before .same-id .ensures) ∙ c .if1 .left))
 
 returns-2 : tie.Need-returns-2 Inv-loop μ-loop
 returns-2 c = among-end _ (c .before .loop .inv) (omega arith)
@@ -55,7 +56,7 @@ has-id-spec =
     μ-loop
     loop-holds
     id-read-requires
-    cmp-id-requires
+    same-id-requires
     returns
     sub-left
     loop-less
