@@ -1,3 +1,4 @@
 pub mod Machine
 pub mod Claim
 pub mod Refusals
+pub mod Withdrawn
