@@ -3,5 +3,6 @@ pub mod Answers
 pub mod Runs
 pub mod Theorem
 pub mod Refusing
+pub mod Withdrawing
 pub mod Before
 pub mod Examples

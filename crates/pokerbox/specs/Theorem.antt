@@ -120,7 +120,7 @@ best-set area q limit budget now height e f =
     }
 
 -- after every list of steps
-in-area : (m : Limits) (first : Bytes) (second : Option Bytes) (xs : List Step) → inRange m ≡ true → need m ≤ length first → StepsOk m (restart m none) xs
+pub in-area : (m : Limits) (first : Bytes) (second : Option Bytes) (xs : List Step) → inRange m ≡ true → need m ≤ length first → StepsOk m (restart m none) xs
     → (readArea (run (worldStep m) (world m first second) xs .1 .area) ≡ some (run (plainStep m) (restart m none) xs .1 .queue)) × Fit (run (plainStep m) (restart m none) xs .1 .queue)
 in-area m first second xs range room ok =
     let s = all-same m first second xs range room ok in
