@@ -73,11 +73,11 @@ steps =
     ∷ []
 
 -- the number of a call's answer, and of settling's (0 where nothing was settled)
-abbrev settledNumber : Option Answer → ℕ
+abbrev pub settledNumber : Option Answer → ℕ
 settledNumber none = 0
 settledNumber (some a) = number a
 
-abbrev numbers : Told → ℕ × ℕ
+abbrev pub numbers : Told → ℕ × ℕ
 numbers t = (number (t .answer), settledNumber (t .settled))
 
 abbrev start : Plain
@@ -106,7 +106,7 @@ plain-says = refl
 
 -- ---- the claim of this list
 
-small : (n b : ℕ) → b < 256 → Small (replicate n b)
+pub small : (n b : ℕ) → b < 256 → Small (replicate n b)
 small zero b h = tt
 small (suc n) b h = (h, small n b h)
 
