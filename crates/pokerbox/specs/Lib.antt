@@ -4,6 +4,5 @@ pub mod Runs
 pub mod Theorem
 pub mod Refusing
 pub mod Withdrawing
-pub mod Before
 pub mod Examples
 pub mod WithdrawnExamples
