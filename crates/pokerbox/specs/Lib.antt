@@ -5,3 +5,4 @@ pub mod Theorem
 pub mod Refusing
 pub mod Before
 pub mod Examples
+pub mod Lending
