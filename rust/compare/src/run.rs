@@ -92,6 +92,7 @@ impl<'a, S: Side> Pair<'a, S> {
         }
         let queue = self.unit.queue().map_err(|fault| self.fault(fault))?;
         self.same("the queue", &queue, &self.oracle.queue())?;
+        self.need(&queue.limits, counts)?;
         self.fees(&queue, counts)
     }
 
@@ -274,14 +275,53 @@ impl<'a, S: Side> Pair<'a, S> {
         self.same("transactions not found", Oracle::failed(), 0)?;
         self.readings(&queue, counts)?;
         self.fees(&queue, counts)?;
-        self.stored(&queue)
+        self.stored(&queue, counts)
+    }
+
+    /// The need of limits, which the oracle has not, is judged by the model: of the list's limits, and
+    /// of those where one is at an end of its range or beyond it.
+    fn need(&self, limits: &Limits, counts: &mut Counts) -> Result<(), Difference> {
+        let limits = limits.numbers();
+        let tops = Limits::MAX.numbers();
+        let ends = (0..4).flat_map(|at| [0, 1, tops[at], tops[at] + 1].map(|end| (at, end)));
+        for (at, end) in ends.chain([(0, limits[0])]) {
+            let mut limits = limits;
+            limits[at] = end;
+            let mut value = UNTOUCHED.into();
+            let number = Model.need(limits, &mut value);
+            let what = "the answer of need";
+            self.same(
+                what,
+                (limits, self.unit.need(limits)),
+                (limits, (number, value)),
+            )?;
+            counts.reading("need");
+        }
+        Ok(())
+    }
+
+    /// The limits and the need of an image, which the oracle has not, are judged by the model: of the
+    /// stored one, and of that one with a byte that is another.
+    fn image_limits(&self, text: &[u8], counts: &mut Counts) -> Result<(), Difference> {
+        let mut wrong = text.to_vec();
+        let at = self.at.wrapping_mul(7) % text.len();
+        wrong[at] = b"0f1\n8A"[self.at % 6];
+        for text in [text, &wrong] {
+            let mut numbers = [UNTOUCHED.into(); 5];
+            let number = Model.image_limits(text, &mut numbers);
+            let answer = self.unit.image_limits(text);
+            self.same("the answer of image_limits", answer, (number, numbers))?;
+            counts.reading("image_limits");
+        }
+        Ok(())
     }
 
     /// The stored image is that of a sound queue with these records.
-    fn stored(&self, queue: &Queue) -> Result<(), Difference> {
+    fn stored(&self, queue: &Queue, counts: &mut Counts) -> Result<(), Difference> {
         let Some(text) = &self.unit.stored else {
             return Ok(());
         };
+        self.image_limits(text, counts)?;
         let opened = image::decode(text);
         let Some(opened) = opened else {
             return Err(self.fault("the stored image is not that of a sound queue".into()));

@@ -203,6 +203,18 @@ impl<'s, S: Side> Unit<'s, S> {
         Self::output(length, |out| self.side.best_fees(&self.current, asked, out))
     }
 
+    /// The number given back, and what stands behind the pointer.
+    pub fn need(&self, limits: [u64; 4]) -> (u64, u64) {
+        let mut value = UNTOUCHED.into();
+        (self.side.need(limits, &mut value), value)
+    }
+
+    /// The number given back, and what stands behind the five pointers.
+    pub fn image_limits(&self, text: &[u8]) -> (u64, [u64; 5]) {
+        let mut numbers = [UNTOUCHED.into(); 5];
+        (self.side.image_limits(text, &mut numbers), numbers)
+    }
+
     pub fn signed_bytes(&self, id: &Id) -> Result<&[u8], u64> {
         let (mut start, mut length) = (0, 0);
         match self

@@ -87,6 +87,8 @@ struct Faulty {
     settle: fn(&[u8], &mut [u8], u64, u64) -> u64,
     cancel: fn(&[u8], &mut [u8], &[u8], &mut [u8]) -> u64,
     open: fn(&[u8], &mut [u8]) -> u64,
+    need: fn([u64; 4], &mut u64) -> u64,
+    image_limits: fn(&[u8], &mut [u64; 5]) -> u64,
     read: fn(Reading, &[u8], &mut [u8]) -> u64,
     best_fees: BestFees,
 }
@@ -95,6 +97,8 @@ const RIGHT: Faulty = Faulty {
     settle: calls::settle,
     cancel: calls::cancel,
     open: calls::open,
+    need: |limits, value| Model.need(limits, value),
+    image_limits: |text, numbers| Model.image_limits(text, numbers),
     read: |reading, area, out| Model.read(reading, area, out),
     best_fees: |area, asked, out| Model.best_fees(area, asked, out),
 };
@@ -144,6 +148,14 @@ impl Side for Faulty {
 
     fn open(&self, text: &[u8], area: &mut [u8]) -> u64 {
         (self.open)(text, area)
+    }
+
+    fn need(&self, limits: [u64; 4], value: &mut u64) -> u64 {
+        (self.need)(limits, value)
+    }
+
+    fn image_limits(&self, text: &[u8], numbers: &mut [u64; 5]) -> u64 {
+        (self.image_limits)(text, numbers)
     }
 
     fn sound(&self, area: &[u8]) -> u64 {
@@ -238,6 +250,70 @@ fn an_empty_queue_after_a_cut_is_noticed() {
     };
     let (list, _) = noticed(side, "opens-empty");
     assert!(list.events.len() <= 3, "{list}");
+}
+
+#[test]
+fn wrong_numbers_to_lend_are_noticed() {
+    let sides: [(Faulty, &str); 4] = [
+        (
+            // The room for inputs without the outputs'.
+            Faulty {
+                need: |limits, value| {
+                    let number = Model.need(limits, value);
+                    if number == 100 {
+                        *value -= 64 * limits[0] * limits[3];
+                    }
+                    number
+                },
+                ..RIGHT
+            },
+            "the answer of need",
+        ),
+        (
+            // A number for limits that are refused.
+            Faulty {
+                need: |limits, value| {
+                    let number = Model.need(limits, value);
+                    if number == 1 {
+                        *value = 0;
+                    }
+                    number
+                },
+                ..RIGHT
+            },
+            "the answer of need",
+        ),
+        (
+            // Of the header alone.
+            Faulty {
+                image_limits: |text, numbers| {
+                    let line = text.iter().position(|byte| *byte == b'\n');
+                    match Model.image_limits(text, numbers) {
+                        16 if line.is_some_and(|end| end + 1 < text.len()) => 100,
+                        number => number,
+                    }
+                },
+                ..RIGHT
+            },
+            "the answer of image_limits",
+        ),
+        (
+            // T for P.
+            Faulty {
+                image_limits: |text, numbers| {
+                    let number = Model.image_limits(text, numbers);
+                    numbers[0] = numbers[2];
+                    number
+                },
+                ..RIGHT
+            },
+            "the answer of image_limits",
+        ),
+    ];
+    for (at, (side, what)) in sides.into_iter().enumerate() {
+        let (list, found) = noticed(side, &format!("wrong-to-lend-{at}"));
+        assert_eq!(found.what, what, "{list}{found}");
+    }
 }
 
 /// The number, once an answer of two records or more was changed by `change`, which has their ids.
