@@ -10,12 +10,14 @@ use borrow.Author.Tests.{le-ltb}
 use Rattle.queue.specs.declared.Kind.the-variants.{Nothing}
 use Rattle.queue.specs.declared.Answer.the-variants.{Refused, Done}
 use Rattle.queue.specs.Areas.{readImage}
+use Rattle.queue.specs.Opens.{limits}
 use Rattle.queue.specs.Sounds.{Fit}
 use Rattle.queue.specs.Bound.{fit-image}
+use Rattle.queue.specs.Keeps.{fresh-fit}
 use Rattle.queue.specs.paper.Records.{Bytes, Limits, Queue}
 use Rattle.queue.specs.paper.Sound.{inRange, need}
 use Rattle.queue.specs.paper.Area.{imageBytes}
-use Rattle.queue.specs.paper.Calls.{freshOf}
+use Rattle.queue.specs.paper.Calls.{fresh, freshOf}
 use Rattle.image.specs.paper.Image.{openOf, Five, limitsNeed, needOf, imageLimitsOf}
 
 refused-done : {X : Type 0} {n : ℕ} → Refused n ≡ Done Nothing → X
@@ -40,3 +42,16 @@ lend-open text old area e h = go (readImage text) refl
 pub image-limits : (q : Queue) (old : Five) → Fit q → q .persisted ≡ q .cursor → imageLimitsOf (imageBytes q) old ≡ (Done Nothing, limitsNeed (q .limits))
 unfolding imageLimitsOf imageBytes
 image-limits q old f e = rw (fit-image q f e)
+
+-- ---- cards: document 01's worked image, and a limit of 0
+pub worked-need : (old : ℕ) → needOf (limits 2 10 1 1) old ≡ (Done Nothing, 3348)
+unfolding needOf inRange need
+worked-need old = refl
+
+pub no-need : (old : ℕ) → needOf (limits 0 10 1 1) old ≡ (Refused 1, old)
+unfolding needOf inRange
+no-need old = refl
+
+pub worked-limits : (old : Five) → imageLimitsOf (imageBytes (fresh (limits 2 10 1 1))) old ≡ (Done Nothing, (2, (10, (1, (1, 3348)))))
+unfolding inRange need
+worked-limits old = image-limits (fresh (limits 2 10 1 1)) old (fresh-fit (limits 2 10 1 1) refl) refl

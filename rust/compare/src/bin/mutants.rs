@@ -310,7 +310,7 @@ fn compare(settings: &Settings, program: &Path, look: &str) -> Result<Seen, Stri
     let said = String::from_utf8_lossy(&done.stdout).into_owned();
     match done.status.code() {
         Some(0) => Ok(Seen::Nothing(
-            between(&said, "\n", " events").unwrap_or_default(),
+            between(&said, "\n", " events in ").unwrap_or_default(),
         )),
         Some(1) => {
             let events = between(&said, "A difference after ", " events").unwrap_or_default();
