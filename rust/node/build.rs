@@ -20,6 +20,8 @@ const CALLS: &[&str] = &[
     "settle",
     "image",
     "open",
+    "need",
+    "image_limits",
     "revision",
     "is_empty",
     "deadline_due",

@@ -27,7 +27,7 @@ use Rattle.queue.specs.Opens.{limits, StoreAs, soundL, sound-list, AreaAs, Area
 use Rattle.queue.specs.Plain.{area-plain, image-plain}
 use Rattle.queue.specs.Bound.{fits-need, area-size, reads-image}
 use Rattle.queue.specs.paper.Records.{Bytes, Limits, Queue}
-use Rattle.queue.specs.paper.Sound.{need, sound?}
+use Rattle.queue.specs.paper.Sound.{need, inRange, sound?}
 use Rattle.queue.specs.paper.Area.{areaBytes, imageBytes, over}
 use Rattle.queue.specs.Checked.{written}
 use Rattle.queue.proofs.PutLaws.{splice-is, then, kept, recast, sized, Left, begun, onward, done}
@@ -35,7 +35,7 @@ use Rattle.queue.proofs.ByteLaws.{be-same}
 use Rattle.queue.proofs.Turns.{SeenIn, ReadsRec}
 use Rattle.image.specs.declared.text.Text.{Text}
 use Rattle.image.specs.Texts.{turned, turnedLen, TextAs, TextIs, StoreRoom, StorePut, AreaHeld, ImageLen, AreaRoom, AreaPut}
-use Rattle.image.specs.paper.Image.{imageOf, openOf}
+use Rattle.image.specs.paper.Image.{imageOf, openOf, Five, needOf, imageLimitsOf}
 
 -- ---- a text
 same-limits : (m : Limits) {p b t k : ℕ} → m .P ≡ p → m .B ≡ b → m .T ≡ t → m .K ≡ k → m ≡ limits p b t k
@@ -327,3 +327,21 @@ module _ {s : Bytes} {t : Text} (w : TextIs s t) (area : Bytes) where
       let z = area-size (u .0) (u .2 .sound) (u .2 .range) in
       let o : area′ ≡ over (areaBytes (u .0)) area = put-over (p (u .0) (u .2)) (omega (arith, u .2 .need)) in
       rw (u .1, ← (u .2 .need), le-ltb (length area) (t .need) h) (ap (written (Done Nothing)) o)
+
+-- ---- how much has to be lent
+pub need-1 : (m : Limits) (old : ℕ) → inRange m ≡ false → (Refused 1, old) ≡ needOf m old
+unfolding needOf
+need-1 m old e = rw e
+
+pub need-100 : (m : Limits) (old : ℕ) {n : ℕ} → inRange m ≡ true → n ≡ need m → (Done Nothing, n) ≡ needOf m old
+unfolding needOf
+need-100 m old e f = rw (e, f)
+
+module _ {s : Bytes} {t : Text} (w : TextIs s t) (old : Five) where
+  pub limits-16 : t .ok ≡ false → (Refused 16, old) ≡ imageLimitsOf s old
+  unfolding imageLimitsOf
+  limits-16 e = rw (w .bad e)
+
+  pub limits-100 : t .ok ≡ true → (Done Nothing, (t .open .head .p, (t .open .head .b, (t .open .head .t, (t .open .head .k, t .need))))) ≡ imageLimitsOf s old
+  unfolding imageLimitsOf
+  limits-100 e = let u = w .good e in let h = u .2 .store .head in rw (u .1, ← (u .2 .need), h .P, h .B, h .T, h .K)

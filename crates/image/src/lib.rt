@@ -4,6 +4,7 @@ use queue::Answer;
 use queue::Kind;
 use queue::area::Area;
 use queue::area::area_at;
+use queue::limits::Limits;
 use queue::put::fill_zero;
 use queue::put::put_be;
 use text::Text;
@@ -11,8 +12,9 @@ use text::text_at;
 ghost use mathlib.Core.Path.{_≡_};
 ghost use lib.ListN.{length};
 ghost use Rattle.queue.specs.Checked.{written};
+ghost use Rattle.queue.specs.Opens.{limits};
 ghost use Rattle.image.specs.Texts.{AreaHeld, ImageLen, AreaRoom, AreaPut};
-ghost use Rattle.image.specs.paper.Image.{imageOf, openOf};
+ghost use Rattle.image.specs.paper.Image.{imageOf, openOf, needOf, imageLimitsOf};
 
 pub mod frames;
 pub mod text;
@@ -70,5 +72,42 @@ pub fn open(text: &[u8], area: &mut [u8]) -> Answer
         return Answer::Refused(2);
     }
     put_area(text, t, area);
+    Answer::Done(Kind::Nothing)
+}
+
+// How many bytes an area needs under these limits. Refusal 1.
+pub fn area_need(p: u64, b: u64, t: u64, k: u64, value: &mut u64) -> Answer
+    ensures { λ r. ⌜ (r, now (value .exit)) ≡ needOf (limits p b t k) (now (value .entry)) ⌝ }
+{
+    if !Limits::check(p, b, t, k) {
+        return Answer::Refused(1);
+    }
+    let n = Limits::need(p, b, t, k);
+    *value = n as u64;
+    Answer::Done(Kind::Nothing)
+}
+
+// The limits of the queue whose image the text is, and how many bytes an area needs under them. Refusal 16, as opening.
+pub fn image_limits(
+    text: &[u8],
+    p: &mut u64,
+    b: &mut u64,
+    t: &mut u64,
+    k: &mut u64,
+    need: &mut u64,
+) -> Answer
+    ensures { λ r. ⌜ (r, (now (p .exit), (now (b .exit), (now (t .exit), (now (k .exit), now (need .exit)))))) ≡ imageLimitsOf (now (text .entry)) (now (p .entry), (now (b .entry), (now (t .entry), (now (k .entry), now (need .entry))))) ⌝ }
+{
+    let x = text_at(text);
+    if !x.ok {
+        return Answer::Refused(16);
+    }
+    let o = x.open;
+    let h = o.head;
+    *p = h.p;
+    *b = h.b;
+    *t = h.t;
+    *k = h.k;
+    *need = x.need as u64;
     Answer::Done(Kind::Nothing)
 }

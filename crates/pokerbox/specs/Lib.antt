@@ -6,3 +6,4 @@ pub mod Refusing
 pub mod Withdrawing
 pub mod Examples
 pub mod WithdrawnExamples
+pub mod Lending

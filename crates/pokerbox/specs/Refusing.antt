@@ -24,7 +24,7 @@ use Rattle.queue.specs.paper.Area.{imageBytes, over}
 use Rattle.queue.specs.paper.Changing.{Out, refused, done, top, topHeight, named?, reached?, Admission, pendings, pendingBytes, admitNew, admit, cancel, due?, expire, Reconciling, touch, reconcile, listed?, reopen, setCursor, ownOf, touchedRecs, toRelease}
 use Rattle.queue.specs.paper.Calls.{id?, entryBytes, idsBytes, releasedBytes, nothingBytes, items, given, Call, admitting, cancelling, expiring, reconciling, reopening, settingCursor, AdmitArgs, admission, ReconcileArgs, reconciliation, shape?, overK?, Worked, worked, rules, work, nextArea, onLent, callOf, freshOf, soundOf, settleShape?, settleOf, readOf, numberOf, lookUp, entryOf, signedPart, signedBytesOf}
 use Rattle.queue.specs.paper.Fees.{bestFees, candidates, sizeOf, feeOf, bestBytes, searchOf, budget?, bestFeesOf}
-use Rattle.image.specs.paper.Image.{imageOf, openOf}
+use Rattle.image.specs.paper.Image.{imageOf, openOf, Five, needOf, imageLimitsOf}
 use Rattle.pokerbox.specs.paper.Refusals.{Checks, firstOf, refusal, Answers, unsound?, on, answer, known?, ruleChecks, callChecks, settleChecks, feesChecks, Demand1}
 
 refused-17 : {n : ℕ} → Refused 17 ≡ Refused n → n ≡ 17
@@ -233,6 +233,18 @@ open-answers text area = go (readImage text) refl
     go none e = rw e (no 16 area _ refl)
     go (some q) e = cases (ltb (length area) (need (q .limits))) (λ t. rw (e, t) (no 2 area _ refl)) (λ t. rw (e, t) (yes Nothing _ area _ refl))
 
+need-answers : (m : Limits) (old : ℕ) → Answers (needOf m old) old ((1, not (inRange m)) ∷ [])
+unfolding needOf
+need-answers m old = cases (inRange m) (λ t. rw t (yes Nothing _ old _ refl)) (λ t. rw t (no 1 old _ refl))
+
+limits-answers : (text : Bytes) (old : Five) → Answers (imageLimitsOf text old) old ((16, not (isSome (readImage text))) ∷ [])
+unfolding imageLimitsOf
+limits-answers text old = go (readImage text) refl
+  where
+    go : (o : Option Queue) → readImage text ≡ o → Answers (imageLimitsOf text old) old ((16, not (isSome (readImage text))) ∷ [])
+    go none e = rw e (no 16 old _ refl)
+    go (some q) e = rw e (yes Nothing _ old _ refl)
+
 read-answers : (f : Queue → Bytes) (area out : Bytes) → Answers (readOf f area out) out (on area λ q. (4, ltb (length out) (length (f q))) ∷ [])
 unfolding readOf
 read-answers f area out = go (readArea area) refl
@@ -300,6 +312,8 @@ demand-1 = record {
   sound = sound-answers;
   image = image-answers;
   opening = open-answers;
+  need = need-answers;
+  limits = limits-answers;
   reading = read-answers;
   number = number-answers;
   entry = entry-answers;

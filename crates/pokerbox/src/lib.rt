@@ -38,7 +38,7 @@ ghost use Rattle.queue.specs.paper.Lists.{one, isEmpty?};
 ghost use Rattle.queue.specs.paper.Reading.{deadlineDue?, recordIds, guardedIds, reservedInputs, dueStates, confirmations};
 ghost use Rattle.queue.specs.paper.Calls.{number, kindNumber, gives, counted, entryBytes, idsBytes, placedBytes, dueBytes, cursorBytes, admitArgs, reconcileArgs, admitting, cancelling, expiring, reconciling, reopening, settingCursor, callOf, freshOf, soundOf, settleOf, readOf, numberOf, entryOf, signedBytesOf, selectionAtOf};
 ghost use Rattle.queue.specs.paper.Fees.{bestFeesOf};
-ghost use Rattle.image.specs.paper.Image.{imageOf, openOf};
+ghost use Rattle.image.specs.paper.Image.{imageOf, openOf, needOf, imageLimitsOf};
 
 fn kind_number(k: Kind) -> u64
     ensures { λ r. ⌜ (r ≡ kindNumber k) × (r ≤ 3) ⌝ }
@@ -231,6 +231,29 @@ pub extern "C" fn pokerbox_open(text: &[u8], area: &mut [u8]) -> u64
     ensures { λ r. ⌜ (r, now (area .exit)) ≡ gives (openOf (now (text .entry)) (now (area .entry))) ⌝ }
 {
     number(image::open(text, area))
+}
+
+// How many bytes an area needs under these limits. 1.
+#[no_mangle]
+pub extern "C" fn pokerbox_need(p: u64, b: u64, t: u64, k: u64, value: &mut u64) -> u64
+    ensures { λ r. ⌜ (r, now (value .exit)) ≡ gives (needOf (limits p b t k) (now (value .entry))) ⌝ }
+{
+    number(image::area_need(p, b, t, k, value))
+}
+
+// The limits of an image's queue, and how many bytes an area needs under them. 16.
+#[no_mangle]
+pub extern "C" fn pokerbox_image_limits(
+    text: &[u8],
+    p: &mut u64,
+    b: &mut u64,
+    t: &mut u64,
+    k: &mut u64,
+    need: &mut u64,
+) -> u64
+    ensures { λ r. ⌜ (r, (now (p .exit), (now (b .exit), (now (t .exit), (now (k .exit), now (need .exit)))))) ≡ gives (imageLimitsOf (now (text .entry)) (now (p .entry), (now (b .entry), (now (t .entry), (now (k .entry), now (need .entry)))))) ⌝ }
+{
+    number(image::image_limits(text, p, b, t, k, need))
 }
 
 // The entry of an id. 3, 5, 13, 4.

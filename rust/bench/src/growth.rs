@@ -154,6 +154,9 @@ impl Lent {
         timed!("settle", raw::settle(area, next, 2, 0));
         timed!("image", raw::image(area, out, &mut 0));
         timed!("open", raw::open(&self.image, next));
+        let [p, b, t, k, need] = &mut [0; 5];
+        let image = &self.image;
+        timed!("image_limits", raw::image_limits(image, p, b, t, k, need));
         rows
     }
 }

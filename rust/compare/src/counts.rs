@@ -14,6 +14,25 @@ pub struct Counts {
     /// Best fees, by the number given back.
     fees: BTreeMap<u64, u64>,
     pub cuts_between_calls: u64,
+    pub withdrawn: Withdrawn,
+}
+
+/// How often the oracle had something to keep out of its selections (document 02, P1).
+#[derive(Debug, Clone, Copy, Default)]
+pub struct Withdrawn {
+    /// After which some id was withdrawn and not admitted since.
+    pub events: u64,
+    /// Withdrawn by a write that was kept or cut after its rename.
+    pub ids: u64,
+    /// Those by a write that was cut after its rename.
+    pub ids_by_cut: u64,
+    /// Those that T made the call forget.
+    pub forgotten_at_once: u64,
+    /// Admitted after that, by a write that was kept or cut after its rename.
+    pub admitted: u64,
+    pub admitted_by_cut: u64,
+    /// Admissions of such ids that were answered without a write.
+    pub kind_0: u64,
 }
 
 impl Counts {
@@ -84,6 +103,25 @@ impl fmt::Display for Counts {
             .iter()
             .map(|(number, count)| format!("{number}: {count}"))
             .collect();
-        writeln!(f, "  best_fees: {}", fees.join(", "))
+        writeln!(f, "  best_fees: {}", fees.join(", "))?;
+        writeln!(f, "  {}", self.withdrawn)
+    }
+}
+
+impl fmt::Display for Withdrawn {
+    fn fmt(&self, f: &mut fmt::Formatter<'_>) -> fmt::Result {
+        write!(
+            f,
+            "withdrawn ids, in no selection: some after {} events; {} withdrawn ({} by a write cut after \
+             its rename, {} forgotten in the same call), {} admitted again ({} by a write cut after its \
+             rename), {} admissions of kind 0",
+            self.events,
+            self.ids,
+            self.ids_by_cut,
+            self.forgotten_at_once,
+            self.admitted,
+            self.admitted_by_cut,
+            self.kind_0
+        )
     }
 }

@@ -7,7 +7,7 @@ use model::random::{self, Rng};
 use model::rules::{reserved_inputs, Admission, Reconciliation};
 use model::{Confirmation, Height, Id, Limits, Queue, Record, TimeMs};
 
-use crate::list::{Call, Event, List, Start, Write};
+use crate::list::{Call, Event, List, Look, Start, Write};
 use crate::side::Fees;
 
 /// A list without events.
@@ -25,6 +25,7 @@ pub fn list(rng: &mut Rng, limits: Limits) -> List {
         probe,
         // The other draws stay what they are.
         fees: rng.clone().u64(),
+        look: Look::All,
     }
 }
 
@@ -38,6 +39,7 @@ pub fn fees_list(rng: &mut Rng) -> List {
         events: Vec::new(),
         probe: (random::time(rng), random::height(rng)),
         fees: rng.u64(),
+        look: Look::All,
     }
 }
 

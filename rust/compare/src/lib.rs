@@ -6,6 +6,7 @@
 //! - [`side`]: the calls, by the library or by the model.
 //! - [`unit`]: runs events on areas as a node does.
 //! - [`oracle`]: runs events on the oracle.
+//! - [`withdrawn`]: which ids may not be selected.
 //! - [`run`]: compares the two after each event.
 //! - [`fixed`]: the fixed list that a Rattle program replays.
 //! - [`shrink`]: makes a list that shows a difference smaller.
@@ -19,3 +20,4 @@ pub mod run;
 pub mod shrink;
 pub mod side;
 pub mod unit;
+pub mod withdrawn;

@@ -87,6 +87,16 @@ pub struct List {
     pub probe: (TimeMs, Height),
     /// The seed of what best fees is asked, at the start and after each event.
     pub fees: u64,
+    pub look: Look,
+}
+
+/// What is looked at after each event.
+#[derive(Debug, Clone, Copy, PartialEq, Eq)]
+pub enum Look {
+    /// All that can be seen on both, and what `Withdrawn` looks at.
+    All,
+    /// Whether one of them, by its own answers and writes, selects a withdrawn id (document 02, P1).
+    Withdrawn,
 }
 
 impl fmt::Display for List {

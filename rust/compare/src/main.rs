@@ -6,6 +6,7 @@ use std::process::ExitCode;
 use std::time::{Duration, Instant};
 
 use compare::counts::Counts;
+use compare::list::Look;
 use compare::run;
 use compare::shrink::shrink;
 use compare::side::{Library, Model, Side};
@@ -13,13 +14,15 @@ use model::Limits;
 
 const USAGE: &str = "\
 usage: compare [--seed N] [--steps N] [--seconds N] [--limits P,B,T,K] [--side library|model]
-               [--dir DIR]
+               [--look all|withdrawn] [--dir DIR]
 
   --seed     the first list's seed (1); the others follow
   --steps    stop after so many events (100000)
   --seconds  stop after so many seconds
   --limits   these limits for every list, in place of random ones
   --side     what is compared with the oracle (library)
+  --look     what is looked at after each event (all); withdrawn: only whether one of them, by its
+             own answers and writes, selects a withdrawn id
   --dir      where the oracle has its files: best a folder in memory (the temporary folder)";
 
 struct Settings {
@@ -28,6 +31,7 @@ struct Settings {
     seconds: Option<u64>,
     limits: Option<Limits>,
     model: bool,
+    look: Look,
     folder: PathBuf,
 }
 
@@ -68,6 +72,7 @@ fn settings(mut arguments: impl Iterator<Item = String>) -> Result<Settings, Str
         seconds: None,
         limits: None,
         model: false,
+        look: Look::All,
         folder: std::env::temp_dir(),
     };
     while let Some(name) = arguments.next() {
@@ -81,6 +86,7 @@ fn settings(mut arguments: impl Iterator<Item = String>) -> Result<Settings, Str
             }
             "--limits" => settings.limits = Some(limits(&value)?),
             "--side" => settings.model = is_model(&value)?,
+            "--look" => settings.look = look(&value)?,
             "--dir" => settings.folder = PathBuf::from(value),
             _ => return Err(format!("{name} is no option")),
         }
@@ -108,6 +114,14 @@ fn is_model(text: &str) -> Result<bool, String> {
     }
 }
 
+fn look(text: &str) -> Result<Look, String> {
+    match text {
+        "all" => Ok(Look::All),
+        "withdrawn" => Ok(Look::Withdrawn),
+        _ => Err(format!("{text} is neither all nor withdrawn")),
+    }
+}
+
 /// Whether no difference was found.
 fn compare<S: Side>(side: &S, settings: &Settings, folder: &std::path::Path) -> bool {
     let start = Instant::now();
@@ -116,7 +130,8 @@ fn compare<S: Side>(side: &S, settings: &Settings, folder: &std::path::Path) -> 
     let mut shown = start;
     let mut seed = settings.seed;
     while counts.steps < settings.steps && end.is_none_or(|end| start.elapsed() < end) {
-        if let Err(found) = run::seed(side, folder, seed, settings.limits, &mut counts) {
+        let (limits, look) = (settings.limits, settings.look);
+        if let Err(found) = run::seed(side, folder, seed, limits, look, &mut counts) {
             println!(
                 "A difference after {} events, in the list with seed {seed}; the smallest list found:",
                 counts.steps

@@ -9,10 +9,11 @@ use model::{calls, image, Height, Id, Limits, Queue, Record, TimeMs};
 
 use crate::counts::Counts;
 use crate::generate;
-use crate::list::{Call, Event, List, Short, Write};
+use crate::list::{Call, Event, List, Look, Short, Write};
 use crate::oracle::{self, Oracle};
 use crate::side::{Fees, Model, Reading, Side};
-use crate::unit::{self, Unit, UNTOUCHED};
+use crate::unit::{self, ids_of, Fault, Unit, UNTOUCHED};
+use crate::withdrawn::{History, Moved};
 
 /// Refusals outside the domain of demand 2 that lists meet: the oracle is not asked.
 const OUTSIDE: [u64; 1] = [15];
@@ -39,9 +40,26 @@ impl fmt::Display for Difference {
 pub struct Pair<'a, S: Side> {
     unit: Unit<'a, S>,
     oracle: Oracle,
+    withdrawn: Histories,
+    look: Look,
     probe: (TimeMs, Height),
     fees: u64,
     at: usize,
+}
+
+/// Which ids were withdrawn, by the answers and the writes of each by itself.
+#[derive(Default)]
+struct Histories {
+    unit: History,
+    oracle: History,
+}
+
+/// What both made of an event.
+enum Made {
+    Opened,
+    Call(unit::Done, oracle::Done),
+    /// A call that the oracle is not asked: the number, and the model's.
+    Outside(u64, u64),
 }
 
 impl<'a, S: Side> Pair<'a, S> {
@@ -52,6 +70,8 @@ impl<'a, S: Side> Pair<'a, S> {
             (Ok(unit), Ok(oracle)) => Ok(Pair {
                 unit,
                 oracle,
+                withdrawn: Histories::default(),
+                look: list.look,
                 probe: list.probe,
                 fees: list.fees,
                 at: 0,
@@ -67,8 +87,12 @@ impl<'a, S: Side> Pair<'a, S> {
 
     /// Compares what the list begins with.
     fn start(&self, counts: &mut Counts) -> Result<(), Difference> {
+        if self.look == Look::Withdrawn {
+            return Ok(());
+        }
         let queue = self.unit.queue().map_err(|fault| self.fault(fault))?;
         self.same("the queue", &queue, &self.oracle.queue())?;
+        self.need(&queue.limits, counts)?;
         self.fees(&queue, counts)
     }
 
@@ -77,19 +101,94 @@ impl<'a, S: Side> Pair<'a, S> {
         self.oracle.queue()
     }
 
+    /// Whether the id was withdrawn and not admitted since, by each one's history.
+    pub fn withdrawn(&self, id: &Id) -> [bool; 2] {
+        [&self.withdrawn.unit, &self.withdrawn.oracle].map(|history| history.has(id))
+    }
+
     /// Runs one event on both and compares all that can be seen.
     pub fn event(&mut self, event: &Event, counts: &mut Counts) -> Result<(), Difference> {
         counts.steps += 1;
-        match event {
+        let made = match event {
             Event::Cut => {
                 counts.cuts_between_calls += 1;
+                self.withdrawn.unit.cut();
+                self.withdrawn.oracle.cut();
                 let (unit, oracle) = (self.unit.restart(), self.oracle.restart());
                 self.same("opening after a cut", unit, oracle)?;
+                Made::Opened
             }
-            Event::Call(call, write) => self.call(call, *write, counts)?,
+            Event::Call(call, write) => {
+                let made = self.make(call, *write, counts);
+                made.map_err(|fault| self.fault(fault))?
+            }
+        };
+        self.selections(counts)?;
+        if self.look == Look::All {
+            self.made(event, &made)?;
+            self.queues(counts)?;
         }
-        self.queues(counts)?;
         self.at += 1;
+        Ok(())
+    }
+
+    /// Makes the call on both, and enters into each one's history what it answered.
+    fn make(&mut self, call: &Call, write: Write, counts: &mut Counts) -> Result<Made, Fault> {
+        let before = self.unit.queue()?;
+        let done = self.unit.call(call, write)?;
+        count(call, write, &done, counts);
+        if OUTSIDE.contains(&done.number) {
+            return Ok(Made::Outside(done.number, model_number(call, &before)));
+        }
+        let oracle = self.oracle.call(call, write)?;
+        if matches!(done.kind, Some(2 | 3)) {
+            let history = &mut self.withdrawn.unit;
+            history.written(call, &done.out, write)?;
+        }
+        if oracle.wrote {
+            let history = &mut self.withdrawn.oracle;
+            let moved = history.written(call, &oracle.answer, write)?;
+            self.count_moved(&moved, write, counts);
+        } else if let (Call::Admit(given), 100) = (call, oracle.number) {
+            counts.withdrawn.kind_0 += u64::from(self.withdrawn.oracle.has(&given.id));
+        }
+        Ok(Made::Call(done, oracle))
+    }
+
+    fn count_moved(&self, moved: &Moved, write: Write, counts: &mut Counts) {
+        let counts = &mut counts.withdrawn;
+        let (withdrawn, admitted) = (moved.withdrawn.len() as u64, moved.admitted.len() as u64);
+        counts.ids += withdrawn;
+        counts.admitted += admitted;
+        if write == Write::CutAfterRename {
+            counts.ids_by_cut += withdrawn;
+            counts.admitted_by_cut += admitted;
+        }
+        let absent = |id: &&Id| self.oracle.entry(id).is_err();
+        counts.forgotten_at_once += moved.withdrawn.iter().filter(absent).count() as u64;
+    }
+
+    /// Neither selects an id that it withdrew and did not admit since. At time 0 and height 0 the
+    /// selection has all others.
+    fn selections(&self, counts: &mut Counts) -> Result<(), Difference> {
+        counts.withdrawn.events += u64::from(!self.withdrawn.oracle.is_empty());
+        let at = Reading::SelectionEntriesAt(self.probe.0 .0, self.probe.1 .0);
+        for reading in [Reading::SelectionEntries, at] {
+            let unit = self.unit.selected(reading);
+            let unit = unit.map_err(|fault| self.fault(fault))?;
+            let oracle = ids_of(&self.oracle.read(reading));
+            let oracle = oracle.ok_or_else(|| self.fault("no selection of the oracle".into()))?;
+            let unit = self.withdrawn.unit.wrong(&unit);
+            let oracle = self.withdrawn.oracle.wrong(&oracle);
+            if !unit.is_empty() || !oracle.is_empty() {
+                return Err(Difference {
+                    at: self.at,
+                    what: format!("withdrawn ids in {}", reading.name()),
+                    side: Short(unit).to_string(),
+                    oracle: Short(oracle).to_string(),
+                });
+            }
+        }
         Ok(())
     }
 
@@ -110,17 +209,26 @@ impl<'a, S: Side> Pair<'a, S> {
         })
     }
 
-    fn call(&mut self, call: &Call, write: Write, counts: &mut Counts) -> Result<(), Difference> {
-        let before = self.unit.queue().map_err(|fault| self.fault(fault))?;
-        let done = self.unit.call(call, write);
-        let done = done.map_err(|fault| self.fault(fault))?;
-        count(call, write, &done, counts);
-        if OUTSIDE.contains(&done.number) {
-            let model = model_number(call, &before);
-            return self.same("a refusal that the oracle has not", done.number, model);
+    /// Both made the same of the event.
+    fn made(&self, event: &Event, made: &Made) -> Result<(), Difference> {
+        match (made, event) {
+            (Made::Call(done, oracle), Event::Call(call, write)) => {
+                self.call(call, *write, done, oracle)
+            }
+            (Made::Outside(number, model), _) => {
+                self.same("a refusal that the oracle has not", number, model)
+            }
+            (Made::Opened | Made::Call(..), _) => Ok(()),
         }
-        let oracle = self.oracle.call(call, write);
-        let oracle = oracle.map_err(|fault| self.fault(fault))?;
+    }
+
+    fn call(
+        &self,
+        call: &Call,
+        write: Write,
+        done: &unit::Done,
+        oracle: &oracle::Done,
+    ) -> Result<(), Difference> {
         self.same("power was cut", done.cut, oracle.cut)?;
         if !done.cut {
             self.same("the number given back", done.number, oracle.number)?;
@@ -128,7 +236,7 @@ impl<'a, S: Side> Pair<'a, S> {
         let wrote = matches!(done.kind, Some(2 | 3));
         self.same("a write was due", wrote, oracle.wrote)?;
         if done.number == 100 && !done.cut {
-            self.answers(call, &done, &oracle)?;
+            self.answers(call, done, oracle)?;
         }
         if wrote && matches!(write, Write::Kept | Write::CutAfterRename) {
             let image = image::encode(&self.oracle.queue());
@@ -167,14 +275,53 @@ impl<'a, S: Side> Pair<'a, S> {
         self.same("transactions not found", Oracle::failed(), 0)?;
         self.readings(&queue, counts)?;
         self.fees(&queue, counts)?;
-        self.stored(&queue)
+        self.stored(&queue, counts)
+    }
+
+    /// The need of limits, which the oracle has not, is judged by the model: of the list's limits, and
+    /// of those where one is at an end of its range or beyond it.
+    fn need(&self, limits: &Limits, counts: &mut Counts) -> Result<(), Difference> {
+        let limits = limits.numbers();
+        let tops = Limits::MAX.numbers();
+        let ends = (0..4).flat_map(|at| [0, 1, tops[at], tops[at] + 1].map(|end| (at, end)));
+        for (at, end) in ends.chain([(0, limits[0])]) {
+            let mut limits = limits;
+            limits[at] = end;
+            let mut value = UNTOUCHED.into();
+            let number = Model.need(limits, &mut value);
+            let what = "the answer of need";
+            self.same(
+                what,
+                (limits, self.unit.need(limits)),
+                (limits, (number, value)),
+            )?;
+            counts.reading("need");
+        }
+        Ok(())
+    }
+
+    /// The limits and the need of an image, which the oracle has not, are judged by the model: of the
+    /// stored one, and of that one with a byte that is another.
+    fn image_limits(&self, text: &[u8], counts: &mut Counts) -> Result<(), Difference> {
+        let mut wrong = text.to_vec();
+        let at = self.at.wrapping_mul(7) % text.len();
+        wrong[at] = b"0f1\n8A"[self.at % 6];
+        for text in [text, &wrong] {
+            let mut numbers = [UNTOUCHED.into(); 5];
+            let number = Model.image_limits(text, &mut numbers);
+            let answer = self.unit.image_limits(text);
+            self.same("the answer of image_limits", answer, (number, numbers))?;
+            counts.reading("image_limits");
+        }
+        Ok(())
     }
 
     /// The stored image is that of a sound queue with these records.
-    fn stored(&self, queue: &Queue) -> Result<(), Difference> {
+    fn stored(&self, queue: &Queue, counts: &mut Counts) -> Result<(), Difference> {
         let Some(text) = &self.unit.stored else {
             return Ok(());
         };
+        self.image_limits(text, counts)?;
         let opened = image::decode(text);
         let Some(opened) = opened else {
             return Err(self.fault("the stored image is not that of a sound queue".into()));
@@ -280,14 +427,6 @@ fn model_fees(area: &[u8], asked: &Fees) -> (u64, Vec<u8>) {
     (number, out)
 }
 
-/// The ids behind their count; nothing where they are not all there.
-fn ids_of(bytes: &[u8]) -> Option<Vec<Id>> {
-    let (count, ids) = bytes.split_first_chunk()?;
-    let count = u32::from_be_bytes(*count) as usize;
-    let (ids, _) = ids.split_at_checked(32 * count)?.0.as_chunks::<32>();
-    Some(ids.to_vec())
-}
-
 /// An output of so many bytes that held this answer.
 fn padded(answer: &[u8], length: usize) -> Vec<u8> {
     let mut out = answer.to_vec();
@@ -353,11 +492,15 @@ pub fn seed<S: Side>(
     folder: &Path,
     seed: u64,
     limits: Option<Limits>,
+    look: Look,
     counts: &mut Counts,
 ) -> Result<(), Found> {
     let mut rng = Rng::new(seed);
     let limits = limits.unwrap_or_else(|| generate::limits(&mut rng));
-    random_list(side, folder, &mut rng, limits, counts)?;
+    random_list(side, folder, &mut rng, limits, look, counts)?;
+    if look == Look::Withdrawn {
+        return Ok(());
+    }
     let list = generate::fees_list(&mut Rng::new(seed));
     started(side, folder, &list, counts).map(|_| ())
 }
@@ -368,9 +511,11 @@ fn random_list<S: Side>(
     folder: &Path,
     rng: &mut Rng,
     limits: Limits,
+    look: Look,
     counts: &mut Counts,
 ) -> Result<(), Found> {
     let mut list = generate::list(rng, limits);
+    list.look = look;
     // Long lists in small areas; a few events where each takes long.
     let length = if limits.need() > 1_000_000 {
         1 + rng.below(10)

@@ -32,6 +32,11 @@ pub trait Side {
 
     fn open(&self, text: &[u8], area: &mut [u8]) -> u64;
 
+    fn need(&self, limits: [u64; 4], value: &mut u64) -> u64;
+
+    /// P, B, T, K and the need.
+    fn image_limits(&self, text: &[u8], numbers: &mut [u64; 5]) -> u64;
+
     fn sound(&self, area: &[u8]) -> u64;
 
     fn entry(&self, area: &[u8], id: &[u8], out: &mut [u8]) -> u64;
@@ -175,6 +180,14 @@ impl Side for Model {
 
     fn open(&self, text: &[u8], area: &mut [u8]) -> u64 {
         calls::open(text, area)
+    }
+
+    fn need(&self, [p, b, t, k]: [u64; 4], value: &mut u64) -> u64 {
+        calls::need(p, b, t, k, value)
+    }
+
+    fn image_limits(&self, text: &[u8], [p, b, t, k, need]: &mut [u64; 5]) -> u64 {
+        calls::image_limits(text, p, b, t, k, need)
     }
 
     fn sound(&self, area: &[u8]) -> u64 {
@@ -322,6 +335,14 @@ impl Side for Library {
 
     fn open(&self, text: &[u8], area: &mut [u8]) -> u64 {
         number(raw::open(text, area))
+    }
+
+    fn need(&self, [p, b, t, k]: [u64; 4], value: &mut u64) -> u64 {
+        number(raw::need(p, b, t, k, value))
+    }
+
+    fn image_limits(&self, text: &[u8], [p, b, t, k, need]: &mut [u64; 5]) -> u64 {
+        number(raw::image_limits(text, p, b, t, k, need))
     }
 
     fn sound(&self, area: &[u8]) -> u64 {

@@ -19,7 +19,7 @@ pub struct Done {
     pub number: u64,
     /// The kind, unless the call was refused by another number than 17.
     pub kind: Option<u64>,
-    /// The whole output; empty after a refusal, 17 among them, or a cut.
+    /// The whole output, as the call left it before its write; empty after a refusal, 17 among them.
     pub out: Vec<u8>,
     /// Power was cut; the queue was opened again.
     pub cut: bool,
@@ -158,7 +158,7 @@ impl<'s, S: Side> Unit<'s, S> {
                 self.restart()?;
                 Ok(Done {
                     cut: true,
-                    ..done(100, Some(kind), Vec::new())
+                    ..done(100, Some(kind), out)
                 })
             }
         }
@@ -186,12 +186,33 @@ impl<'s, S: Side> Unit<'s, S> {
         Self::output(length, |out| self.side.read(reading, &self.current, out))
     }
 
+    /// The ids that a selection has. No queue has more records than there is room for.
+    pub fn selected(&self, reading: Reading) -> Result<Vec<Id>, Fault> {
+        let limits = &self.first_limits;
+        let length = 4 + 32 * (2 * limits.pending + limits.tombstones) as usize;
+        let answer = self.read(reading, length);
+        let answer = answer.map_err(|number| format!("{} gave back {number}", reading.name()))?;
+        ids_of(&answer).ok_or(format!("{} is not whole", reading.name()))
+    }
+
     pub fn entry(&self, id: &Id, length: usize) -> Result<Vec<u8>, u64> {
         Self::output(length, |out| self.side.entry(&self.current, id, out))
     }
 
     pub fn best_fees(&self, asked: &Fees, length: usize) -> Result<Vec<u8>, u64> {
         Self::output(length, |out| self.side.best_fees(&self.current, asked, out))
+    }
+
+    /// The number given back, and what stands behind the pointer.
+    pub fn need(&self, limits: [u64; 4]) -> (u64, u64) {
+        let mut value = UNTOUCHED.into();
+        (self.side.need(limits, &mut value), value)
+    }
+
+    /// The number given back, and what stands behind the five pointers.
+    pub fn image_limits(&self, text: &[u8]) -> (u64, [u64; 5]) {
+        let mut numbers = [UNTOUCHED.into(); 5];
+        (self.side.image_limits(text, &mut numbers), numbers)
     }
 
     pub fn signed_bytes(&self, id: &Id) -> Result<&[u8], u64> {
@@ -226,6 +247,14 @@ fn expect(call: &str, number: u64, expected: u64) -> Result<(), Fault> {
         return Err(format!("{call} gave back {number}, not {expected}"));
     }
     Ok(())
+}
+
+/// The ids behind their count; nothing where they are not all there.
+pub(crate) fn ids_of(bytes: &[u8]) -> Option<Vec<Id>> {
+    let (count, ids) = bytes.split_first_chunk()?;
+    let count = u32::from_be_bytes(*count) as usize;
+    let (ids, _) = ids.split_at_checked(32 * count)?.0.as_chunks::<32>();
+    Some(ids.to_vec())
 }
 
 /// What `admit` is given for this admission; its inputs and outputs one after the other.

@@ -1,5 +1,5 @@
-//! Document 01's bench cards and the points that it leaves to the Rust, each run on the model and
-//! the oracle, with what is expected written out.
+//! Document 01's bench cards, the points that it leaves to the Rust, and examples for document 02's
+//! P1, each run on the model and the oracle, with what is expected written out.
 
 mod common;
 
@@ -7,7 +7,7 @@ use std::collections::{BTreeMap, BTreeSet};
 
 use common::Folder;
 use compare::counts::Counts;
-use compare::list::{Call, Event, List, Start, Write};
+use compare::list::{Call, Event, List, Look, Start, Write};
 use compare::run::Pair;
 use compare::side::Model;
 use model::rules::{Admission, Reconciliation};
@@ -35,6 +35,7 @@ impl Cards {
             events: Vec::new(),
             probe: (TimeMs(0), Height(0)),
             fees: 0,
+            look: Look::All,
         };
         let pair = Pair::new(&Model, folder.path(), &list).map_err(|found| found.to_string());
         Cards {
@@ -58,8 +59,22 @@ impl Cards {
         self.counts.only_answer()
     }
 
+    /// Power is cut between two calls.
+    fn cut(&mut self) {
+        if let Err(found) = self.pair.event(&Event::Cut, &mut self.counts) {
+            panic!("{found}");
+        }
+    }
+
     fn queue(&self) -> Queue {
         self.pair.queue()
+    }
+
+    /// Whether the id may not be selected; the comparison looks at that after each event.
+    fn withdrawn(&self, id: Id) -> bool {
+        let [model, oracle] = self.pair.withdrawn(&id);
+        assert_eq!(model, oracle);
+        oracle
     }
 
     fn state(&self, id: Id) -> (State, Reason) {
@@ -283,5 +298,93 @@ fn an_applied_height_above_the_call_has_depth_0() {
         cards.call(reconcile(2, &[(A, 7, T1)], window));
         let queue = cards.queue();
         assert_eq!(queue.record(&A).unwrap().holder.is_none(), released);
+    }
+}
+
+#[test]
+fn withdrawn_it_stays_so_through_a_confirmation_and_an_admission_of_kind_0() {
+    let mut cards = Cards::new("withdrawn-kind-0", [2, 10, 1, 1], None);
+    cards.call(admit(A, 1, 6));
+    assert!(!cards.withdrawn(A));
+    cards.call(Call::Cancel(A));
+    assert!(cards.withdrawn(A));
+    cards.call(reconcile(2, &[(A, 2, T1)], 9));
+    assert_eq!(cards.call(admit(A, 1, 6)), "kind 0");
+    assert_eq!(cards.counts.withdrawn.kind_0, 1);
+    assert_eq!(cards.call(reopen(A)), "kind 2");
+    assert!(cards.withdrawn(A));
+    assert_eq!(cards.state(A), (State::Cancelled, Reason::Cancelled));
+}
+
+#[test]
+fn expired_under_t_1_the_forgotten_one_is_withdrawn_too() {
+    let mut cards = Cards::new("withdrawn-forgotten", [2, 10, 1, 1], None);
+    for (id, input) in [(A, 1), (B, 2)] {
+        let mut given = admission(id, input, 1);
+        given.time_deadline = Some(TimeMs(6));
+        cards.call(Call::Admit(given));
+    }
+    assert_eq!(cards.call(Call::Expire(TimeMs(6), Height(0))), "kind 2");
+    assert_eq!(cards.counts.withdrawn.forgotten_at_once, 1);
+    assert!(cards.withdrawn(A) && cards.withdrawn(B));
+    assert!(cards.queue().record(&A).is_none());
+    // A block, a rollback and a cut bring nothing back.
+    cards.call(reconcile(2, &[(A, 2, T1)], 9));
+    cards.call(reopen(A));
+    cards.cut();
+    assert!(cards.withdrawn(A) && cards.queue().record(&A).is_none());
+    assert_eq!(cards.call(admit(A, 1, 1)), "kind 2");
+    assert!(!cards.withdrawn(A) && cards.withdrawn(B));
+}
+
+#[test]
+fn a_withdrawal_counts_once_its_image_is_in_place() {
+    for (write, counts) in [
+        (Write::Kept, true),
+        (Write::NotCreated, false),
+        (Write::NotRenamed, false),
+        (Write::CutBeforeRename, false),
+        (Write::CutAfterRename, true),
+    ] {
+        let mut cards = Cards::new("withdrawn-writes", [2, 10, 1, 1], None);
+        cards.call(admit(A, 1, 6));
+        cards.with_write(Call::Cancel(A), write);
+        assert_eq!(cards.withdrawn(A), counts, "{}", write.name());
+        let state = if counts {
+            State::Cancelled
+        } else {
+            State::Queued
+        };
+        assert_eq!(cards.state(A).0, state);
+        // A second one is of kind 0, and changes nothing.
+        if counts {
+            assert_eq!(cards.call(Call::Cancel(A)), "kind 0");
+            assert!(cards.withdrawn(A));
+        }
+    }
+}
+
+#[test]
+fn an_admission_ends_it_once_its_image_is_in_place() {
+    for (write, ends) in [
+        (Write::Kept, true),
+        (Write::NotCreated, false),
+        (Write::NotRenamed, false),
+        (Write::CutBeforeRename, false),
+        (Write::CutAfterRename, true),
+    ] {
+        let mut cards = Cards::new("admitted-writes", [2, 10, 1, 1], None);
+        cards.call(admit(A, 1, 6));
+        cards.call(Call::Cancel(A));
+        cards.with_write(admit(A, 1, 6), write);
+        assert_eq!(cards.withdrawn(A), !ends, "{}", write.name());
+        cards.cut();
+        assert_eq!(cards.withdrawn(A), !ends, "{}, then a cut", write.name());
+        let state = if ends {
+            State::Queued
+        } else {
+            State::Cancelled
+        };
+        assert_eq!(cards.state(A).0, state);
     }
 }

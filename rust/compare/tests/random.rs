@@ -2,26 +2,34 @@
 
 mod common;
 
+use std::ops::Range;
+
 use common::Folder;
 use compare::counts::Counts;
-use compare::list::List;
+use compare::list::{List, Look};
 use compare::run::{self, Difference, Found};
 use compare::shrink::shrink;
 use compare::side::{Fees, Library, Model, Reading, Side};
 use model::calls::{self, AdmitArgs, ReconcileArgs};
+use model::{FinishNumber, Holder, Reason, Record, State};
 
-/// Runs random lists; the first one that shows a difference.
-fn lists<S: Side>(side: &S, folder: &Folder, count: u64) -> Result<Counts, Found> {
+/// Runs the random lists of these seeds; the first one that shows a difference.
+fn lists<S: Side>(
+    side: &S,
+    folder: &Folder,
+    seeds: Range<u64>,
+    look: Look,
+) -> Result<Counts, Found> {
     let mut counts = Counts::default();
-    for seed in 0..count {
-        run::seed(side, folder.path(), seed, None, &mut counts)?;
+    for seed in seeds {
+        run::seed(side, folder.path(), seed, None, look, &mut counts)?;
     }
     Ok(counts)
 }
 
-fn no_difference<S: Side>(side: &S, name: &str, count: u64) -> Counts {
+fn no_difference<S: Side>(side: &S, name: &str, seeds: Range<u64>, look: Look) -> Counts {
     let folder = Folder::new(name);
-    match lists(side, &folder, count) {
+    match lists(side, &folder, seeds, look) {
         Ok(counts) => counts,
         Err(found) => {
             let (list, found) = shrink(side, folder.path(), *found);
@@ -32,7 +40,7 @@ fn no_difference<S: Side>(side: &S, name: &str, count: u64) -> Counts {
 
 #[test]
 fn the_model_answers_as_the_oracle() {
-    let counts = no_difference(&Model, "model", 150);
+    let counts = no_difference(&Model, "model", 0..150, Look::All);
     let met = [
         (
             "admit",
@@ -54,8 +62,22 @@ fn the_model_answers_as_the_oracle() {
 
 #[test]
 fn the_library_answers_as_the_oracle() {
-    let counts = no_difference(&Library, "library", 100);
+    // The gate's run begins with these.
+    let counts = no_difference(&Library, "library", 1..101, Look::All);
     assert_eq!(counts.met_by_fees(), [4, 5, 21, 100]);
+    // What may not be selected was there, in each of the ways in which it comes and goes.
+    let met = counts.withdrawn;
+    assert!(met.events > counts.steps / 4, "{met}");
+    assert!(met.ids > met.ids_by_cut, "{met}");
+    assert!(met.admitted > met.admitted_by_cut, "{met}");
+    for count in [
+        met.ids_by_cut,
+        met.forgotten_at_once,
+        met.admitted_by_cut,
+        met.kind_0,
+    ] {
+        assert!(count > 0, "{met}");
+    }
 }
 
 type BestFees = fn(&[u8], &Fees, &mut [u8]) -> u64;
@@ -65,6 +87,8 @@ struct Faulty {
     settle: fn(&[u8], &mut [u8], u64, u64) -> u64,
     cancel: fn(&[u8], &mut [u8], &[u8], &mut [u8]) -> u64,
     open: fn(&[u8], &mut [u8]) -> u64,
+    need: fn([u64; 4], &mut u64) -> u64,
+    image_limits: fn(&[u8], &mut [u64; 5]) -> u64,
     read: fn(Reading, &[u8], &mut [u8]) -> u64,
     best_fees: BestFees,
 }
@@ -73,6 +97,8 @@ const RIGHT: Faulty = Faulty {
     settle: calls::settle,
     cancel: calls::cancel,
     open: calls::open,
+    need: |limits, value| Model.need(limits, value),
+    image_limits: |text, numbers| Model.image_limits(text, numbers),
     read: |reading, area, out| Model.read(reading, area, out),
     best_fees: |area, asked, out| Model.best_fees(area, asked, out),
 };
@@ -124,6 +150,14 @@ impl Side for Faulty {
         (self.open)(text, area)
     }
 
+    fn need(&self, limits: [u64; 4], value: &mut u64) -> u64 {
+        (self.need)(limits, value)
+    }
+
+    fn image_limits(&self, text: &[u8], numbers: &mut [u64; 5]) -> u64 {
+        (self.image_limits)(text, numbers)
+    }
+
     fn sound(&self, area: &[u8]) -> u64 {
         Model.sound(area)
     }
@@ -147,8 +181,12 @@ impl Side for Faulty {
 
 /// The smallest list that shows the fault, and the difference.
 fn noticed(side: Faulty, name: &str) -> (List, Difference) {
+    noticed_by(Look::All, side, name)
+}
+
+fn noticed_by(look: Look, side: Faulty, name: &str) -> (List, Difference) {
     let folder = Folder::new(name);
-    let Err(found) = lists(&side, &folder, 500) else {
+    let Err(found) = lists(&side, &folder, 0..500, look) else {
         panic!("{name} was not noticed");
     };
     shrink(&side, folder.path(), *found)
@@ -212,6 +250,70 @@ fn an_empty_queue_after_a_cut_is_noticed() {
     };
     let (list, _) = noticed(side, "opens-empty");
     assert!(list.events.len() <= 3, "{list}");
+}
+
+#[test]
+fn wrong_numbers_to_lend_are_noticed() {
+    let sides: [(Faulty, &str); 4] = [
+        (
+            // The room for inputs without the outputs'.
+            Faulty {
+                need: |limits, value| {
+                    let number = Model.need(limits, value);
+                    if number == 100 {
+                        *value -= 64 * limits[0] * limits[3];
+                    }
+                    number
+                },
+                ..RIGHT
+            },
+            "the answer of need",
+        ),
+        (
+            // A number for limits that are refused.
+            Faulty {
+                need: |limits, value| {
+                    let number = Model.need(limits, value);
+                    if number == 1 {
+                        *value = 0;
+                    }
+                    number
+                },
+                ..RIGHT
+            },
+            "the answer of need",
+        ),
+        (
+            // Of the header alone.
+            Faulty {
+                image_limits: |text, numbers| {
+                    let line = text.iter().position(|byte| *byte == b'\n');
+                    match Model.image_limits(text, numbers) {
+                        16 if line.is_some_and(|end| end + 1 < text.len()) => 100,
+                        number => number,
+                    }
+                },
+                ..RIGHT
+            },
+            "the answer of image_limits",
+        ),
+        (
+            // T for P.
+            Faulty {
+                image_limits: |text, numbers| {
+                    let number = Model.image_limits(text, numbers);
+                    numbers[0] = numbers[2];
+                    number
+                },
+                ..RIGHT
+            },
+            "the answer of image_limits",
+        ),
+    ];
+    for (at, (side, what)) in sides.into_iter().enumerate() {
+        let (list, found) = noticed(side, &format!("wrong-to-lend-{at}"));
+        assert_eq!(found.what, what, "{list}{found}");
+    }
 }
 
 /// The number, once an answer of two records or more was changed by `change`, which has their ids.
@@ -283,4 +385,102 @@ fn a_wrong_distance_is_noticed() {
     let (list, found) = noticed(side, "wrong-distance");
     assert_eq!(found.what, "the answer of best_fees", "{list}{found}");
     assert!(list.events.is_empty(), "{list}{found}");
+}
+
+/// Tombstones as Queued holders of no bytes.
+fn with_tombstones_queued(area: &mut [u8], which: impl Fn(&Record) -> bool) {
+    let mut queue = model::area::decode(area).expect("a sound area");
+    for record in &mut queue.records {
+        if record.holder.is_none() && record.state != State::Mined && which(record) {
+            record.state = State::Queued;
+            record.reason = Reason::None;
+            record.size = 0;
+            record.finish = FinishNumber(0);
+            record.holder = Some(Holder {
+                inputs: Vec::new(),
+                outputs: Vec::new(),
+                bytes: Vec::new(),
+            });
+        }
+    }
+    let bytes = model::area::encode(&queue);
+    area[..bytes.len()].copy_from_slice(&bytes);
+}
+
+#[test]
+fn a_selected_withdrawn_id_is_noticed_by_the_history_alone() {
+    let sides: [(Faulty, &str); 4] = [
+        (
+            // A cancellation that leaves the record, told and stored as if it had not.
+            Faulty {
+                cancel: |cur, next, id, out| {
+                    let number = calls::cancel(cur, next, id, out);
+                    if number == 102 {
+                        with_tombstones_queued(next, |record| record.id[..] == *id);
+                    }
+                    number
+                },
+                ..RIGHT
+            },
+            "cancels-nothing",
+        ),
+        (
+            // Opening queues what was withdrawn.
+            Faulty {
+                open: |text, area| {
+                    let number = calls::open(text, area);
+                    with_tombstones_queued(area, |_| true);
+                    number
+                },
+                ..RIGHT
+            },
+            "opens-tombstones",
+        ),
+        (
+            // All records are selected.
+            Faulty {
+                read: |reading, area, out| match reading {
+                    Reading::SelectionEntries => Model.read(Reading::RecordIds, area, out),
+                    other => Model.read(other, area, out),
+                },
+                ..RIGHT
+            },
+            "selects-tombstones",
+        ),
+        (
+            // The same at the list's time and height alone.
+            Faulty {
+                read: |reading, area, out| match reading {
+                    Reading::SelectionEntriesAt(..) => Model.read(Reading::RecordIds, area, out),
+                    other => Model.read(other, area, out),
+                },
+                ..RIGHT
+            },
+            "selects-tombstones-at",
+        ),
+    ];
+    for (side, name) in sides {
+        let (list, found) = noticed_by(Look::Withdrawn, side, name);
+        assert!(found.what.starts_with("withdrawn ids in "), "{list}{found}");
+        assert_eq!(found.oracle, "[]", "{list}{found}");
+        assert!(list.events.len() <= 3, "{list}{found}");
+    }
+}
+
+#[test]
+fn another_fault_is_nothing_to_the_history() {
+    // The cursor goes back when its write fails.
+    let side = || Faulty {
+        settle: |cur, next, kind, outcome| match calls::settle(cur, next, kind, outcome) {
+            17 => {
+                next.copy_from_slice(cur);
+                17
+            }
+            number => number,
+        },
+        ..RIGHT
+    };
+    no_difference(&side(), "settles-back", 0..20, Look::Withdrawn);
+    let (list, found) = noticed(side(), "settles-back-all");
+    assert_eq!(found.what, "the queue", "{list}{found}");
 }

@@ -338,6 +338,30 @@ fn try_settle(cur: &[u8], next: &mut [u8], kind: u64, outcome: u64) -> Answer {
     }
 }
 
+pub fn need(pending: u64, bytes: u64, tombstones: u64, inputs: u64, value: &mut u64) -> u64 {
+    let Some(limits) = Limits::checked(pending, bytes, tombstones, inputs) else {
+        return LIMIT;
+    };
+    *value = limits.need() as u64;
+    ANSWERED
+}
+
+pub fn image_limits(
+    text: &[u8],
+    pending: &mut u64,
+    bytes: &mut u64,
+    tombstones: &mut u64,
+    inputs: &mut u64,
+    need: &mut u64,
+) -> u64 {
+    let Some(queue) = image::decode(text) else {
+        return NOT_AN_IMAGE;
+    };
+    [*pending, *bytes, *tombstones, *inputs] = queue.limits.numbers();
+    *need = queue.limits.need() as u64;
+    ANSWERED
+}
+
 pub fn image(lent: &[u8], out: &mut [u8], length: &mut u64) -> u64 {
     number(try_image(lent, out, length))
 }

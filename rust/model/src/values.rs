@@ -34,6 +34,14 @@ impl Limits {
     pub const MAX_TOMBSTONES: u32 = 1_024;
     pub const MAX_INPUTS: u32 = 128;
 
+    /// The top settings.
+    pub const MAX: Limits = Limits {
+        pending: Self::MAX_PENDING,
+        bytes: Self::MAX_BYTES,
+        tombstones: Self::MAX_TOMBSTONES,
+        inputs: Self::MAX_INPUTS,
+    };
+
     /// The limits with these numbers, if each is in range.
     pub fn checked(pending: u64, bytes: u64, tombstones: u64, inputs: u64) -> Option<Limits> {
         Some(Limits {

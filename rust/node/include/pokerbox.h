@@ -94,7 +94,8 @@ extern "C" {
 #define POKERBOX_MAX_CANDIDATES 20
 #define POKERBOX_MAX_BUDGET 2097151
 
-/* The bytes that an area needs under the limits P, B, T, K: 2B + 2P * (512 + 64K) + 512T + 512. */
+/* The bytes that an area needs under the limits P, B, T, K: 2B + 2P * (512 + 64K) + 512T + 512. As
+ * pokerbox_need has it, for areas whose limits are known when the program is compiled. */
 #define POKERBOX_AREA_LEN(p, b, t, k) \
     (2 * (uint64_t)(b) + 2 * (uint64_t)(p) * (512 + 64 * (uint64_t)(k)) + 512 * (uint64_t)(t) + 512)
 
@@ -161,6 +162,16 @@ uint64_t pokerbox_image(const uint8_t *area, size_t area_len, uint8_t *out, size
 
 /* The queue of an image into `area`. Gives 16, 2 or 100. */
 uint64_t pokerbox_open(const uint8_t *text, size_t text_len, uint8_t *area, size_t area_len);
+
+/* The bytes that an area needs under the limits P, B, T, K behind `value`. Gives 1 or 100. */
+uint64_t pokerbox_need(uint64_t pending, uint64_t bytes, uint64_t tombstones, uint64_t inputs,
+                       uint64_t *value);
+
+/* The limits P, B, T, K of an image's queue, and the bytes that an area needs under them, each behind
+ * its pointer. Gives 16 exactly where pokerbox_open does, or 100. */
+uint64_t pokerbox_image_limits(const uint8_t *text, size_t text_len, uint64_t *pending,
+                               uint64_t *bytes, uint64_t *tombstones, uint64_t *inputs,
+                               uint64_t *need);
 
 /* The entry of one record. */
 uint64_t pokerbox_entry(const uint8_t *area, size_t area_len, const uint8_t *id, size_t id_len,

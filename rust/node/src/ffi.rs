@@ -122,6 +122,22 @@ mod c {
             area: *mut u8,
             area_len: usize,
         ) -> u64;
+        pub fn pokerbox_need(
+            pending: u64,
+            bytes: u64,
+            tombstones: u64,
+            inputs: u64,
+            value: *mut u64,
+        ) -> u64;
+        pub fn pokerbox_image_limits(
+            text: *const u8,
+            text_len: usize,
+            pending: *mut u64,
+            bytes: *mut u64,
+            tombstones: *mut u64,
+            inputs: *mut u64,
+            need: *mut u64,
+        ) -> u64;
         pub fn pokerbox_revision(area: *const u8, area_len: usize, value: *mut u64) -> u64;
         pub fn pokerbox_is_empty(area: *const u8, area_len: usize, value: *mut u64) -> u64;
         pub fn pokerbox_deadline_due(
@@ -403,6 +419,33 @@ pub fn image(area: &[u8], out: &mut [u8], length: &mut u64) -> u64 {
 #[cfg(exported = "open")]
 pub fn open(text: &[u8], area: &mut [u8]) -> u64 {
     unsafe { c::pokerbox_open(text.as_ptr(), text.len(), area.as_mut_ptr(), area.len()) }
+}
+
+#[cfg(exported = "need")]
+pub fn need(pending: u64, bytes: u64, tombstones: u64, inputs: u64, value: &mut u64) -> u64 {
+    unsafe { c::pokerbox_need(pending, bytes, tombstones, inputs, value) }
+}
+
+#[cfg(exported = "image_limits")]
+pub fn image_limits(
+    text: &[u8],
+    pending: &mut u64,
+    bytes: &mut u64,
+    tombstones: &mut u64,
+    inputs: &mut u64,
+    need: &mut u64,
+) -> u64 {
+    unsafe {
+        c::pokerbox_image_limits(
+            text.as_ptr(),
+            text.len(),
+            pending,
+            bytes,
+            tombstones,
+            inputs,
+            need,
+        )
+    }
 }
 
 #[cfg(exported = "entry")]

@@ -193,18 +193,10 @@ fn image_of(area: &[u8], limits: &Limits) -> Result<Vec<u8>, Error> {
     Ok(image)
 }
 
-/// The limits in an image's header frame, if they are in range: after the kind, four numbers of
-/// eight digits.
-fn limits_of_image(image: &[u8]) -> Option<Limits> {
-    let digits = std::str::from_utf8(image.get(2..34)?).ok()?;
-    let limit = |n: usize| u32::from_str_radix(digits.get(8 * n..8 * n + 8)?, 16).ok();
-    Limits::new(limit(0)?, limit(1)?, limit(2)?, limit(3)?).ok()
-}
-
 impl Queue {
     /// A fresh queue under these limits.
     pub fn fresh(limits: Limits) -> Result<Queue, Error> {
-        let mut queue = Queue::with_areas(limits);
+        let mut queue = Queue::with_areas(limits, limits.area_len());
         raw::fresh(
             limits.pending().into(),
             limits.bytes().into(),
@@ -217,19 +209,17 @@ impl Queue {
 
     /// The queue of a stored image, under the limits that the image names.
     pub fn open(image: &[u8]) -> Result<Queue, Error> {
-        let Some(limits) = limits_of_image(image) else {
-            return Err(Error::NotAnImage);
-        };
-        let mut queue = Queue::with_areas(limits);
+        let (limits, need) = Limits::of_image(image)?;
+        let mut queue = Queue::with_areas(limits, need);
         raw::open(image, &mut queue.current)?;
         Ok(queue)
     }
 
-    fn with_areas(limits: Limits) -> Queue {
+    fn with_areas(limits: Limits, need: usize) -> Queue {
         Queue {
             limits,
-            current: vec![0; limits.area_len()],
-            next: vec![0; limits.area_len()],
+            current: vec![0; need],
+            next: vec![0; need],
         }
     }
 

@@ -191,6 +191,34 @@ pub fn open(text: &[u8], area: &mut [u8]) -> Result<(), Error> {
     answered(ffi::open(text, area))
 }
 
+/// The bytes that an area needs under the limits P, B, T, K.
+#[cfg(exported = "need")]
+pub fn need(
+    pending: u64,
+    bytes: u64,
+    tombstones: u64,
+    inputs: u64,
+    value: &mut u64,
+) -> Result<(), Error> {
+    answered(ffi::need(pending, bytes, tombstones, inputs, value))
+}
+
+/// The limits P, B, T, K of an image's queue, and the bytes that an area needs under them. Refused
+/// exactly where [`open`] gives [`Error::NotAnImage`].
+#[cfg(exported = "image_limits")]
+pub fn image_limits(
+    text: &[u8],
+    pending: &mut u64,
+    bytes: &mut u64,
+    tombstones: &mut u64,
+    inputs: &mut u64,
+    need: &mut u64,
+) -> Result<(), Error> {
+    answered(ffi::image_limits(
+        text, pending, bytes, tombstones, inputs, need,
+    ))
+}
+
 // Reading calls.
 
 /// The entry of one record.

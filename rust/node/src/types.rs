@@ -4,6 +4,7 @@ use std::fmt;
 use std::str::FromStr;
 
 use crate::error::Error;
+use crate::raw;
 
 /// A text that is not the 64 hexadecimal digits of an id.
 #[derive(Debug, Clone, Copy, PartialEq, Eq)]
@@ -132,19 +133,36 @@ impl Limits {
     /// P pending records, B signed bytes, T tombstones, K inputs and likewise outputs in a
     /// transaction.
     pub fn new(pending: u32, bytes: u32, tombstones: u32, inputs: u32) -> Result<Limits, Error> {
-        let in_range = (1..=Self::MAX_PENDING).contains(&pending)
-            && (1..=Self::MAX_BYTES).contains(&bytes)
-            && (1..=Self::MAX_TOMBSTONES).contains(&tombstones)
-            && (1..=Self::MAX_INPUTS).contains(&inputs);
-        if !in_range {
-            return Err(Error::LimitOutOfRange);
-        }
-        Ok(Limits {
+        let limits = Limits {
             pending,
             bytes,
             tombstones,
             inputs,
-        })
+        };
+        // The library knows the ranges.
+        limits.need().map(|_| limits)
+    }
+
+    /// The limits of the queue whose image this is, and the bytes that an area needs under them.
+    pub(crate) fn of_image(image: &[u8]) -> Result<(Limits, usize), Error> {
+        let (mut p, mut b, mut t, mut k, mut need) = (0, 0, 0, 0, 0);
+        raw::image_limits(image, &mut p, &mut b, &mut t, &mut k, &mut need)?;
+        // Those of a sound queue: none is above 16,777,216.
+        let [pending, bytes, tombstones, inputs] = [p, b, t, k].map(|limit| limit as u32);
+        let limits = Limits {
+            pending,
+            bytes,
+            tombstones,
+            inputs,
+        };
+        Ok((limits, need as usize))
+    }
+
+    fn need(&self) -> Result<usize, Error> {
+        let mut need = 0;
+        let [p, b, t, k] = [self.pending, self.bytes, self.tombstones, self.inputs].map(u64::from);
+        raw::need(p, b, t, k, &mut need)?;
+        Ok(need as usize)
     }
 
     /// P.
@@ -169,9 +187,7 @@ impl Limits {
 
     /// The bytes that an area needs: 2B + 2P × (512 + 64K) + 512T + 512.
     pub fn area_len(&self) -> usize {
-        let [p, b, t, k] =
-            [self.pending, self.bytes, self.tombstones, self.inputs].map(|limit| limit as usize);
-        2 * b + 2 * p * (512 + 64 * k) + 512 * t + 512
+        self.need().expect("limits in range")
     }
 
     /// The most records that a queue may have: 2P + T.

@@ -275,6 +275,25 @@ fn images() {
     expect(&met, &[2, 16, 100]);
 }
 
+/// The same, lent for their limits alone.
+#[test]
+#[cfg(exported = "image_limits")]
+fn limits_of_images() {
+    let mut met = Met::default();
+    many(4 * cases(), |rng| {
+        let text = damaged_image(rng);
+        let before = text.clone();
+        common::same_values(
+            &mut met,
+            rng,
+            |[p, b, t, k, need]| raw::image_limits(&text, p, b, t, k, need),
+            |[p, b, t, k, need]| calls::image_limits(&text, p, b, t, k, need),
+        );
+        assert!(text == before, "the lent image was changed");
+    });
+    expect(&met, &[16, 100]);
+}
+
 /// Areas of no bytes, and all limits that a header may claim, in an area too short for them.
 #[test]
 fn short_areas() {

@@ -425,6 +425,71 @@ fn open() {
     met.expect(&[2, 16, 100]);
 }
 
+/// Limits of which some are out of range.
+fn limits_or_not(rng: &mut Rng) -> [u64; 4] {
+    let mut numbers = random::small_limits(rng).numbers();
+    let tops = [1_024, 16_777_216, 1_024, 128];
+    for (number, top) in numbers.iter_mut().zip(tops) {
+        if rng.once_in(4) {
+            *number = rng.pick(&[0, 1, top - 1, top, top, top + 1, u64::MAX, 1 << 32 | 1]);
+        }
+    }
+    numbers
+}
+
+#[test]
+#[cfg(exported = "need")]
+fn need() {
+    let mut met = Met::default();
+    many(4 * CASES, |rng| {
+        let [p, b, t, k] = limits_or_not(rng);
+        same_values(
+            &mut met,
+            rng,
+            |[value]| raw::need(p, b, t, k, value),
+            |[value]| calls::need(p, b, t, k, value),
+        );
+    });
+    met.expect(&[1, 100]);
+}
+
+#[test]
+#[cfg(exported = "image_limits")]
+fn image_limits() {
+    let mut met = Met::default();
+    many(4 * CASES, |rng| {
+        let limits = random::small_limits(rng);
+        let queue = random::queue(rng, limits);
+        let mut text = image::encode(&queue);
+        let length = text.len();
+        match rng.below(4) {
+            0 => random::damage(rng, &mut text, length),
+            1 => text = image::encode(&random::altered(rng, &queue)),
+            _ => {}
+        }
+        same_values(
+            &mut met,
+            rng,
+            |[p, b, t, k, need]| raw::image_limits(&text, p, b, t, k, need),
+            |[p, b, t, k, need]| calls::image_limits(&text, p, b, t, k, need),
+        );
+        // What it says to lend is enough, and no byte too much.
+        let (mut numbers, mut lent) = ([0; 5], Vec::new());
+        let [p, b, t, k, need] = &mut numbers;
+        if raw::image_limits(&text, p, b, t, k, need).is_ok() {
+            lent.resize(numbers[4] as usize, 0);
+            assert_eq!(raw::open(&text, &mut lent), Ok(()));
+            lent.pop();
+            let short = raw::open(&text, &mut lent);
+            assert_eq!(short, Err(pokerbox::Error::AreaTooShort));
+        } else {
+            let refused = raw::open(&text, &mut lent);
+            assert_eq!(refused, Err(pokerbox::Error::NotAnImage));
+        }
+    });
+    met.expect(&[16, 100]);
+}
+
 #[test]
 #[cfg(exported = "entry")]
 fn entry() {

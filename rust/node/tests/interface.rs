@@ -17,6 +17,24 @@ fn limits_have_ranges() {
     assert_eq!(Limits::new(1_025, 1, 1, 1), Err(Error::LimitOutOfRange));
     assert_eq!(Limits::new(1_024, 16_777_216, 1_024, 128), Ok(Limits::MAX));
     assert_eq!(Limits::MAX.area_len(), 51_905_024);
+    for at in 0..4 {
+        let tops = [1_024, 16_777_216, 1_024, 128];
+        for (limit, in_range) in [
+            (0, false),
+            (1, true),
+            (tops[at], true),
+            (tops[at] + 1, false),
+        ] {
+            let mut numbers = tops;
+            numbers[at] = limit;
+            let [p, b, t, k] = numbers;
+            let limits = Limits::new(p, b, t, k);
+            assert_eq!(limits.is_ok(), in_range, "{numbers:?}");
+            let right = model::Limits::checked(p.into(), b.into(), t.into(), k.into());
+            let need = limits.ok().map(|limits| limits.area_len());
+            assert_eq!(need, right.map(|limits| limits.need()), "{numbers:?}");
+        }
+    }
 }
 
 #[test]
@@ -211,6 +229,7 @@ fn what_is_no_image_is_refused() {
         "0A",
         "01",
         "zz00000002",
+        "+1000000020000000a00000001000000010000000000000000000000000000000000000000000000000000\n",
         "0100000002000000010000000100000001\n",
     ] {
         assert_eq!(Queue::open(text.as_bytes()).unwrap_err(), Error::NotAnImage);

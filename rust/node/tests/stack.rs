@@ -85,6 +85,10 @@ impl Lent {
         numbers.push(("open", self.open(library)));
         #[cfg(exported = "fresh")]
         numbers.push(("fresh", self.fresh(library)));
+        #[cfg(exported = "need")]
+        numbers.push(("need", self.need(library)));
+        #[cfg(exported = "image_limits")]
+        numbers.push(("image_limits", self.image_limits(library)));
         numbers
     }
 
@@ -102,6 +106,29 @@ impl Lent {
         match library {
             true => common::Number::number(raw::fresh(p, b, t, k, &mut self.next)),
             false => calls::fresh(p, b, t, k, &mut self.next),
+        }
+    }
+}
+
+#[cfg(exported = "need")]
+impl Lent {
+    fn need(&self, library: bool) -> u64 {
+        let ([p, b, t, k], mut value) = (self.queue.limits.numbers(), 0);
+        match library {
+            true => common::Number::number(raw::need(p, b, t, k, &mut value)),
+            false => calls::need(p, b, t, k, &mut value),
+        }
+    }
+}
+
+#[cfg(exported = "image_limits")]
+impl Lent {
+    fn image_limits(&self, library: bool) -> u64 {
+        let mut numbers = [0; 5];
+        let [p, b, t, k, need] = &mut numbers;
+        match library {
+            true => common::Number::number(raw::image_limits(&self.image, p, b, t, k, need)),
+            false => calls::image_limits(&self.image, p, b, t, k, need),
         }
     }
 }

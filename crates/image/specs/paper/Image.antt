@@ -1,4 +1,4 @@
--- The image writer and opening, on lent bytes.
+-- The image writer and opening, on lent bytes, and how much has to be lent.
 use mathlib.Core.Bool.{cond}
 use Prim.Native.Nat.{ℕ}
 use lib.Dec.{ltb}
@@ -7,8 +7,9 @@ use Rattle.queue.specs.declared.Kind.the-variants.{Nothing}
 use Rattle.queue.specs.declared.Answer.{Answer}
 use Rattle.queue.specs.declared.Answer.the-variants.{Refused, Done}
 use Rattle.queue.specs.Areas.{readArea, readImage}
-use Rattle.queue.specs.paper.Records.{Bytes}
+use Rattle.queue.specs.paper.Records.{Bytes, Limits}
 use Rattle.queue.specs.paper.Lists.{maybe}
+use Rattle.queue.specs.paper.Sound.{inRange, need}
 use Rattle.queue.specs.paper.Area.{imageBytes, over}
 use Rattle.queue.specs.paper.Calls.{putQueue}
 
@@ -23,3 +24,18 @@ imageOf area out old =
 -- limits in range"; 2
 unfoldable pub openOf : Bytes → Bytes → Answer × Bytes
 openOf text area = maybe (Refused 16, area) (λ q. putQueue (Done Nothing) q area) (readImage text)
+
+-- "An area needs 2B + 2P(512 + 64K) + 512T + 512 bytes", behind a reference: 1, as for a fresh queue
+unfoldable pub needOf : Limits → ℕ → Answer × ℕ
+needOf m old = cond (inRange m) (Done Nothing, need m) (Refused 1, old)
+
+-- P, B, T, K, and what an area needs under them
+abbrev pub Five : Type 0
+Five = ℕ × (ℕ × (ℕ × (ℕ × ℕ)))
+
+abbrev pub limitsNeed : Limits → Five
+limitsNeed m = (m .P, (m .B, (m .T, (m .K, need m))))
+
+-- The limits that opening takes from the header, and the need of the area to open into, behind five references: 16, as opening
+unfoldable pub imageLimitsOf : Bytes → Five → Answer × Five
+imageLimitsOf text old = maybe (Refused 16, old) (λ q. (Done Nothing, limitsNeed (q .limits))) (readImage text)

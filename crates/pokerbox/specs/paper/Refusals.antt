@@ -16,7 +16,7 @@ use Rattle.queue.specs.paper.Area.{imageBytes}
 use Rattle.queue.specs.paper.Changing.{Out, refused, done, top, named?, reached?, pendings, pendingBytes, admit, cancel, due?, expire, toRelease, reconcile}
 use Rattle.queue.specs.paper.Calls.{id?, entryBytes, idsBytes, releasedBytes, Call, admitting, cancelling, expiring, reconciling, reopening, settingCursor, admission, reconciliation, shape?, overK?, callOf, freshOf, soundOf, settleShape?, settleOf, readOf, numberOf, entryOf, signedBytesOf}
 use Rattle.queue.specs.paper.Fees.{bestFees, candidates, sizeOf, feeOf, bestBytes, budget?, bestFeesOf}
-use Rattle.image.specs.paper.Image.{imageOf, openOf}
+use Rattle.image.specs.paper.Image.{imageOf, openOf, Five, needOf, imageLimitsOf}
 
 -- numbers with their conditions
 abbrev pub Checks : Type 0
@@ -97,6 +97,8 @@ pub record Demand1 : Type 0 where
   pub image : (area out : Bytes) (old : ℕ) → Answers (imageOf area out old) (out, old) (on area λ q. (4, ltb (length out) (length (imageBytes q))) ∷ [])
   pub opening : (text area : Bytes)
       → Answers (openOf text area) area ((16, not (isSome (readImage text))) ∷ maybe [] (λ q. (2, ltb (length area) (need (q .limits))) ∷ []) (readImage text))
+  pub need : (m : Limits) (old : ℕ) → Answers (needOf m old) old ((1, not (inRange m)) ∷ [])
+  pub limits : (text : Bytes) (old : Five) → Answers (imageLimitsOf text old) old ((16, not (isSome (readImage text))) ∷ [])
   pub reading : (f : Queue → Bytes) (area out : Bytes) → Answers (readOf f area out) out (on area λ q. (4, ltb (length out) (length (f q))) ∷ [])
   pub number : (f : Queue → ℕ) (area : Bytes) (old : ℕ) → Answers (numberOf f area old) old (on area λ q. [])
   pub entry : (area id out : Bytes)

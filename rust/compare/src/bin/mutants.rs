@@ -35,6 +35,8 @@ struct Edit {
     call: String,
     /// No answer can differ.
     same: bool,
+    /// A withdrawn id is selected, and nothing else is looked at.
+    withdrawn: bool,
     old: String,
     new: String,
 }
@@ -164,7 +166,8 @@ fn seen(settings: &Settings, copy: &Copy, edit: &Edit) -> Result<Built, String> 
     if let Err(error) = said {
         return Ok(Err(error));
     }
-    let seen = compare(settings, &copy.target.join("debug/compare"))?;
+    let look = if edit.withdrawn { "withdrawn" } else { "all" };
+    let seen = compare(settings, &copy.target.join("debug/compare"), look)?;
     if !edit.file.starts_with("model/") {
         return Ok(Ok((seen, None)));
     }
@@ -270,9 +273,9 @@ fn read(text: &str) -> Result<Vec<Edit>, String> {
             continue;
         };
         let parts: Vec<&str> = head.split(" | ").collect();
-        let (what, call, same) = match parts[..] {
-            [what, call] => (what, call, false),
-            [what, call, "same"] => (what, call, true),
+        let (what, call, mark) = match parts[..] {
+            [what, call] => (what, call, ""),
+            [what, call, mark @ ("same" | "withdrawn")] => (what, call, mark),
             _ => return Err(format!("not the head of an edit: {head}")),
         };
         if lines.next() != Some("<<<") {
@@ -284,7 +287,8 @@ fn read(text: &str) -> Result<Vec<Edit>, String> {
             file: file.clone(),
             what: what.into(),
             call: call.into(),
-            same,
+            same: mark == "same",
+            withdrawn: mark == "withdrawn",
             old: old.join("\n"),
             new: new.join("\n"),
         });
@@ -292,9 +296,10 @@ fn read(text: &str) -> Result<Vec<Edit>, String> {
     Ok(edits)
 }
 
-fn compare(settings: &Settings, program: &Path) -> Result<Seen, String> {
+fn compare(settings: &Settings, program: &Path, look: &str) -> Result<Seen, String> {
     let mut command = Command::new(program);
     command.args(["--seconds", &settings.seconds, "--seed", &settings.seed]);
+    command.args(["--look", look]);
     command.stderr(Stdio::piped());
     if let Some(folder) = &settings.folder {
         command.args(["--dir", folder]);
@@ -305,7 +310,7 @@ fn compare(settings: &Settings, program: &Path) -> Result<Seen, String> {
     let said = String::from_utf8_lossy(&done.stdout).into_owned();
     match done.status.code() {
         Some(0) => Ok(Seen::Nothing(
-            between(&said, "\n", " events").unwrap_or_default(),
+            between(&said, "\n", " events in ").unwrap_or_default(),
         )),
         Some(1) => {
             let events = between(&said, "A difference after ", " events").unwrap_or_default();

@@ -24,12 +24,15 @@ int main(void) {
     uint8_t id[32], input[32], output[32], out[400];
     const uint8_t signed_bytes[3] = {1, 2, 3};
     const uint8_t none[1] = {0};
-    uint64_t length, start, empty;
+    uint64_t length, start, empty, p, b, t, k, need;
 
     memset(id, 0x11, sizeof id);
     memset(input, 0x21, sizeof input);
     memset(output, 0x31, sizeof output);
     expect("P 0", pokerbox_fresh(0, B, T, K, cur, sizeof cur), POKERBOX_LIMIT_OUT_OF_RANGE);
+    expect("need under P 0", pokerbox_need(0, B, T, K, &need), POKERBOX_LIMIT_OUT_OF_RANGE);
+    expect("need", pokerbox_need(P, B, T, K, &need), POKERBOX_ANSWERED);
+    expect("its bytes", need, sizeof cur);
     expect("fresh", pokerbox_fresh(P, B, T, K, cur, sizeof cur), POKERBOX_ANSWERED);
     expect("cancel in empty",
            pokerbox_cancel(cur, sizeof cur, next, sizeof next, id, sizeof id, out, sizeof out),
@@ -64,6 +67,13 @@ int main(void) {
     expect("short output", pokerbox_best_fees(next, sizeof next, 3, 9, 5, 6, out, 55),
            POKERBOX_OUTPUT_TOO_SHORT);
 
+    expect("image_limits", pokerbox_image_limits(image, length, &p, &b, &t, &k, &need),
+           POKERBOX_ANSWERED);
+    expect("its P", p, P);
+    expect("its B", b, B);
+    expect("its T", t, T);
+    expect("its K", k, K);
+    expect("its need", need, sizeof cur);
     expect("open", pokerbox_open(image, length, cur, sizeof cur), POKERBOX_ANSWERED);
     expect("opened", (uint64_t)memcmp(cur, next, sizeof cur), 0);
     expect("signed bytes",

@@ -110,7 +110,8 @@ macro_rules! readings {
     };
 }
 
-/// The exported calls that are lent a queue's area: all but `fresh` and `open`.
+/// The exported calls that are lent a queue's area: all but `fresh`, `open`, `need` and
+/// `image_limits`.
 pub fn calls() -> Vec<Call> {
     let mut list = Vec::new();
     call!(list, "admit", true, |m, a, cur, next, out| m::admit(

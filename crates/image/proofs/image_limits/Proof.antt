@@ -1,0 +1,21 @@
+-- Filled from its answers by tools/proofkit.py: change those, and fill it again.
+use borrow.Author.Tests.{not-true, not-false}
+use Rattle.image.proofs.ImageLaws.{limits-16, limits-100}
+use borrow.Author.Needs.{needs}
+use Rattle.image.proofs.image_limits.Statement.{statement}
+use Rattle.image.proofs.image_limits.Tie as tie
+use Rattle.image.proofs.image_limits.Reads as reads
+use Rattle.image.proofs.image_limits.Lts as lts
+use Rattle.image.proofs.text.text_at.Reads as text-at-reads
+
+text-at-requires : tie.Need-text-at-requires
+text-at-requires c κs = search needs
+
+returns : tie.Need-returns
+returns c = limits-16 (c .before .before .text-at .ensures) _ (not-true _ (c .if1 .taken))
+
+returns-2 : tie.Need-returns-2
+returns-2 c = limits-100 (c .before .before .before .before .text-at .ensures) _ (not-false _ (c .before .before .if1 .left))
+
+pub image-limits-spec : {M : Type 1} → statement M
+image-limits-spec = tie.close (tie.spec text-at-requires returns returns-2)
