@@ -100,10 +100,10 @@ num-is {v} {rest} {at} {next} {n} {x} {ok} u h d = cases ok
     (λ t. no-got x rest (sym (u .0 .bad h t) ∙ d))
 
 module _ (s : Bytes) (p : ℕ) {m : ℕ} {ok : Bool} {y : Seen} (h : Stands s p) (rd : ReadsRec false s p ok m y) where
-  the-turn : Turn (formC false recC) s 1 p (afterIn false s p m) (SeenIn false s p ok m y)
+  pub the-turn : Turn (formC false recC) s 1 p (afterIn false s p m) (SeenIn false s p ok m y)
   the-turn = turn-in false 1 (h .0) (h .1) (omega arith) rd
 
-  rec-is : recAt s p ≡ the-turn .item
+  pub rec-is : recAt s p ≡ the-turn .item
   unfolding recAt
   rec-is = ap (λ (l : List Rec). getD l 0 noRec) (the-turn .list)
 
@@ -331,11 +331,11 @@ module _ (s : Bytes) (at : List ℕ) (few : length at ≤ 20) (all : All (Known 
 known-take : (s : Bytes) (n : ℕ) (l : List ℕ) → All (Known s) l → All (Known s) (take n l)
 known-take s n l h = laws.all-take (Known s) n l h
 
-places-known : (s : Bytes) (z : List Row) → All (λ w. Known s (w .1 .1)) z → All (Known s) (map (λ (w : Row). w .1 .1) z)
+pub places-known : (s : Bytes) (z : List Row) → All (λ w. Known s (w .1 .1)) z → All (Known s) (map (λ (w : Row). w .1 .1) z)
 places-known s [] h = tt
 places-known s (w ∷ z) h = (h .0, places-known s z (h .1))
 
-map-recs : (s : Bytes) (z : List Row) → map (recAt s) (map (λ (w : Row). w .1 .1) z) ≡ map (recOf s) z
+pub map-recs : (s : Bytes) (z : List Row) → map (recAt s) (map (λ (w : Row). w .1 .1) z) ≡ map (recOf s) z
 map-recs s [] = refl
 map-recs s (w ∷ z) = ap (λ (l : List Rec). recOf s w ∷ l) (map-recs s z)
 
@@ -380,7 +380,7 @@ rows-known s [] l h = tt
 rows-known s (w ∷ z) [] h = absurd h
 rows-known s (w ∷ z) (r ∷ l) h = (row-known (h .0), rows-known s z l (h .1))
 
-rows-recs : (s : Bytes) (z : List Row) (l : List Rec) → RowsAs s z l → map (recOf s) z ≡ l
+pub rows-recs : (s : Bytes) (z : List Row) (l : List Rec) → RowsAs s z l → map (recOf s) z ≡ l
 rows-recs s [] [] h = refl
 rows-recs s [] (r ∷ l) h = absurd h
 rows-recs s (w ∷ z) [] h = absurd h

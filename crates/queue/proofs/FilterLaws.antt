@@ -41,10 +41,10 @@ digit a b =
     let m : max (a % 2) (b % 2) ≤ 1 = max-le (omega arith) (omega arith) in
     omega arith
 
-or-half : (a b : ℕ) → bitOr a b / 2 ≡ bitOr (a / 2) (b / 2)
+pub or-half : (a b : ℕ) → bitOr a b / 2 ≡ bitOr (a / 2) (b / 2)
 or-half a b = ap (λ (x : ℕ). x / 2) (or-step a b) ∙ digits-div (bitOr (a / 2) (b / 2)) (digit a b)
 
-or-odd : (a b : ℕ) → bitOr a b % 2 ≡ max (a % 2) (b % 2)
+pub or-odd : (a b : ℕ) → bitOr a b % 2 ≡ max (a % 2) (b % 2)
 or-odd a b = ap (λ (x : ℕ). x % 2) (or-step a b) ∙ digits-mod (bitOr (a / 2) (b / 2)) (digit a b)
 
 or-assoc : (a b c : ℕ) → bitOr (bitOr a b) c ≡ bitOr a (bitOr b c)
@@ -62,7 +62,7 @@ or-more : (w m g : ℕ) → bitOr w g ≡ w → bitOr (bitOr w m) g ≡ bitOr w 
 or-more w m g e = or-assoc w m g ∙ ap (λ (x : ℕ). bitOr w x) (or-comm m g) ∙ sym (or-assoc w g m) ∙ ap (λ (x : ℕ). bitOr x m) e
 
 -- ---- what is marked is marked, and stays so
-slot-in : (n h : ℕ) → 0 < n → slotL n h < n
+pub slot-in : (n h : ℕ) → 0 < n → slotL n h < n
 unfolding slotL
 slot-in n h p = mod-lt h p
 

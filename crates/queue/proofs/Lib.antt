@@ -42,3 +42,6 @@ pub mod LentLaws
 pub mod FeeWalkLaws
 pub mod FeeSearchLaws
 pub mod FeeLaws
+pub mod BitLaws
+pub mod LinkLaws
+pub mod ParentLaws

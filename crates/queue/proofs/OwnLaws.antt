@@ -111,7 +111,7 @@ any-count p (x ∷ v) = cases (p x)
 pub shuffled-any : (p : ℕ → Bool) {v w : List ℕ} → Shuffled v w → any? p w ≡ any? p v
 shuffled-any p {v} {w} s = any-count p w ∙ ap (ltb 0) (s .same (λ a. one (p a))) ∙ sym (any-count p v)
 
-any-append : (p : ℕ → Bool) (a b : List ℕ) → any? p (a ++ b) ≡ (any? p a || any? p b)
+pub any-append : (p : ℕ → Bool) (a b : List ℕ) → any? p (a ++ b) ≡ (any? p a || any? p b)
 any-append p [] b = refl
 any-append p (x ∷ a) b = cases (p x) (λ t. rw t) (λ t. rw t (any-append p a b))
 

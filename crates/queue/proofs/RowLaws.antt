@@ -111,7 +111,7 @@ module _ (hex : Bool) (s : Bytes) where
       (λ p m. up-by y z k (λ q. up-lower x z (rw p q)) (λ q n. up-same x z (p ∙ q) (omega arith)))
 
   -- a row of the same id behind y is one of a later record
-  later-yes : (y x : ℕ) → upTo hex s x y ≡ false → cmpL (idR hex s y) (idR hex s x) ≡ 1 → later hex s (idR hex s y) (noR y) x ≡ true
+  pub later-yes : (y x : ℕ) → upTo hex s x y ≡ false → cmpL (idR hex s y) (idR hex s x) ≡ 1 → later hex s (idR hex s y) (noR y) x ≡ true
   unfolding later
   later-yes y x h e =
       let q = cmp-flip (idR hex s y) (idR hex s x) .1 e in
@@ -136,7 +136,7 @@ module _ (hex : Bool) (s : Bytes) where
   later-other y x h = rw (ne-eqb (cmpL (idR hex s y) (idR hex s x)) 1 h)
 
   -- behind a row behind y of another id there is none of y's id
-  later-behind : (y x w : ℕ) → upTo hex s x y ≡ false → (cmpL (idR hex s y) (idR hex s x) ≡ 1 → ⊥) → upTo hex s x w ≡ true → later hex s (idR hex s y) (noR y) w ≡ false
+  pub later-behind : (y x w : ℕ) → upTo hex s x y ≡ false → (cmpL (idR hex s y) (idR hex s x) ≡ 1 → ⊥) → upTo hex s x w ≡ true → later hex s (idR hex s y) (noR y) w ≡ false
   later-behind y x w h n k = later-other y w (λ e.
       let q = cmp-flip (idR hex s y) (idR hex s w) .1 e in
       up-by x w k

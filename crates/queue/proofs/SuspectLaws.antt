@@ -55,7 +55,7 @@ module _ (p : ℕ → Bool) where
   all-each [] k = refl
   all-each (x ∷ v) k = and-both (p x) (all? p v) (k 0 (omega arith)) (all-each v (λ i h. k (suc i) (omega arith)))
 
-  all-at : (v : List ℕ) (i : ℕ) → all? p v ≡ true → i < length v → p (getD v i 0) ≡ true
+  pub all-at : (v : List ℕ) (i : ℕ) → all? p v ≡ true → i < length v → p (getD v i 0) ≡ true
   all-at [] i e h = absurd (let z : ⊥ = omega arith in z)
   all-at (x ∷ v) zero e h = and-true (p x) (all? p v) e .0
   all-at (x ∷ v) (suc i) e h = all-at v i (and-true (p x) (all? p v) e .1) (omega arith)
@@ -67,10 +67,10 @@ module _ (p : ℕ → Bool) where
       let e : n ≡ 0 + n = omega arith in
       cases (p x) (λ t. rw t (all-count v ∙ ap (λ (m : ℕ). eqb m 0) e)) (λ t. rw t (sym (ne-eqb (1 + n) 0 (λ z. let y : ⊥ = omega arith in y))))
 
-  shuffled-all : {v w : List ℕ} → Shuffled v w → all? p w ≡ all? p v
+  pub shuffled-all : {v w : List ℕ} → Shuffled v w → all? p w ≡ all? p v
   shuffled-all {v} {w} s = all-count w ∙ ap (λ (n : ℕ). eqb n 0) (s .same (λ a. one (not (p a)))) ∙ sym (all-count v)
 
-  all-append : (a b : List ℕ) → all? p (a ++ b) ≡ (all? p a && all? p b)
+  pub all-append : (a b : List ℕ) → all? p (a ++ b) ≡ (all? p a && all? p b)
   all-append [] b = refl
   all-append (x ∷ a) b = cases (p x) (λ t. rw t (all-append a b)) (λ t. rw t)
 

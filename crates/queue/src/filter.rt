@@ -4,8 +4,9 @@ ghost use mathlib.Core.Path.{_≡_};
 ghost use Prim.Native.Nat.{_<_, _^_};
 ghost use lib.ListN.{length};
 ghost use Rattle.queue.specs.Filter.{slotL, maskL, hashL, marked, markL};
+ghost use Rattle.queue.specs.parents.Links.{hashAll};
 
-fn bit(k: u64) -> u64
+pub fn bit(k: u64) -> u64
     requires { ⌜ k < 64 ⌝ }
     ensures { λ r. ⌜ r ≡ 2 ^ k ⌝ }
 {
@@ -23,7 +24,7 @@ fn mask(h: u64) -> u64
     a | b | c | d
 }
 
-fn slot(n: usize, h: u64) -> usize
+pub fn slot(n: usize, h: u64) -> usize
     requires { ⌜ 0 < n ⌝ }
     ensures { λ r. ⌜ (r ≡ slotL n h) × (r < n) ⌝ }
 {
@@ -57,4 +58,17 @@ pub fn hash(id: [u8; 32]) -> u64
     let a = be(&id, false, 0, 0, 8);
     let b = be(&id, false, 0, 24, 8);
     std::num::wrapping_add_u64(a, b) % 274877906899
+}
+
+// Another number of an id: its four words of 8 bytes added.
+pub fn hash_all(id: [u8; 32]) -> u64
+    ensures { λ r. ⌜ r ≡ hashAll id ⌝ }
+{
+    let a = be(&id, false, 0, 0, 8);
+    let b = be(&id, false, 0, 8, 8);
+    let c = be(&id, false, 0, 16, 8);
+    let d = be(&id, false, 0, 24, 8);
+    let x = std::num::wrapping_add_u64(a, b);
+    let y = std::num::wrapping_add_u64(c, d);
+    std::num::wrapping_add_u64(x, y) % 274877906899
 }

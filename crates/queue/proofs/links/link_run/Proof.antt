@@ -1,0 +1,80 @@
+-- Filled from its answers by tools/proofkit.py: change those, and fill it again.
+use mathlib.Core.Path.{_≡_, refl, sym, ap, _∙_}
+use native.Mathlib.Omega.{arith}
+use mathlib.Core.Bool.{Bool, true, false, _&&_, _||_}
+use Prim.Native.Nat.{ℕ, _≤_, _+_, _-_, _*_, _/_, _%_, _<_}
+use lib.ListN.{length, take, drop, getD, set}
+use Rattle.queue.proofs.LinkLaws.{Running, run-start, run-stop, run-go, run-end}
+use borrow.Author.Needs.{needs}
+use Rattle.queue.proofs.links.link_run.Statement.{statement}
+use Rattle.queue.proofs.links.link_run.Tie as tie
+use Rattle.queue.proofs.links.link_run.Reads as reads
+use Rattle.queue.proofs.links.link_run.Lts as lts
+use Rattle.queue.proofs.links.link_row.Reads as link-row-reads
+use Rattle.queue.proofs.links.meets.Reads as meets-reads
+use Rattle.queue.proofs.logic.both.Reads as both-reads
+
+abbrev Inv-loop : tie.InvT-loop
+Inv-loop s v from ordered y bits₀ l k₀ bits k = Running s v y (l .width) (l .row) bits₀ k bits × (from ≤ k) × (length bits ≡ length bits₀)
+
+abbrev μ-loop : tie.MeasureT-loop
+μ-loop s v from ordered y bits₀ l k₀ bits k = length v - k
+
+loop-holds : tie.Need-loop-holds Inv-loop μ-loop
+loop-holds c = (run-start (c .before .before .before .args .s .now) (c .before .before .before .args .v .now) (c .before .before .before .args .y) (c .before .before .before .pre .1) (c .before .before .before .args .l .width) (c .before .before .before .args .l .row) (c .before .before .before .args .bits .now) (c .before .before .before .pre .0), omega arith, refl)
+
+mul-x : tie.Need-mul-x Inv-loop μ-loop
+mul-x c = omega (arith, c .loop-test .taken)
+
+shared-slice-read-x : tie.Need-shared-slice-read-x Inv-loop μ-loop
+shared-slice-read-x c = omega (arith, c .before .loop-test .taken)
+
+meets-requires : tie.Need-meets-requires Inv-loop μ-loop
+meets-requires c κs = search needs
+
+both-requires : tie.Need-both-requires Inv-loop μ-loop
+both-requires c κs = search needs
+
+same-length : tie.Need-same-length Inv-loop μ-loop
+same-length c = c .before .before .before .before .before .loop .inv .2
+
+returns : tie.Need-returns Inv-loop μ-loop
+returns c = run-stop (c .before .before .before .before .before .before .before .before .before .args .s .now) (c .before .before .before .before .before .before .before .before .before .args .v .now) (c .before .before .before .before .before .before .before .before .before .args .y) (c .before .before .before .before .before .before .before .before .before .pre .1) (c .before .before .before .before .before .before .before .before .before .pre .0) (c .before .before .before .before .before .loop .inv .0) (c .before .before .before .before .before .loop .inv .1) (c .before .before .before .before .loop-test .taken) (c .before .before .meets .ensures) (c .before .both .ensures) (c .if1 .taken)
+
+link-row-requires : tie.Need-link-row-requires Inv-loop μ-loop
+link-row-requires c κs = (c .before .before .before .before .before .before .before .before .before .before .pre .2, omega (arith, c .before .before .before .before .before .before .before .before .before .before .pre .3, c .before .before .before .before .before .before .loop .inv .2))
+
+add-k : tie.Need-add-k Inv-loop μ-loop
+add-k c = omega (arith, c .before .before .before .before .before .before .before .before .loop-test .taken)
+
+loop-less : tie.Need-loop-less Inv-loop μ-loop
+loop-less c = omega (arith, c .before .before .before .before .before .before .before .before .loop-test .taken)
+
+loop-again : tie.Need-loop-again Inv-loop μ-loop
+loop-again c = (run-go (c .before .before .before .before .before .before .before .before .before .before .before .before .before .args .s .now) (c .before .before .before .before .before .before .before .before .before .before .before .before .before .args .v .now) (c .before .before .before .before .before .before .before .before .before .before .before .before .before .args .y) (c .before .before .before .before .before .before .before .before .before .before .before .before .before .pre .1) (c .before .before .before .before .before .before .before .before .before .before .before .before .before .pre .0) (c .before .before .before .before .before .before .before .before .before .loop .inv .0) (c .before .before .before .before .before .before .before .before .before .loop .inv .1) (c .before .before .before .before .before .before .before .before .loop-test .taken) (c .before .before .before .before .before .before .meets .ensures) (c .before .before .link-row .ensures), omega (arith, c .before .before .before .before .before .before .before .before .before .loop .inv .1), c .before .before .link-row .ensures .size ∙ c .before .before .before .before .before .before .before .before .before .loop .inv .2)
+
+same-length-2 : tie.Need-same-length-2 Inv-loop μ-loop
+same-length-2 c = c .before .loop .inv .2
+
+returns-2 : tie.Need-returns-2 Inv-loop μ-loop
+returns-2 c = run-end (c .before .before .before .before .before .args .s .now) (c .before .before .before .before .before .args .v .now) (c .before .before .before .before .before .args .y) (c .before .before .before .before .before .pre .1) (c .before .before .before .before .before .pre .0) (c .before .loop .inv .0) (c .before .loop .inv .1) (c .loop-test .left)
+
+pub link-run-spec : {M : Type 1} → statement M
+link-run-spec =
+    tie.close
+    (tie.spec
+    Inv-loop
+    μ-loop
+    loop-holds
+    mul-x
+    shared-slice-read-x
+    meets-requires
+    both-requires
+    same-length
+    returns
+    link-row-requires
+    add-k
+    loop-less
+    loop-again
+    same-length-2
+    returns-2)

@@ -1,0 +1,56 @@
+-- Filled from its answers by tools/proofkit.py: change those, and fill it again.
+use mathlib.Core.Path.{_≡_, refl, sym, ap, _∙_}
+use native.Mathlib.Omega.{arith}
+use mathlib.Core.Bool.{Bool, true, false, _&&_, _||_}
+use Prim.Native.Nat.{ℕ, _≤_, _+_, _-_, _*_, _/_, _%_, _<_}
+use lib.ListN.{length, take, drop, getD, set}
+use Rattle.queue.specs.parents.Counters.{raise, lower}
+use Rattle.queue.specs.parents.Links.{Clear, Lowered}
+use Rattle.queue.proofs.ParentLaws.{down, lower-nil, lower-cons, Sweep, sweep-start, sweep-room, sweep-go, sweep-end}
+use borrow.Author.Needs.{needs}
+use Rattle.queue.proofs.parents.lower_word.Statement.{statement}
+use Rattle.queue.proofs.parents.lower_word.Tie as tie
+use Rattle.queue.proofs.parents.lower_word.Reads as reads
+use Rattle.queue.proofs.parents.lower_word.Lts as lts
+use Rattle.queue.proofs.parents.lower_if.Reads as lower-if-reads
+
+abbrev Inv-loop : tie.InvT-loop
+Inv-loop cs₀ x base from y₀ j₀ f₀ cs y j f = Sweep lower down lower-nil lower-cons x base cs₀ y j cs × (Clear from cs₀ → Clear f cs) × (length cs ≡ length cs₀)
+
+abbrev μ-loop : tie.MeasureT-loop
+μ-loop cs₀ x base from y₀ j₀ f₀ cs y j f = base + 64 - j
+
+loop-holds : tie.Need-loop-holds Inv-loop μ-loop
+loop-holds c = (sweep-start lower down lower-nil lower-cons (c .before .args .x) (c .before .args .base) _ (omega (arith, c .before .good)), λ q. q, refl)
+
+lower-if-requires : tie.Need-lower-if-requires Inv-loop μ-loop
+lower-if-requires c κs = search needs
+
+add-j : tie.Need-add-j Inv-loop μ-loop
+add-j c = let r = sweep-room lower down lower-nil lower-cons (c .before .before .before .before .before .loop .inv .0) (c .before .before .before .before .loop-test .taken) in omega (arith, r, c .before .before .before .before .before .before .before .pre)
+
+loop-less : tie.Need-loop-less Inv-loop μ-loop
+loop-less c = let r = sweep-room lower down lower-nil lower-cons (c .before .before .before .before .before .loop .inv .0) (c .before .before .before .before .loop-test .taken) in omega (arith, r)
+
+loop-again : tie.Need-loop-again Inv-loop μ-loop
+loop-again c = (sweep-go lower down lower-nil lower-cons (c .before .before .before .before .before .loop .inv .0) (c .before .before .before .before .loop-test .taken) (c .before .before .lower-if .ensures .is), λ q. c .before .before .lower-if .ensures .clear (c .before .before .before .before .before .loop .inv .1 q), omega (arith, c .before .before .before .before .before .loop .inv .2))
+
+same-length : tie.Need-same-length Inv-loop μ-loop
+same-length c = c .before .loop .inv .2
+
+returns : tie.Need-returns Inv-loop μ-loop
+returns c = record { is = sweep-end lower down lower-nil lower-cons (c .before .loop .inv .0) (omega (arith, c .loop-test .left)); clear = c .before .loop .inv .1 }
+
+pub lower-word-spec : {M : Type 1} → statement M
+lower-word-spec =
+    tie.close
+    (tie.spec
+    Inv-loop
+    μ-loop
+    loop-holds
+    lower-if-requires
+    add-j
+    loop-less
+    loop-again
+    same-length
+    returns)

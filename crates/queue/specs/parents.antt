@@ -1,0 +1,5 @@
+pub mod Counters
+pub mod CounterLaws
+pub mod Laws
+pub mod Claims
+pub mod Links
