@@ -37,6 +37,7 @@ pub mod ReadingAs
 pub mod Writes
 pub mod SelectAs
 pub mod fees
+pub mod parents
 pub mod Signed
 pub mod CallsAs
 pub mod PiecesAs

@@ -7,3 +7,4 @@ pub mod Changing
 pub mod Reading
 pub mod Calls
 pub mod Fees
+pub mod Parents
