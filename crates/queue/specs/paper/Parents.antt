@@ -1,7 +1,7 @@
 -- Document 02, P7, "Parents first": "The builder turns down a template that lists a child before its parent. Add a second selection
 -- order beside the old one." The order is said of any records and any test of who waits for whom; then of a queue's records.
 use mathlib.Core.Path.{_≡_}
-use mathlib.Core.Bool.{Bool, true, false, cond, not, _&&_}
+use mathlib.Core.Bool.{Bool, true, cond, not, _&&_}
 use mathlib.Core.List.{List, [], _∷_, _++_}
 use mathlib.Core.Logic.{_⊎_}
 use Prim.Native.Nat.{ℕ, zero, suc, _≤_}
