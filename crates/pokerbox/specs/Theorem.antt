@@ -23,7 +23,7 @@ use Rattle.queue.specs.ReadLaws.{false-true}
 use Rattle.queue.specs.Areas.{readArea}
 use Rattle.queue.specs.Sounds.{Fit, Apart, apart-sym, of-apart}
 use Rattle.queue.specs.Bound.{fit-stands}
-use Rattle.queue.specs.Reconciles.{Diff, diff-sym, rising-diff}
+use Rattle.queue.specs.Reconciles.{Diff, diff-sym}
 use Rattle.queue.specs.paper.Records.{Bytes, Limits, Rec, Queue}
 use Rattle.queue.specs.paper.Lists.{filter, map}
 use Rattle.queue.specs.paper.Sound.{inRange, need, among?, different?}
@@ -33,8 +33,11 @@ use Rattle.queue.specs.paper.Calls.{work, fresh, readOf, selectionAtOf, freshOf
 use Rattle.queue.specs.paper.Fees.{bestFees, candidates, sizeOf, feeOf, bestFeesOf}
 use Rattle.queue.specs.fees.Laws.{sub-take}
 use Rattle.queue.specs.fees.Claims.{set-sub}
+use Rattle.queue.specs.paper.Parents.{parentsFirstAt, parentsFirstOf, waitsFor?}
+use Rattle.queue.specs.parents.Laws.{inside-pairwise}
+use Rattle.queue.specs.parents.Claims.{selected-differ, selected-once, such, parents-first}
 use Rattle.pokerbox.specs.paper.Machine.{Step, call, cut, Told, run, Plain, restart, plainStep, World, worldStep, starts}
-use Rattle.pokerbox.specs.paper.Claim.{CallOk, StepOk, StepsOk, mover, movedBy, movedLast, Holds, Claim, Template, Templates, BestSet, BestSets}
+use Rattle.pokerbox.specs.paper.Claim.{CallOk, StepOk, StepsOk, mover, movedBy, movedLast, Holds, Claim, Template, Templates, BestSet, BestSets, Ordered, OrderedLists}
 use Rattle.pokerbox.specs.Answers.{Good, work-good}
 use Rattle.pokerbox.specs.Runs.{image-room, fresh-is, starts-is, Inv, Same, restart-inv, step-same, run-same, images, TextOk}
 
@@ -91,10 +94,6 @@ ids-differ (r ∷ l) h = rw (none l (h .0)) (ids-differ l (h .1))
     none [] h = refl
     none (x ∷ l) h = rw (h .0) (none l (h .1))
 
-all-differ : (q : Queue) (now height : ℕ) → Fit q → Pairwise Diff (selectedAt now height q)
-all-differ q now height f =
-    sort-apart first? Diff diff-sym (filter (selected? now height) (q .recs)) (sub-pairwise Diff (filter-sub (selected? now height) (q .recs)) (rising-diff (q .recs) (f .sound .rising)))
-
 all-apart : (q : Queue) (now height : ℕ) → Fit q → Pairwise Apart (selectedAt now height q)
 all-apart q now height f =
     sort-apart first? Apart apart-sym (filter (selected? now height) (q .recs)) (sub-pairwise Apart (filter-sub (selected? now height) (q .recs)) (f .sound .apart))
@@ -103,7 +102,7 @@ pub template : (area : Bytes) (q : Queue) (now height : ℕ) → readArea area �
 unfolding selectionAtOf selectionAt readOf
 template area q now height e f = record {
   told = λ out. rw e;
-  once = ids-differ (selectedAt now height q) (all-differ q now height f);
+  once = ids-differ (selectedAt now height q) (selected-differ now height q (f .sound .rising));
   apart = of-apart (selectedAt now height q) (all-apart q now height f);
 }
 
@@ -115,8 +114,21 @@ best-set area q limit budget now height e f =
     record {
       told = λ out. rw e refl;
       part = u;
-      once = ids-differ s (sub-pairwise Diff u (all-differ q now height f));
+      once = ids-differ s (sub-pairwise Diff u (selected-differ now height q (f .sound .rising)));
       apart = of-apart s (sub-pairwise Apart u (all-apart q now height f));
+    }
+
+-- the list holds selected records, none twice
+pub ordered : (area : Bytes) (q : Queue) (now height : ℕ) → readArea area ≡ some q → Fit q → Ordered area q now height
+unfolding parentsFirstOf readOf
+ordered area q now height e f =
+    let l = parentsFirstAt now height q in
+    let s = such waitsFor? (selectedAt now height q) (selected-once now height q (f .sound .rising)) in
+    record {
+      told = λ out. rw e;
+      promised = parents-first now height q (f .sound .rising);
+      once = ids-differ l (inside-pairwise Diff diff-sym (selectedAt now height q) (selected-differ now height q (f .sound .rising)) l (s .once) (s .chosen));
+      apart = of-apart l (inside-pairwise Apart apart-sym (selectedAt now height q) (all-apart q now height f) l (s .once) (s .chosen));
     }
 
 -- after every list of steps
@@ -137,6 +149,12 @@ unfolding BestSets
 no-input-twice-in-a-block m first second xs range room ok limit budget now height =
     let s = in-area m first second xs range room ok in
     best-set (run (worldStep m) (world m first second) xs .1 .area) (run (plainStep m) (restart m none) xs .1 .queue) limit budget now height (s .0) (s .1)
+
+pub parents-first-in-a-template : OrderedLists
+unfolding OrderedLists
+parents-first-in-a-template m first second xs range room ok now height =
+    let s = in-area m first second xs range room ok in
+    ordered (run (worldStep m) (world m first second) xs .1 .area) (run (plainStep m) (restart m none) xs .1 .queue) now height (s .0) (s .1)
 
 -- ---- the same for a node that always lends the image writer as much as any image takes
 

@@ -28,6 +28,9 @@ use Rattle.queue.specs.paper.Changing.{Out, refused, done, named?, moved, admit
 use Rattle.queue.specs.paper.Reading.{selectedAt, selectionAt}
 use Rattle.queue.specs.paper.Calls.{items, given, entryBytes, idsBytes, releasedBytes, nothingBytes, Call, admitting, cancelling, expiring, reconciling, reopening, settingCursor, admission, reconciliation, shape?, overK?, worked, rules, work, byKind}
 use Rattle.queue.specs.paper.Fees.{bestFees, candidates, sizeOf, feeOf}
+use Rattle.queue.specs.paper.Parents.{waitsFor?, parentsFirstAt}
+use Rattle.queue.specs.parents.Laws.{all-in, in-all}
+use Rattle.queue.specs.parents.Claims.{selected-once, such}
 use Rattle.pokerbox.specs.paper.Machine.{Fate, kept, failed, cutBefore, cutAfter, Step, call, cut, run, Plain, restart, wrote, settling, plainStep, worldStep}
 use Rattle.pokerbox.specs.paper.Claim.{StepOk, StepsOk, mover, movedBy}
 use Rattle.pokerbox.specs.paper.Withdrawn.{withdraws, admits, History, withWrite, resumed, noted, historyBy, history, NotSelected, WithdrawnUnselected, keptHere?, keptIds, NotAdmitted, after, WithdrawnStays}
@@ -147,6 +150,10 @@ not-selected area q i e f g = record {
   absentBest = λ limit budget now height.
       unnamed-among i (bestFees sizeOf feeOf (candidates now height q) limit budget .set)
       (sub-all (λ r. named? i r ≡ false) (best-set area q limit budget now height e f .part) (no-holder-unselected i now height q f g));
+  absentFirst = λ now height.
+      unnamed-among i (parentsFirstAt now height q)
+      (in-all (λ r. named? i r ≡ false) (parentsFirstAt now height q)
+      (λ r h. all-in (λ r. named? i r ≡ false) (selectedAt now height q) (no-holder-unselected i now height q f g) r (such waitsFor? (selectedAt now height q) (selected-once now height q (f .sound .rising)) .chosen r h)));
 }
 
 among-all : (P : Id → Type 0) (l : List Id) (i : Id) → All P l → among? i l ≡ true → P i

@@ -9,14 +9,15 @@ use lib.Dec.{eqb}
 use lib.ListN.{length, take, replicate}
 use Rattle.queue.specs.declared.Answer.{Answer}
 use Rattle.queue.specs.Hex.{textOf, digOf}
-use Rattle.queue.specs.paper.Records.{Bytes, Id, Limits, Rec, Queue}
-use Rattle.queue.specs.paper.Lists.{all?, find, map}
+use Rattle.queue.specs.paper.Records.{Bytes, Id, Limits, Rec, Queue, queued, mined, conflicted}
+use Rattle.queue.specs.paper.Lists.{all?, find, map, concat}
 use Rattle.queue.specs.paper.Ids.{cmpL, same?, rise?}
 use Rattle.queue.specs.paper.Sound.{need, sound?, inRange, counts?, right?, distinct?, apart?, used?, clash?}
 use Rattle.queue.specs.paper.Area.{termsBytes, placeBytes, heldBytes, recBytes, headBytes, queueBytes, areaBytes, imageBytes, over}
 use Rattle.queue.specs.paper.Changing.{Out, refused, done, top, named?, committed, moved, newRec, admit, finished, finishThose, forget, cancel, due?, expire, Applied, confirm, touch, releases, reconcile, reopened, reopen, setCursor, touchedRecs, toRelease}
 use Rattle.queue.specs.paper.Calls.{kindNumber, number, idsBytes, fresh, settleNext}
 use Rattle.queue.specs.paper.Fees.{Best, bestFees, bestBytes, searchOf}
+use Rattle.queue.specs.paper.Parents.{listed, waitsFor?, parentsFirstAt}
 
 -- the number that a call gives back: a refusal's own, or 100 and the kind
 abbrev gives : {A : Type 0} → Out A → ℕ
@@ -153,6 +154,44 @@ paying fee = record {
   body = none;
 }
 
+-- document 02, P7: a record's number, priority, inputs and outputs; a number is an id
+abbrev Row : Type 0
+Row = ℕ × (ℕ × (List ℕ × List ℕ))
+
+-- state, reason and place, time deadline and height deadline
+abbrev standing : ℕ → ℕ → Option (ℕ × Id) → Option ℕ → Option ℕ → Row → Rec
+standing state reason place due dueHeight r = record {
+  id = id (r .0);
+  state = state;
+  reason = reason;
+  terms = record { created = 0; due = due; dueHeight = dueHeight; priority = r .1 .0; label = none; fee = 0; size = 0; cost = 0 };
+  place = place;
+  mark = 0;
+  finish = 0;
+  body = some (record { ins = map id (r .1 .1 .0); outs = map id (r .1 .1 .1); bytes = [] });
+}
+
+abbrev waiting : Row → Rec
+waiting = standing queued 0 none none none
+
+abbrev inBlock : Row → Rec
+inBlock = standing mined 0 (some (50, id 7)) none none
+
+abbrev inConflict : Row → Rec
+inConflict = standing conflicted 5 none none none
+
+abbrev holding : List Rec → Queue
+holding recs = record { persisted = 0; limits = limits 10 10 1 2; revision = 0; cursor = 0; tip = none; counter = 0; recs = recs }
+
+-- the queue with these records is sound, and the list at this time and height has these numbers
+abbrev listsAt? : ℕ → ℕ → List Rec → List ℕ → Bool
+listsAt? now height recs numbers =
+    let q = holding recs in
+    sound? q && same? (concat (map (λ r. r .id) (parentsFirstAt now height q))) (concat (map id numbers))
+
+abbrev lists? : List Row → List ℕ → Bool
+lists? rows numbers = listsAt? 0 0 (map waiting rows) numbers
+
 abbrev cards : List Bool
 cards =
     -- "Deadline 6 at 5 enters, 5 doesn't."
@@ -238,8 +277,47 @@ cards =
     -- "21, the candidates' fees sum over 18,446,744,073,709,551,615", and not at it: then 4
     ∷ eqb (number (searchOf (paying top ∷ paying 1 ∷ []) 0 1 [] .0)) 21
     ∷ eqb (number (searchOf (paying (top - 1) ∷ paying 1 ∷ []) 0 1 [] .0)) 4
+    -- P7: nothing selected
+    ∷ lists? [] []
+    ∷ listsAt? 0 0 (inBlock (1, (0, (50 ∷ [], []))) ∷ inConflict (2, (0, (51 ∷ [], []))) ∷ []) []
+    -- nobody waits: the old order, which is priority falling, then ids rising
+    ∷ lists? ((1, (0, (50 ∷ [], []))) ∷ (2, (5, (51 ∷ [], []))) ∷ (3, (5, (52 ∷ [], []))) ∷ []) (2 ∷ 3 ∷ 1 ∷ [])
+    -- a parent behind its child; before it
+    ∷ lists? ((1, (0, (60 ∷ [], []))) ∷ (2, (0, (50 ∷ [], 60 ∷ []))) ∷ []) (2 ∷ 1 ∷ [])
+    ∷ lists? ((1, (0, (60 ∷ [], []))) ∷ (2, (5, (50 ∷ [], 60 ∷ []))) ∷ []) (2 ∷ 1 ∷ [])
+    -- the child right behind its parent, though 3 was free before it: from the front again
+    ∷ lists? ((1, (0, (60 ∷ [], []))) ∷ (2, (0, (50 ∷ [], 60 ∷ []))) ∷ (3, (0, (51 ∷ [], []))) ∷ []) (2 ∷ 1 ∷ 3 ∷ [])
+    -- "every other": its own output among its inputs
+    ∷ lists? ((1, (0, (60 ∷ [], 60 ∷ []))) ∷ (2, (0, (50 ∷ [], []))) ∷ []) (1 ∷ 2 ∷ [])
+    -- 1 and 2 wait for each other, 3 for 2: all three are left off
+    ∷ lists? ((1, (0, (71 ∷ [], 70 ∷ []))) ∷ (2, (0, (70 ∷ [], 71 ∷ 72 ∷ []))) ∷ (3, (0, (72 ∷ [], []))) ∷ (4, (0, (50 ∷ [], []))) ∷ []) (4 ∷ [])
+    -- two parents, 1 and 3; the child 4, first in the old order, right behind the last of them, and before 2 of lower priority,
+    -- which was free all the time
+    ∷ lists? ((1, (5, (50 ∷ [], 61 ∷ []))) ∷ (2, (1, (52 ∷ [], []))) ∷ (3, (4, (51 ∷ [], 62 ∷ []))) ∷ (4, (9, (61 ∷ 62 ∷ [], []))) ∷ [])
+    (1 ∷ 3 ∷ 4 ∷ 2 ∷ [])
+    -- an output that two records name: both are waited for
+    ∷ lists? ((1, (0, (61 ∷ [], []))) ∷ (2, (0, (50 ∷ [], 61 ∷ []))) ∷ (3, (0, (51 ∷ [], []))) ∷ (4, (0, (52 ∷ [], 61 ∷ []))) ∷ [])
+    (2 ∷ 3 ∷ 4 ∷ 1 ∷ [])
+    -- its own output, which another names too: that one is waited for
+    ∷ lists? ((1, (0, (60 ∷ [], 60 ∷ []))) ∷ (2, (0, (50 ∷ [], 60 ∷ []))) ∷ []) (2 ∷ 1 ∷ [])
+    -- a grandparent behind the parent behind the child
+    ∷ lists? ((1, (0, (61 ∷ [], []))) ∷ (2, (0, (60 ∷ [], 61 ∷ []))) ∷ (3, (0, (50 ∷ [], 60 ∷ []))) ∷ (4, (0, (51 ∷ [], []))) ∷ []) (3 ∷ 2 ∷ 1 ∷ 4 ∷ [])
+    -- a parent that is Mined, or Conflicted, is not waited for
+    ∷ listsAt? 0 0 (waiting (1, (0, (60 ∷ [], []))) ∷ inBlock (2, (0, (50 ∷ [], 60 ∷ []))) ∷ []) (1 ∷ [])
+    ∷ listsAt? 0 0 (waiting (1, (0, (60 ∷ [], []))) ∷ inConflict (2, (0, (50 ∷ [], 60 ∷ []))) ∷ []) (1 ∷ [])
+    -- nor is one past its deadline: before it and at it, by time and by height
+    ∷ listsAt? 5 0 (waiting (1, (0, (60 ∷ [], []))) ∷ standing queued 0 none (some 6) none (2, (0, (50 ∷ [], 60 ∷ []))) ∷ []) (2 ∷ 1 ∷ [])
+    ∷ listsAt? 6 0 (waiting (1, (0, (60 ∷ [], []))) ∷ standing queued 0 none (some 6) none (2, (0, (50 ∷ [], 60 ∷ []))) ∷ []) (1 ∷ [])
+    ∷ listsAt? 0 5 (waiting (1, (0, (60 ∷ [], []))) ∷ standing queued 0 none none (some 6) (2, (0, (50 ∷ [], 60 ∷ []))) ∷ []) (2 ∷ 1 ∷ [])
+    ∷ listsAt? 0 6 (waiting (1, (0, (60 ∷ [], []))) ∷ standing queued 0 none none (some 6) (2, (0, (50 ∷ [], 60 ∷ []))) ∷ []) (1 ∷ [])
+    -- 2 is Mined and between 1 and its grandparent 3: nothing to wait for
+    ∷ listsAt? 0 0 (waiting (1, (0, (61 ∷ [], []))) ∷ inBlock (2, (0, (60 ∷ [], 61 ∷ []))) ∷ waiting (3, (0, (50 ∷ [], 60 ∷ []))) ∷ []) (1 ∷ 3 ∷ [])
+    -- ten at once: 9, 7 and 5 a chain, 6 with its own output, 3 and 4 in a ring, 1 waits for 10
+    ∷ lists? ((1, (9, (73 ∷ 52 ∷ [], []))) ∷ (2, (8, (72 ∷ [], []))) ∷ (3, (7, (70 ∷ [], 71 ∷ []))) ∷ (4, (6, (71 ∷ [], 70 ∷ []))) ∷ (5, (5, (61 ∷ [], 62 ∷ [])))
+    ∷ (6, (4, (64 ∷ [], 64 ∷ []))) ∷ (7, (3, (60 ∷ [], 61 ∷ []))) ∷ (8, (2, (51 ∷ [], 63 ∷ []))) ∷ (9, (1, (50 ∷ [], 60 ∷ []))) ∷ (10, (0, (53 ∷ [], 73 ∷ []))) ∷ [])
+    (2 ∷ 6 ∷ 8 ∷ 9 ∷ 7 ∷ 5 ∷ 10 ∷ 1 ∷ [])
     ∷ []
 
 pub all-cards : all? (λ b. b) cards ≡ true
-unfolding cmpL over need sound? inRange counts? right? rise? distinct? apart? used? clash? termsBytes placeBytes heldBytes recBytes headBytes queueBytes areaBytes imageBytes committed moved newRec admit finished finishThose forget cancel due? expire confirm touch releases touchedRecs toRelease reconcile reopened reopen setCursor textOf digOf idsBytes bestBytes searchOf
+unfolding cmpL over need sound? inRange counts? right? rise? distinct? apart? used? clash? termsBytes placeBytes heldBytes recBytes headBytes queueBytes areaBytes imageBytes committed moved newRec admit finished finishThose forget cancel due? expire confirm touch releases touchedRecs toRelease reconcile reopened reopen setCursor textOf digOf idsBytes bestBytes searchOf listed waitsFor?
 all-cards = refl

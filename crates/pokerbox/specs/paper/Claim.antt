@@ -18,6 +18,7 @@ use Rattle.queue.specs.paper.Area.{areaBytes, imageBytes}
 use Rattle.queue.specs.paper.Reading.{selectedAt}
 use Rattle.queue.specs.paper.Calls.{idsBytes, Call, admitting, cancelling, expiring, reconciling, reopening, settingCursor, work, byKind, freshOf, toldOut, selectionAtOf}
 use Rattle.queue.specs.paper.Fees.{bestFees, candidates, sizeOf, feeOf, searchOf, budget?, bestFeesOf}
+use Rattle.queue.specs.paper.Parents.{parentsFirstAt, parentsFirstOf, ParentsFirst}
 use Rattle.pokerbox.specs.paper.Machine.{Fate, kept, failed, cutBefore, cutAfter, Step, call, cut, Told, run, Plain, restart, plainStep, World, worldStep, starts}
 
 -- ---- which lists: any, as far as numbers fit their widths and bytes are bytes (a caller can lend nothing else), and "all
@@ -136,3 +137,14 @@ pub record BestSet (area : Bytes) (q : Queue) (limit budget now height : ℕ) : 
 
 unfoldable pub BestSets : Type 0
 BestSets = Always λ m xs v p. (limit budget now height : ℕ) → BestSet (v .1 .area) (p .1 .queue) limit budget now height
+
+-- Document 02, P7: what `selection_parents_first` answers on the bytes in the area, for any time and height: the ids of records as
+-- the request promises them, no id twice, and no input id in two of these records.
+pub record Ordered (area : Bytes) (q : Queue) (now height : ℕ) : Type 0 where
+  pub told : (out : Bytes) → parentsFirstOf area now height out ≡ toldOut (idsBytes (map (λ r. r .id) (parentsFirstAt now height q))) out
+  pub promised : ParentsFirst now height q
+  pub once : different? (map (λ r. r .id) (parentsFirstAt now height q)) ≡ true
+  pub apart : apart? (parentsFirstAt now height q) ≡ true
+
+unfoldable pub OrderedLists : Type 0
+OrderedLists = Always λ m xs v p. (now height : ℕ) → Ordered (v .1 .area) (p .1 .queue) now height

@@ -26,6 +26,7 @@ use Rattle.queue.specs.paper.Changing.{due?}
 use Rattle.queue.specs.paper.Reading.{selectionAt}
 use Rattle.queue.specs.paper.Calls.{idsBytes, Call, admitting, cancelling, expiring, reconciling, reopening, settingCursor, work, byKind, toldOut, selectionAtOf}
 use Rattle.queue.specs.paper.Fees.{bestFees, candidates, sizeOf, feeOf}
+use Rattle.queue.specs.paper.Parents.{parentsFirstAt}
 use Rattle.pokerbox.specs.paper.Machine.{Fate, kept, failed, cutBefore, cutAfter, Step, call, cut, run, Plain, restart, plainStep}
 use Rattle.pokerbox.specs.paper.Claim.{Always}
 
@@ -86,11 +87,13 @@ history m p h (x ∷ xs) = history m (plainStep m p x .1) (historyBy p h x) xs
 -- ---- the claim
 
 -- "that id is in no selection": it is not among the ids that the selection answers on the bytes in the area, at any time and
--- height; nor in the set that `best_fees` answers there (`BestSets`), for any limit and budget.
+-- height; nor in the set that `best_fees` answers there (`BestSets`), for any limit and budget; nor in the list that
+-- `selection_parents_first` answers there (`OrderedLists`).
 pub record NotSelected (area : Bytes) (q : Queue) (i : Id) : Type 0 where
   pub told : (now height : ℕ) (out : Bytes) → selectionAtOf area now height out ≡ toldOut (idsBytes (selectionAt now height q)) out
   pub absent : (now height : ℕ) → among? i (selectionAt now height q) ≡ false
   pub absentBest : (limit budget now height : ℕ) → among? i (map (λ r. r .id) (bestFees sizeOf feeOf (candidates now height q) limit budget .set)) ≡ false
+  pub absentFirst : (now height : ℕ) → among? i (map (λ r. r .id) (parentsFirstAt now height q)) ≡ false
 
 -- After every list nobody of the history is selected.
 unfoldable pub WithdrawnUnselected : Type 0

@@ -112,8 +112,6 @@ module _ {A : Type 0} (waits? : A → A → Bool) where
   no-place [] y a e = let w : _≡_ {A = ℕ} 0 1 = cc in absurd (omega arith)
   no-place (b ∷ x) y a e = let w : _≡_ {A = ℕ} 0 1 = cc in absurd (omega arith)
 
-  -- "always the first, in the old order, of those that wait for nothing unlisted"
-
   -- a list cut before a, seen in what it came from
   unremoved : {X : Type 0} (d a : A) (x y v w : List A) → x ++ y ≡ v ++ a ∷ w
       → ((v′ w′ : List A) → x ++ d ∷ y ≡ v′ ++ a ∷ w′ → ((c : A) → In c v′ → (c ≡ d) ⊎ In c v) → X) → X
@@ -124,6 +122,7 @@ module _ {A : Type 0} (waits? : A → A → Bool) where
       let r : x ++ y ≡ v ++ a ∷ w = cc in
       unremoved d a x y v w r (λ v′ w′ z f. k (c ∷ v′) w′ (rw (q, z)) (λ g h. ⊎-elim (λ p. inr (inl p)) (λ m. ⊎-elim inl (λ i. inr (inr i)) (f g m)) h))
 
+  -- "always the first, in the old order, of those that wait for nothing unlisted"
   listed-next : (n : ℕ) (u : List A) → Once u → (x y : List A) (a : A) → listed waits? n u ≡ x ++ a ∷ y → First waits? u x a
   unfolding listed
   listed-next zero u o x y a e = no-place x y a e

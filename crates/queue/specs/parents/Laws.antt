@@ -1,12 +1,12 @@
 -- Laws of membership, of lists without repeats, and of the first that passes.
-use mathlib.Core.Path.{_≡_, refl, ap}
+use mathlib.Core.Path.{_≡_, refl}
 use mathlib.Core.Bool.{Bool, true, false}
 use mathlib.Core.Option.{Option, none, some}
 use mathlib.Core.List.{List, [], _∷_, _++_}
 use mathlib.Core.Logic.{_⊎_, inl, inr, ⊎-elim}
 use Prim.Native.Nat.{ℕ, suc, _≤_}
 use native.Mathlib.Omega.{arith}
-use lib.ListN.{length}
+use lib.ListN.{length, length-append}
 use Rattle.queue.specs.Codec.{cases, cond-cases, All}
 use Rattle.queue.specs.Lists.{Pairwise}
 use Rattle.queue.specs.ReadLaws.{false-true}
@@ -52,8 +52,7 @@ module _ {A : Type 0} where
       ((λ k. h .0 (in-back b a x y k), i .0), λ k. ⊎-elim (λ q. h .0 (rw (← q) (in-mid a x y))) (i .1) k)
 
   pub length-mid : (x y : List A) (a : A) → length (x ++ a ∷ y) ≡ suc (length (x ++ y))
-  length-mid [] y a = refl
-  length-mid (b ∷ x) y a = ap suc (length-mid x y a)
+  length-mid x y a = simp length-append (omega arith)
 
   in-place : {X : Type 0} (a : A) (l : List A) → In a l → ((x y : List A) → l ≡ x ++ a ∷ y → X) → X
   in-place a [] h k = absurd h
