@@ -11,6 +11,7 @@ use queue::fees::best_fees;
 use queue::frame::Height;
 use queue::frame::Time;
 use queue::limits::Limits;
+use queue::parents::parents_first;
 use queue::pieces::confirmations;
 use queue::pieces::due;
 use queue::pieces::guarded_ids;
@@ -38,6 +39,7 @@ ghost use Rattle.queue.specs.paper.Lists.{one, isEmpty?};
 ghost use Rattle.queue.specs.paper.Reading.{deadlineDue?, recordIds, guardedIds, reservedInputs, dueStates, confirmations};
 ghost use Rattle.queue.specs.paper.Calls.{number, kindNumber, gives, counted, entryBytes, idsBytes, placedBytes, dueBytes, cursorBytes, admitArgs, reconcileArgs, admitting, cancelling, expiring, reconciling, reopening, settingCursor, callOf, freshOf, soundOf, settleOf, readOf, numberOf, entryOf, signedBytesOf, selectionAtOf};
 ghost use Rattle.queue.specs.paper.Fees.{bestFeesOf};
+ghost use Rattle.queue.specs.paper.Parents.{parentsFirstOf};
 ghost use Rattle.image.specs.paper.Image.{imageOf, openOf, needOf, imageLimitsOf};
 
 fn kind_number(k: Kind) -> u64
@@ -275,6 +277,19 @@ pub extern "C" fn pokerbox_selection_entries_at(
     ensures { λ r. ⌜ (r, now (out .exit)) ≡ gives (selectionAtOf (now (area .entry)) time height (now (out .entry))) ⌝ }
 {
     number(selection_at(area, Time(time), Height(height as u64), out))
+}
+
+// The same, parents first: each record after all that it waits for. 3, 4.
+#[no_mangle]
+pub extern "C" fn pokerbox_selection_parents_first(
+    area: &[u8],
+    time: u64,
+    height: u32,
+    out: &mut [u8],
+) -> u64
+    ensures { λ r. ⌜ (r, now (out .exit)) ≡ gives (parentsFirstOf (now (area .entry)) time height (now (out .entry))) ⌝ }
+{
+    number(parents_first(area, Time(time), Height(height as u64), out))
 }
 
 // Best fees for a block of at most `limit` bytes: fee, nodes, distance, and the ids of the set. 3, 5, 21, 4.
