@@ -2,7 +2,7 @@
 //! damaged input.
 
 // Some parts wait for calls that are not exported yet.
-#![cfg_attr(not(all_exported), allow(dead_code))]
+#![cfg_attr(not(all_exported), allow(dead_code, unused_imports))]
 
 mod common;
 
@@ -10,6 +10,7 @@ use common::{
     area_to_write, lent_flag, lent_id, lent_queue, many, output, same, same_change, same_reading,
     same_values, sometimes_cut, Met,
 };
+use model::load::{self, Ids, Links, Load};
 use model::random::{self, Rng};
 use model::{area, calls, image, Limits, Queue};
 use pokerbox::raw;
@@ -550,7 +551,106 @@ macro_rules! moment_readings {
 
 moment_readings! {
     "selection_entries_at" selection_entries_at;
+    "selection_parents_first" selection_parents_first;
     "due" due;
+}
+
+/// Parents first by the library and by the model, with an output around the answer's length.
+#[cfg(exported = "selection_parents_first")]
+fn same_parents_first(met: &mut Met, rng: &mut Rng, queue: &Queue, (now, height): (u64, u32)) {
+    let lent = area::encode(queue);
+    let mut answer = vec![0; 4 + 32 * queue.records.len()];
+    let number = calls::selection_parents_first(&lent, now, height, &mut answer);
+    assert_eq!(number, 100);
+    let count = u32::from_be_bytes(answer[..4].try_into().expect("4 bytes"));
+    let out = output(rng, 4 + 32 * count as usize);
+    same(
+        met,
+        &[],
+        &out,
+        |_, out| raw::selection_parents_first(&lent, now, height, out),
+        |_, out| calls::selection_parents_first(&lent, now, height, out),
+    );
+}
+
+/// Chains, rings, outputs that two records name, parents that are not selected.
+#[test]
+#[cfg(exported = "selection_parents_first")]
+fn parents_first_of_many() {
+    for count in [0, 1, 2, 3, 5, 9, 20, 60] {
+        let mut met = Met::default();
+        many(600, |rng| {
+            let queue = random::parents_queue(rng, count);
+            let moment = (random::time(rng).0, random::height(rng).0);
+            same_parents_first(&mut met, rng, &queue, moment);
+        });
+        met.expect(&[4, 100]);
+    }
+}
+
+/// Every kind of ids, and every way of waiting, with counts around a power of two.
+#[test]
+#[cfg(exported = "selection_parents_first")]
+fn parents_first_of_loads() {
+    let mut met = Met::default();
+    for ids in [
+        Ids::Random,
+        Ids::Front,
+        Ids::Ends,
+        Ids::Filter,
+        Ids::Sum,
+        Ids::Repeated,
+    ] {
+        for links in [
+            Links::Apart,
+            Links::Ring,
+            Links::Chain,
+            Links::Reversed,
+            Links::Spread,
+        ] {
+            if (ids, links) == (Ids::Repeated, Links::Spread) {
+                continue;
+            }
+            for queued in [1, 2, 31, 63, 64, 65, 129] {
+                let queue = load::queue(&Load {
+                    limits: [1_024, 65_536, 1_024, 5],
+                    queued,
+                    mined: 3,
+                    tombstones: 2,
+                    boxes: 5,
+                    bytes: 1,
+                    ids,
+                    links,
+                });
+                let rng = &mut Rng::new(queued);
+                same_parents_first(&mut met, rng, &queue, (0, 0));
+                // One of them is due.
+                same_parents_first(&mut met, rng, &queue, (5, 0));
+            }
+        }
+    }
+    met.expect(&[4, 100]);
+}
+
+/// Outputs that are each named by many records, and records whose every output is named by another.
+#[test]
+#[cfg(exported = "selection_parents_first")]
+fn parents_first_of_shared_outputs() {
+    let mut met = Met::default();
+    many(60, |rng| {
+        let mut queue = random::parents_queue(rng, 70);
+        let inputs = model::rules::reserved_inputs(&queue);
+        let inputs: Vec<_> = inputs.into_iter().collect();
+        let k = queue.limits.inputs as usize;
+        // Few ids for all outputs.
+        let few = 1 + rng.below(6);
+        for holder in queue.records.iter_mut().filter_map(|r| r.holder.as_mut()) {
+            let named = (0..rng.up_to(k)).map(|_| inputs[rng.below(few.min(inputs.len()))]);
+            holder.outputs = named.collect();
+        }
+        same_parents_first(&mut met, rng, &queue, (0, 0));
+    });
+    met.expect(&[4, 100]);
 }
 
 /// What best fees is given beside the area and the output.
@@ -814,7 +914,8 @@ value_readings! {
     exported = "expire",
     exported = "image",
     exported = "open",
-    exported = "selection_entries_at"
+    exported = "selection_entries_at",
+    exported = "selection_parents_first"
 ))]
 fn many_records() {
     let limits = Limits::checked(1_024, 65_536, 1_024, 2).unwrap();
@@ -846,6 +947,13 @@ fn many_records() {
             &out,
             |_, out| raw::selection_entries_at(&lent, 3, 4, out),
             |_, out| calls::selection_entries_at(&lent, 3, 4, out),
+        );
+        same(
+            &mut met,
+            &next,
+            &out,
+            |_, out| raw::selection_parents_first(&lent, 3, 4, out),
+            |_, out| calls::selection_parents_first(&lent, 3, 4, out),
         );
         let text = image::encode(&queue);
         let mut written = vec![0; text.len()];
