@@ -173,17 +173,8 @@ impl<'s, S: Side> Unit<'s, S> {
         Ok(text)
     }
 
-    /// The output of `length` bytes that a call leaves, or its refusal.
-    fn output(length: usize, call: impl FnOnce(&mut [u8]) -> u64) -> Result<Vec<u8>, u64> {
-        let mut out = vec![UNTOUCHED; length];
-        match call(&mut out) {
-            100 => Ok(out),
-            number => Err(number),
-        }
-    }
-
     pub fn read(&self, reading: Reading, length: usize) -> Result<Vec<u8>, u64> {
-        Self::output(length, |out| self.side.read(reading, &self.current, out))
+        output(length, |out| self.side.read(reading, &self.current, out))
     }
 
     /// The ids that a selection has. No queue has more records than there is room for.
@@ -196,11 +187,18 @@ impl<'s, S: Side> Unit<'s, S> {
     }
 
     pub fn entry(&self, id: &Id, length: usize) -> Result<Vec<u8>, u64> {
-        Self::output(length, |out| self.side.entry(&self.current, id, out))
+        output(length, |out| self.side.entry(&self.current, id, out))
     }
 
     pub fn best_fees(&self, asked: &Fees, length: usize) -> Result<Vec<u8>, u64> {
-        Self::output(length, |out| self.side.best_fees(&self.current, asked, out))
+        output(length, |out| self.side.best_fees(&self.current, asked, out))
+    }
+
+    pub fn parents_first(&self, now: u64, height: u32, length: usize) -> Result<Vec<u8>, u64> {
+        let area = &self.current;
+        output(length, |out| {
+            self.side.parents_first(area, now, height, out)
+        })
     }
 
     /// The number given back, and what stands behind the pointer.
@@ -224,6 +222,15 @@ impl<'s, S: Side> Unit<'s, S> {
             100 => Ok(&self.current[start as usize..(start + length) as usize]),
             number => Err(number),
         }
+    }
+}
+
+/// The output of `length` bytes that a call leaves, or its refusal.
+pub(crate) fn output(length: usize, call: impl FnOnce(&mut [u8]) -> u64) -> Result<Vec<u8>, u64> {
+    let mut out = vec![UNTOUCHED; length];
+    match call(&mut out) {
+        100 => Ok(out),
+        number => Err(number),
     }
 }
 
