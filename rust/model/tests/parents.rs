@@ -1,9 +1,9 @@
 //! Parents first: worked examples, the list against all lists of small selections, and the call on
 //! queues.
 
-use std::collections::BTreeMap;
+use std::collections::{BTreeMap, BTreeSet};
 
-use model::parents::{parents_first, waits_for};
+use model::parents::parents_first;
 use model::random::{self, Rng};
 use model::{
     area, calls, rules, Confirmation, FinishNumber, Height, Holder, Id, Limits, Queue, Reason,
@@ -193,12 +193,37 @@ fn a_ring_with_one_that_is_not_selected() {
     assert_eq!(listed(&[late, other]), [2]);
 }
 
-/// Selected records, none twice, each after all selected ones that it waits for.
-fn fits(selected: &[&Record], list: &[usize]) -> bool {
+/// The example of docs/CALLS.md, A to E as 1 to 5.
+#[test]
+fn the_example_of_the_documents() {
+    let mut all = [
+        record(1, 9, &[101, 102], &[103]),
+        record(2, 8, &[104], &[101]),
+        record(3, 7, &[105], &[106]),
+        record(4, 6, &[107], &[102, 108]),
+        record(5, 5, &[109], &[110]),
+    ];
+    assert_eq!(listed(&all), [2, 3, 4, 1, 5]);
+    all[3].time_deadline = Some(NOW);
+    assert_eq!(listed(&all), [2, 1, 3, 5]);
+    all[3] = record(4, 6, &[107], &[102, 108, 105]);
+    all[2] = record(3, 7, &[105], &[106, 107]);
+    assert_eq!(listed(&all), [2, 5]);
+}
+
+/// Whether another has one of the record's inputs among its outputs.
+fn waits_for(record: &Record, other: &Record) -> bool {
+    let set = |ids: &[Id]| ids.iter().copied().collect::<BTreeSet<Id>>();
+    let (inputs, outputs) = (set(record.inputs()), set(other.outputs()));
+    record.id != other.id && !inputs.is_disjoint(&outputs)
+}
+
+/// Selected records, none twice, each after all selected ones that it waits for. `waits` has for each
+/// record whether it waits for each.
+fn fits(waits: &[Vec<bool>], list: &[usize]) -> bool {
     let once = (0..list.len()).all(|at| !list[..at].contains(&list[at]));
     let after = (0..list.len()).all(|at| {
-        let waited = |place: &usize| waits_for(selected[list[at]], selected[*place]);
-        let mut waited = (0..selected.len()).filter(waited);
+        let mut waited = (0..waits.len()).filter(|place| waits[list[at]][*place]);
         waited.all(|place| list[..at].contains(&place))
     });
     once && after
@@ -235,9 +260,11 @@ fn no_list_that_fits_has_more_and_none_of_as_many_is_before_it() {
         };
         let list: Option<Vec<usize>> = listed.iter().map(place).collect();
         let list = list.expect("selected records");
-        assert!(fits(&selected, &list), "seed {seed}");
+        let row = |one: &&Record| selected.iter().map(|other| waits_for(one, other)).collect();
+        let waits: Vec<Vec<bool>> = selected.iter().map(row).collect();
+        assert!(fits(&waits, &list), "seed {seed}");
         let all = lists[selected.len()].iter();
-        let fitting: Vec<_> = all.filter(|list| fits(&selected, list)).collect();
+        let fitting: Vec<_> = all.filter(|list| fits(&waits, list)).collect();
         let most = fitting.iter().map(|list| list.len()).max();
         assert_eq!(most, Some(list.len()), "seed {seed}");
         // By the places in the old order, it is the first of those with as many.

@@ -87,9 +87,9 @@ impl Lent {
         inputs.sum::<usize>() <= FEW_INPUTS
     }
 
+    /// At time 0 and height 0, when the most are selected.
     fn few_selected(&self) -> bool {
-        let (now, height) = (TimeMs(self.args.now), Height(self.args.height));
-        rules::selection_at(&self.queue, now, height).len() <= FEW_SELECTED
+        rules::selection_at(&self.queue, TimeMs(0), Height(0)).len() <= FEW_SELECTED
     }
 
     /// The number that parents first gives back, by the library or by the model. The model is asked
@@ -97,11 +97,10 @@ impl Lent {
     /// who waits for whom.
     #[cfg(exported = "selection_parents_first")]
     fn parents_first(&mut self, library: bool) -> u64 {
-        let Args { now, height, .. } = self.args;
         let (area, out) = (&self.area, &mut self.out);
         match library {
-            true => common::Number::number(raw::selection_parents_first(area, now, height, out)),
-            false => calls::selection_entries_at(area, now, height, out),
+            true => common::Number::number(raw::selection_parents_first(area, 0, 0, out)),
+            false => calls::selection_entries_at(area, 0, 0, out),
         }
     }
 
@@ -286,8 +285,7 @@ fn few_inputs() {
 #[test]
 fn above_what_is_few() {
     let (ids, links) = (Ids::Random, Links::Spread);
-    // All but one of them are selected at every moment.
-    let many = loaded(514, 0, 15, ids, links);
+    let many = loaded(513, 0, 15, ids, links);
     assert!(many.few_inputs() && !many.few_selected());
     let wide = loaded(512, 0, 17, ids, links);
     assert!(!wide.few_inputs() && wide.few_selected());
