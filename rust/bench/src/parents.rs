@@ -2,7 +2,8 @@
 
 use std::time::Duration;
 
-use model::load::{Ids, Links, Load};
+use model::calls::ids_bytes;
+use model::load::{self, Ids, Links, Load};
 use pokerbox::raw;
 
 use crate::growth::{full, plain, ratio, times, Lent};
@@ -28,17 +29,14 @@ const IDS: [(Ids, &str); 5] = [
     (Ids::Sum, "chosen against the call's own hash"),
 ];
 
-/// The times of the call, which lists as many records as it should.
+/// The times of the call, which lists what it should.
 fn parents_first(lent: &Lent, load: &Load, enough: Duration) -> (f64, f64) {
     let mut out = vec![0; 4 + 32 * load.queued as usize];
     let time = times(enough, || {
         raw::selection_parents_first(lent.area(), 0, 0, &mut out).expect("answered");
     });
-    let listed = match load.links {
-        Links::Ring => 0,
-        _ => load.queued as u32,
-    };
-    assert_eq!(out[..4], listed.to_be_bytes(), "the count");
+    let listed = ids_bytes(&load::parents_first(load));
+    assert!(out.starts_with(&listed), "the list");
     time
 }
 

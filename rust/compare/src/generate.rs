@@ -46,7 +46,8 @@ pub fn fees_list(rng: &mut Rng) -> List {
 /// A list without events, many of whose records wait for others.
 pub fn parents_list(rng: &mut Rng) -> List {
     let count = rng.pick(&[2, 3, 4, 5, 6, 8, 12, 20, 40]);
-    let queue = random::parents_queue(rng, count);
+    let inputs = 1 + rng.below(4);
+    let queue = random::parents_queue(rng, count, inputs);
     List {
         limits: queue.limits,
         start: Start::Queue(Box::new(queue)),

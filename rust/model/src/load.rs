@@ -1,6 +1,8 @@
 //! Queues made to measure: how many records, how many inputs and outputs each, with which ids, and
 //! who waits for whom.
 
+use std::cmp::Reverse;
+
 use crate::random::{nth_id, Rng};
 use crate::values::{
     Confirmation, FinishNumber, Height, Holder, Id, Limits, Queue, Reason, Record, State, TimeMs,
@@ -105,6 +107,10 @@ fn holder(load: &Load, n: u64) -> Holder {
     }
 }
 
+fn record_id(n: u64) -> Id {
+    box_id(Ids::Random, (2 << 40) + n)
+}
+
 fn record(load: &Load, n: u64) -> Record {
     let holders = load.queued + load.mined;
     let state = match n {
@@ -113,7 +119,7 @@ fn record(load: &Load, n: u64) -> Record {
         _ => State::Cancelled,
     };
     Record {
-        id: box_id(Ids::Random, (2 << 40) + n),
+        id: record_id(n),
         state,
         reason: if state == State::Cancelled {
             Reason::Cancelled
@@ -123,10 +129,7 @@ fn record(load: &Load, n: u64) -> Record {
         created: TimeMs(n),
         time_deadline: (n == 1).then_some(TimeMs(5)),
         height_deadline: None,
-        priority: match load.links {
-            Links::Apart | Links::Ring => (n % 5) as i32,
-            Links::Chain | Links::Reversed | Links::Spread => 0,
-        },
+        priority: priority(load, n),
         label: None,
         fee: 1_000_000,
         size: load.bytes as u32,
@@ -139,6 +142,27 @@ fn record(load: &Load, n: u64) -> Record {
         finish: FinishNumber(if n < holders { 0 } else { n - holders + 1 }),
         holder: (n < holders).then(|| holder(load, n)),
     }
+}
+
+fn priority(load: &Load, n: u64) -> i32 {
+    match load.links {
+        Links::Apart | Links::Ring => (n % 5) as i32,
+        Links::Chain | Links::Reversed | Links::Spread => 0,
+    }
+}
+
+/// The ids that parents first has to list of the queue, at time 0 and height 0.
+pub fn parents_first(load: &Load) -> Vec<Id> {
+    let mut order: Vec<u64> = (0..load.queued).collect();
+    match load.links {
+        // By priority, then by time of creation.
+        Links::Apart => order.sort_by_key(|n| (Reverse(priority(load, *n)), *n)),
+        // One alone waits for nobody.
+        Links::Ring if load.queued > 1 => order.clear(),
+        Links::Ring | Links::Chain => {}
+        Links::Reversed | Links::Spread => order.reverse(),
+    }
+    order.into_iter().map(record_id).collect()
 }
 
 /// The queue, sound.

@@ -453,15 +453,16 @@ pub fn fees_budget(rng: &mut Rng) -> u64 {
     }
 }
 
-/// A sound queue of so many records, many of which name inputs of others among their outputs: in
-/// chains, in rings, two the same one, or one of their own. Some are Mined, Conflicted, finished, or
-/// have a deadline.
-pub fn parents_queue(rng: &mut Rng, count: usize) -> Queue {
+/// A sound queue of so many records, at most 2,048, many of which name inputs of others among their
+/// outputs: in chains, in rings, two the same one, or one of their own. Some are Mined, Conflicted,
+/// finished, or have a deadline.
+pub fn parents_queue(rng: &mut Rng, count: usize, inputs: usize) -> Queue {
+    let limit = (1 + count as u32).min(Limits::MAX_PENDING);
     let mut queue = Queue::fresh(Limits {
-        pending: 1 + count as u32,
+        pending: limit,
         bytes: 1 + count as u32,
-        tombstones: 1 + count as u32,
-        inputs: 1 + rng.below(4) as u32,
+        tombstones: limit,
+        inputs: inputs as u32,
     });
     let mut room = Room::new(&queue.limits);
     room.inputs.truncate(count * queue.limits.inputs as usize);

@@ -3,6 +3,7 @@
 
 use std::collections::{BTreeMap, BTreeSet};
 
+use model::load::{self, Ids, Links, Load};
 use model::parents::parents_first;
 use model::random::{self, Rng};
 use model::{
@@ -250,7 +251,8 @@ fn no_list_that_fits_has_more_and_none_of_as_many_is_before_it() {
     for seed in 0..1_500 {
         let mut rng = Rng::new(seed);
         let count = if seed % 5 == 0 { 8 } else { rng.below(8) };
-        let queue = random::parents_queue(&mut rng, count);
+        let inputs = 1 + rng.below(4);
+        let queue = random::parents_queue(&mut rng, count, inputs);
         let (now, height) = (random::time(&mut rng), random::height(&mut rng));
         let selected = rules::selection_at(&queue, now, height);
         let listed = parents_first(&queue, now, height);
@@ -313,7 +315,8 @@ fn the_call_on_queues() {
     for seed in 0..3_000 {
         let mut rng = Rng::new(seed);
         let count = rng.pick(&[0, 1, 2, 3, 5, 9, 20, 40]);
-        let queue = random::parents_queue(&mut rng, count);
+        let inputs = 1 + rng.below(4);
+        let queue = random::parents_queue(&mut rng, count, inputs);
         let (now, height) = (random::time(&mut rng), random::height(&mut rng));
         let (number, ids) = answer(&area::encode(&queue), now, height);
         assert_eq!(number, 100);
@@ -329,6 +332,41 @@ fn the_call_on_queues() {
     }
     let met = format!("{waiting}, {left_off}, {turned}");
     assert!(waiting > 1_000 && left_off > 400 && turned > 500, "{met}");
+}
+
+/// Of each load the list that it has to give.
+#[test]
+fn loads() {
+    for ids in [Ids::Random, Ids::Front, Ids::Sum, Ids::Repeated] {
+        for links in [
+            Links::Apart,
+            Links::Ring,
+            Links::Chain,
+            Links::Reversed,
+            Links::Spread,
+        ] {
+            if (ids, links) == (Ids::Repeated, Links::Spread) {
+                continue;
+            }
+            for queued in [0, 1, 2, 3, 20] {
+                let load = Load {
+                    limits: [20, 100, 2, 4],
+                    queued,
+                    mined: 2,
+                    tombstones: 2,
+                    boxes: 4,
+                    bytes: 3,
+                    ids,
+                    links,
+                };
+                let queue = load::queue(&load);
+                assert!(model::sound::is_sound(&queue));
+                let listed = parents_first(&queue, TimeMs(0), Height(0));
+                let listed: Vec<Id> = listed.iter().map(|record| record.id).collect();
+                assert_eq!(listed, load::parents_first(&load), "{load:?}");
+            }
+        }
+    }
 }
 
 /// 3, then 4.
