@@ -192,7 +192,19 @@ impl<'a, S: Side> Pair<'a, S> {
                 });
             }
         }
+        // The library's list, parents first, is a part of its selection.
+        for (now, height) in self.moments() {
+            let listed = self.unit.listed(now, height);
+            let listed = listed.map_err(|fault| self.fault(fault))?;
+            let wrong = self.withdrawn.unit.wrong(&listed);
+            self.same("withdrawn ids in selection_parents_first", wrong, vec![])?;
+        }
         Ok(())
+    }
+
+    /// The list's moment, and time 0 and height 0, when the selection has nearly all Queued records.
+    fn moments(&self) -> [(u64, u32); 2] {
+        [(self.probe.0 .0, self.probe.1 .0), (0, 0)]
     }
 
     fn same<T: PartialEq + fmt::Debug>(
@@ -389,10 +401,9 @@ impl<'a, S: Side> Pair<'a, S> {
     }
 
     /// Parents first, which the oracle has not: its list is looked at beside the oracle's selection,
-    /// and all of its answer is judged by the model. At time 0 and height 0 the selection has nearly
-    /// all Queued records.
+    /// and all of its answer is judged by the model.
     fn parents(&self, queue: &Queue, counts: &mut Counts) -> Result<(), Difference> {
-        for (now, height) in [(self.probe.0 .0, self.probe.1 .0), (0, 0)] {
+        for (now, height) in self.moments() {
             let selected = Reading::SelectionEntriesAt(now, height);
             let selected = ids_of(&self.oracle.read(selected));
             let selected =

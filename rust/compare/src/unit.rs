@@ -177,13 +177,22 @@ impl<'s, S: Side> Unit<'s, S> {
         output(length, |out| self.side.read(reading, &self.current, out))
     }
 
-    /// The ids that a selection has. No queue has more records than there is room for.
-    pub fn selected(&self, reading: Reading) -> Result<Vec<Id>, Fault> {
+    /// No answer of ids is longer: no queue has more records than there is room for.
+    fn ids_bound(&self) -> usize {
         let limits = &self.first_limits;
-        let length = 4 + 32 * (2 * limits.pending + limits.tombstones) as usize;
-        let answer = self.read(reading, length);
-        let answer = answer.map_err(|number| format!("{} gave back {number}", reading.name()))?;
-        ids_of(&answer).ok_or(format!("{} is not whole", reading.name()))
+        4 + 32 * (2 * limits.pending + limits.tombstones) as usize
+    }
+
+    /// The ids that a selection has.
+    pub fn selected(&self, reading: Reading) -> Result<Vec<Id>, Fault> {
+        let answer = self.read(reading, self.ids_bound());
+        ids_in(reading.name(), answer)
+    }
+
+    /// The ids that are listed parents first.
+    pub fn listed(&self, now: u64, height: u32) -> Result<Vec<Id>, Fault> {
+        let answer = self.parents_first(now, height, self.ids_bound());
+        ids_in("selection_parents_first", answer)
     }
 
     pub fn entry(&self, id: &Id, length: usize) -> Result<Vec<u8>, u64> {
@@ -254,6 +263,12 @@ fn expect(call: &str, number: u64, expected: u64) -> Result<(), Fault> {
         return Err(format!("{call} gave back {number}, not {expected}"));
     }
     Ok(())
+}
+
+/// The ids that a call answered.
+fn ids_in(call: &str, answer: Result<Vec<u8>, u64>) -> Result<Vec<Id>, Fault> {
+    let answer = answer.map_err(|number| format!("{call} gave back {number}"))?;
+    ids_of(&answer).ok_or(format!("{call} is not whole"))
 }
 
 /// The ids behind their count; nothing where they are not all there.

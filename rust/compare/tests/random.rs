@@ -504,7 +504,7 @@ fn with_tombstones_queued(area: &mut [u8], which: impl Fn(&Record) -> bool) {
 
 #[test]
 fn a_selected_withdrawn_id_is_noticed_by_the_history_alone() {
-    let sides: [(Faulty, &str); 4] = [
+    let sides: [(Faulty, &str); 5] = [
         (
             // A cancellation that leaves the record, told and stored as if it had not.
             Faulty {
@@ -552,6 +552,14 @@ fn a_selected_withdrawn_id_is_noticed_by_the_history_alone() {
                 ..RIGHT
             },
             "selects-tombstones-at",
+        ),
+        (
+            // All records are listed parents first.
+            Faulty {
+                parents_first: |area, _, _, out| calls::record_ids(area, out),
+                ..RIGHT
+            },
+            "lists-tombstones",
         ),
     ];
     for (side, name) in sides {

@@ -247,7 +247,7 @@ fn loaded(queued: u64, mined: u64, boxes: u64, ids: Ids, links: Links) -> Lent {
         limits,
         queued,
         mined,
-        tombstones: 100,
+        tombstones: limits[2],
         boxes,
         bytes: 100,
         ids,
