@@ -241,8 +241,20 @@ fn many_records() {
 fn loaded(queued: u64, mined: u64, boxes: u64, ids: Ids, links: Links) -> Lent {
     let limits = match queued + mined {
         ..=512 => [256, 65_536, 128, 128],
-        _ => [1_024, 16_777_216, 1_024, 128],
+        _ => TOP_LIMITS,
     };
+    loaded_under(limits, queued, mined, boxes, (ids, links))
+}
+
+const TOP_LIMITS: [u64; 4] = [1_024, 16_777_216, 1_024, 128];
+
+fn loaded_under(
+    limits: [u64; 4],
+    queued: u64,
+    mined: u64,
+    boxes: u64,
+    (ids, links): (Ids, Links),
+) -> Lent {
     let queue = load::queue(&Load {
         limits,
         queued,
@@ -278,6 +290,16 @@ fn few_inputs() {
             assert!(lent.few_inputs() && lent.few_selected());
             in_stack(lent);
         }
+    }
+}
+
+/// The same few inputs in the largest area.
+#[test]
+fn few_inputs_under_the_top_limits() {
+    for load in LOADS.into_iter().take(6) {
+        let lent = loaded_under(TOP_LIMITS, 40, 24, 128, load);
+        assert!(lent.few_inputs() && lent.few_selected());
+        in_stack(lent);
     }
 }
 
