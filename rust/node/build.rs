@@ -37,6 +37,7 @@ const CALLS: &[&str] = &[
     "signed_bytes",
     "selection_entries",
     "selection_entries_at",
+    "selection_parents_first",
     "best_fees",
     "due",
     "confirmations",

@@ -3,7 +3,7 @@
 use std::time::Duration;
 
 use model::fees::{MAX_BUDGET, MAX_CANDIDATES};
-use model::load::Ids;
+use model::load::{Ids, Links};
 use pokerbox::raw;
 
 use crate::growth::{full, plain, times, Lent};
@@ -18,9 +18,12 @@ pub fn rows(enough: Duration) {
     println!("| queue | sound | 1 step | 1,000 steps | {MAX_BUDGET} steps | of these beyond sound | at most | reached |");
     println!("|---|---:|---:|---:|---:|---:|---:|---|");
     let loads = [
-        ("20 records", plain(20, Ids::Random)),
-        ("1,000 records", plain(1_000, Ids::Random)),
-        ("a full unit at the top limits", full(Ids::Random)),
+        ("20 records", plain(20, Ids::Random, Links::Apart)),
+        ("1,000 records", plain(1_000, Ids::Random, Links::Apart)),
+        (
+            "a full unit at the top limits",
+            full(Ids::Random, Links::Apart),
+        ),
     ];
     for (name, load) in loads {
         let lent = Lent::new(&load, enough);

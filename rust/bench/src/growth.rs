@@ -4,17 +4,17 @@ use std::time::{Duration, Instant};
 
 use compare::side::{Library, Side};
 use model::calls::ReconcileArgs;
-use model::load::{self, Ids, Load};
+use model::load::{self, Ids, Links, Load};
 use model::random::nth_id;
 use model::{area, image, Id, State};
 use pokerbox::raw;
 
-pub const ALL: [(Ids, &str); 5] = [
-    (Ids::Random, "random ids"),
-    (Ids::Front, "first 24 bytes alike"),
-    (Ids::Ends, "first and last 8 bytes alike"),
-    (Ids::Filter, "chosen against the filter"),
-    (Ids::Chained, "chained records"),
+const ALL: [(Ids, Links, &str); 5] = [
+    (Ids::Random, Links::Apart, "random ids"),
+    (Ids::Front, Links::Apart, "first 24 bytes alike"),
+    (Ids::Ends, Links::Apart, "first and last 8 bytes alike"),
+    (Ids::Filter, Links::Apart, "chosen against the filter"),
+    (Ids::Random, Links::Ring, "chained records"),
 ];
 
 /// The least and the median time of `work`, in seconds.
@@ -42,7 +42,7 @@ pub struct Lent {
     image: Vec<u8>,
     id: Id,
     mined: Vec<u8>,
-    /// All inputs, rising; every second one.
+    /// All inputs, rising.
     inputs: Vec<Id>,
     enough: Duration,
 }
@@ -132,6 +132,10 @@ impl Lent {
             timed!("list", raw::list(area, out));
             timed!("entry", raw::entry(area, id, out));
             timed!("selection_entries", raw::selection_entries(area, out));
+            timed!(
+                "selection_parents_first",
+                raw::selection_parents_first(area, 0, 0, out)
+            );
             timed!("due", raw::due(area, 5, 0, out));
             timed!("confirmations", raw::confirmations(area, out));
             timed!("reserved_inputs", raw::reserved_inputs(area, out));
@@ -164,7 +168,7 @@ impl Lent {
 const TOP: [u64; 4] = [1_024, 16_777_216, 1_024, 128];
 
 /// A full unit at the top limits; there is room for one more pending record.
-pub fn full(ids: Ids) -> Load {
+pub fn full(ids: Ids, links: Links) -> Load {
     Load {
         limits: TOP,
         queued: 1_023,
@@ -173,11 +177,12 @@ pub fn full(ids: Ids) -> Load {
         boxes: 128,
         bytes: 8_000,
         ids,
+        links,
     }
 }
 
 /// Records of two inputs, as in the table above.
-pub fn plain(queued: u64, ids: Ids) -> Load {
+pub fn plain(queued: u64, ids: Ids, links: Links) -> Load {
     Load {
         limits: [1_024, 1 << 20, 1_024, 2],
         queued,
@@ -186,6 +191,7 @@ pub fn plain(queued: u64, ids: Ids) -> Load {
         boxes: 2,
         bytes: 300,
         ids,
+        links,
     }
 }
 
@@ -194,11 +200,11 @@ fn wide(boxes: u64) -> Load {
     Load {
         mined: 0,
         boxes,
-        ..full(Ids::Random)
+        ..full(Ids::Random, Links::Apart)
     }
 }
 
-fn ratio(name: &str, value: f64, most: f64) {
+pub fn ratio(name: &str, value: f64, most: f64) {
     let verdict = if value <= most { "yes" } else { "no" };
     println!("| {name} | {value:.2} | {most} | {verdict} |");
 }
@@ -207,7 +213,7 @@ fn ratio(name: &str, value: f64, most: f64) {
 pub fn ratios(enough: Duration) {
     println!("| ratio of least times | is | at most | reached |\n|---|---:|---:|---|");
     for (queued, most) in [(10, 0.7), (1_000, 1.0)] {
-        let mut lent = Lent::new(&plain(queued, Ids::Random), enough);
+        let mut lent = Lent::new(&plain(queued, Ids::Random, Links::Apart), enough);
         let (sound, copy) = (lent.sound().0, lent.copy().0);
         ratio(
             &format!("sound / copy, {queued} records"),
@@ -215,22 +221,23 @@ pub fn ratios(enough: Duration) {
             most,
         );
     }
-    for (ids, name) in ALL {
-        let mut lent = Lent::new(&plain(1_000, ids), enough);
+    for (ids, links, name) in ALL {
+        let mut lent = Lent::new(&plain(1_000, ids, links), enough);
         let (half, one) = (lent.reconcile(2, true).0, lent.reconcile(0, true).0);
         let name = format!("reconcile, half unavailable / one found, {name}");
         ratio(&name, half / one, 2.0);
     }
     let [few, many] = [32, 128].map(|boxes| Lent::new(&wide(boxes), enough).sound().0);
     ratio("sound, 1,023 x 128 / 1,023 x 32 inputs", many / few, 6.0);
+    crate::parents::ratios(enough);
 }
 
 /// A full unit with each kind of ids, in milliseconds: least and median.
 pub fn full_units(enough: Duration) {
-    for (ids, name) in ALL {
+    for (ids, links, name) in ALL {
         println!("\n### A full unit at the top limits, {name}\n");
         println!("| call | least, ms | median, ms |\n|---|---:|---:|");
-        for (call, (least, median)) in Lent::new(&full(ids), enough).every() {
+        for (call, (least, median)) in Lent::new(&full(ids, links), enough).every() {
             println!("| {call} | {:.1} | {:.1} |", least * 1e3, median * 1e3);
         }
     }

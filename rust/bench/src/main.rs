@@ -1,9 +1,10 @@
-//! The same work by the exported calls and by `PrivateTransactionQueue`, as a table of times; then best fees, and how the
-//! library's times grow. `--short` prints the ratios of the growth alone, `--full` the full units, `--fees` best fees.
+//! The same work by the exported calls and by `PrivateTransactionQueue`, as a table of times; then best fees, parents first, and how
+//! the library's times grow. `--short` prints the ratios alone, `--full` the full units, `--fees` best fees, `--parents` parents first.
 
 mod commit;
 mod fees;
 mod growth;
+mod parents;
 
 use std::collections::{BTreeMap, BTreeSet};
 use std::hint::black_box;
@@ -41,6 +42,7 @@ fn main() {
         Some("--short") => return growth::ratios(ENOUGH),
         Some("--full") => return growth::full_units(ENOUGH),
         Some("--fees") => return fees::rows(ENOUGH),
+        Some("--parents") => return parents::rows(ENOUGH),
         _ => (),
     }
     let folder = first.map_or(std::env::temp_dir(), PathBuf::from);
@@ -62,6 +64,7 @@ fn main() {
     }
     let _ = std::fs::remove_file(&path);
     fees::rows(ENOUGH);
+    parents::rows(ENOUGH);
     println!("### Growth\n");
     growth::ratios(ENOUGH);
     growth::full_units(ENOUGH);
@@ -584,6 +587,14 @@ impl<'a> Bench<'a> {
             raw::selection_entries_at(area, DUE, 0, out),
             oracle.selection_entries_at(DUE, 0)
         );
+        rows.push(Row {
+            work: "selection_parents_first".into(),
+            library: Some(time(
+                || (),
+                || raw::selection_parents_first(area, DUE, 0, out).expect("answered"),
+            )),
+            oracle: None,
+        });
         reading!("due", raw::due(area, DUE, 0, out), oracle.due(DUE, 0));
         inspect::set_whole_store(oracle, self.mined_store.clone());
         reading!(

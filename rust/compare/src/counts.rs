@@ -15,6 +15,19 @@ pub struct Counts {
     fees: BTreeMap<u64, u64>,
     pub cuts_between_calls: u64,
     pub withdrawn: Withdrawn,
+    pub parents: Parents,
+}
+
+/// Selections that were compared parents first (document 02, P7).
+#[derive(Debug, Clone, Copy, Default)]
+pub struct Parents {
+    pub compared: u64,
+    /// Those in which a record waits.
+    pub waiting: u64,
+    /// Those of which one is left off.
+    pub left_off: u64,
+    /// Those of which two stand the other way round.
+    pub turned: u64,
 }
 
 /// How often the oracle had something to keep out of its selections (document 02, P1).
@@ -104,7 +117,19 @@ impl fmt::Display for Counts {
             .map(|(number, count)| format!("{number}: {count}"))
             .collect();
         writeln!(f, "  best_fees: {}", fees.join(", "))?;
+        writeln!(f, "  {}", self.parents)?;
         writeln!(f, "  {}", self.withdrawn)
+    }
+}
+
+impl fmt::Display for Parents {
+    fn fmt(&self, f: &mut fmt::Formatter<'_>) -> fmt::Result {
+        write!(
+            f,
+            "selection_parents_first: {} selections; a record waits in {}, one is left off in {}, the \
+             order is another in {}",
+            self.compared, self.waiting, self.left_off, self.turned
+        )
     }
 }
 

@@ -43,6 +43,21 @@ pub fn fees_list(rng: &mut Rng) -> List {
     }
 }
 
+/// A list without events, many of whose records wait for others.
+pub fn parents_list(rng: &mut Rng) -> List {
+    let count = rng.pick(&[2, 3, 4, 5, 6, 8, 12, 20, 40]);
+    let inputs = 1 + rng.below(4);
+    let queue = random::parents_queue(rng, count, inputs);
+    List {
+        limits: queue.limits,
+        start: Start::Queue(Box::new(queue)),
+        events: Vec::new(),
+        probe: (random::time(rng), random::height(rng)),
+        fees: 0,
+        look: Look::Parents,
+    }
+}
+
 /// What best fees is asked of this queue; the draws are the same for all queues.
 pub fn fees(seed: u64, queue: &Queue, (now, height): (TimeMs, Height)) -> [Fees; 3] {
     let mut rng = Rng::new(seed);

@@ -90,13 +90,15 @@ pub struct List {
     pub look: Look,
 }
 
-/// What is looked at after each event.
+/// What is looked at, at the start and after each event.
 #[derive(Debug, Clone, Copy, PartialEq, Eq)]
 pub enum Look {
     /// All that can be seen on both, and what `Withdrawn` looks at.
     All,
     /// Whether one of them, by its own answers and writes, selects a withdrawn id (document 02, P1).
     Withdrawn,
+    /// The queue and parents first (document 02, P7), of a list without events.
+    Parents,
 }
 
 impl fmt::Display for List {

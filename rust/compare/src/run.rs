@@ -12,7 +12,7 @@ use crate::generate;
 use crate::list::{Call, Event, List, Look, Short, Write};
 use crate::oracle::{self, Oracle};
 use crate::side::{Fees, Model, Reading, Side};
-use crate::unit::{self, ids_of, Fault, Unit, UNTOUCHED};
+use crate::unit::{self, ids_of, output, Fault, Unit, UNTOUCHED};
 use crate::withdrawn::{History, Moved};
 
 /// Refusals outside the domain of demand 2 that lists meet: the oracle is not asked.
@@ -92,8 +92,11 @@ impl<'a, S: Side> Pair<'a, S> {
         }
         let queue = self.unit.queue().map_err(|fault| self.fault(fault))?;
         self.same("the queue", &queue, &self.oracle.queue())?;
-        self.need(&queue.limits, counts)?;
-        self.fees(&queue, counts)
+        if self.look == Look::All {
+            self.need(&queue.limits, counts)?;
+            self.fees(&queue, counts)?;
+        }
+        self.parents(&queue, counts)
     }
 
     /// The queue of both.
@@ -189,7 +192,19 @@ impl<'a, S: Side> Pair<'a, S> {
                 });
             }
         }
+        // The library's list, parents first, is a part of its selection.
+        for (now, height) in self.moments() {
+            let listed = self.unit.listed(now, height);
+            let listed = listed.map_err(|fault| self.fault(fault))?;
+            let wrong = self.withdrawn.unit.wrong(&listed);
+            self.same("withdrawn ids in selection_parents_first", wrong, vec![])?;
+        }
         Ok(())
+    }
+
+    /// The list's moment, and time 0 and height 0, when the selection has nearly all Queued records.
+    fn moments(&self) -> [(u64, u32); 2] {
+        [(self.probe.0 .0, self.probe.1 .0), (0, 0)]
     }
 
     fn same<T: PartialEq + fmt::Debug>(
@@ -275,6 +290,7 @@ impl<'a, S: Side> Pair<'a, S> {
         self.same("transactions not found", Oracle::failed(), 0)?;
         self.readings(&queue, counts)?;
         self.fees(&queue, counts)?;
+        self.parents(&queue, counts)?;
         self.stored(&queue, counts)
     }
 
@@ -384,6 +400,39 @@ impl<'a, S: Side> Pair<'a, S> {
         Ok(())
     }
 
+    /// Parents first, which the oracle has not: its list is looked at beside the oracle's selection,
+    /// and all of its answer is judged by the model.
+    fn parents(&self, queue: &Queue, counts: &mut Counts) -> Result<(), Difference> {
+        for (now, height) in self.moments() {
+            let selected = Reading::SelectionEntriesAt(now, height);
+            let selected = ids_of(&self.oracle.read(selected));
+            let selected =
+                selected.ok_or_else(|| self.fault("no selection of the oracle".into()))?;
+            let model = output(4 + 32 * queue.records.len(), |out| {
+                Model.parents_first(self.unit.area(), now, height, out)
+            });
+            let listed = model.ok().and_then(|answer| ids_of(&answer));
+            let listed = listed.ok_or_else(|| self.fault("no list of the model".into()))?;
+            let length = 4 + 32 * listed.len();
+            // Some bytes more, and one too few.
+            for length in [length + 3, length - 1] {
+                let answer = self.unit.parents_first(now, height, length);
+                if let Ok(answer) = &answer {
+                    let found = part_of(&selected, answer);
+                    let what = "the list of selection_parents_first";
+                    self.same(what, (now, height, found), (now, height, Ok(())))?;
+                }
+                let right = output(length, |out| {
+                    Model.parents_first(self.unit.area(), now, height, out)
+                });
+                let what = "the answer of selection_parents_first";
+                self.same(what, (now, height, answer), (now, height, right))?;
+            }
+            count_parents(queue, &selected, &listed, counts);
+        }
+        Ok(())
+    }
+
     /// What is wrong with the set, by the oracle's selection and the records of both.
     fn set_of(&self, queue: &Queue, asked: &Fees, answer: &[u8]) -> Result<(), &'static str> {
         let selected = Reading::SelectionEntriesAt(asked.now, asked.height);
@@ -425,6 +474,41 @@ fn model_fees(area: &[u8], asked: &Fees) -> (u64, Vec<u8>) {
     let count = ids_of(&out[20..]).map_or(0, |ids| ids.len());
     out.truncate(24 + 32 * count);
     (number, out)
+}
+
+/// What is wrong with the list, by the oracle's selection.
+fn part_of(selected: &[Id], answer: &[u8]) -> Result<(), &'static str> {
+    let ids = ids_of(answer).ok_or("it is not whole")?;
+    if ids.iter().collect::<BTreeSet<_>>().len() != ids.len() {
+        return Err("an id is there twice");
+    }
+    match ids.iter().all(|id| selected.contains(id)) {
+        true => Ok(()),
+        false => Err("an id is not selected"),
+    }
+}
+
+fn count_parents(queue: &Queue, selected: &[Id], listed: &[Id], counts: &mut Counts) {
+    let records = selected.iter().filter_map(|id| queue.record(id));
+    let holders: Vec<&Record> = records.collect();
+    let outputs = holders
+        .iter()
+        .flat_map(|one| one.outputs().iter().map(|id| (id, one.id)));
+    let mut named: BTreeMap<&Id, BTreeSet<Id>> = BTreeMap::new();
+    for (output, id) in outputs {
+        named.entry(output).or_default().insert(id);
+    }
+    let waits = |one: &&Record| {
+        let inputs = one.inputs().iter().filter_map(|input| named.get(input));
+        inputs.flatten().any(|id| *id != one.id)
+    };
+    let mut rest = selected.iter();
+    let in_order = listed.iter().all(|id| rest.any(|other| other == id));
+    let counts = &mut counts.parents;
+    counts.compared += 1;
+    counts.waiting += u64::from(holders.iter().any(waits));
+    counts.left_off += u64::from(listed.len() < selected.len());
+    counts.turned += u64::from(!in_order);
 }
 
 /// An output of so many bytes that held this answer.
@@ -485,8 +569,11 @@ fn started<'a, S: Side>(
     pair.map_err(|found| Box::new((list.clone(), found)))
 }
 
-/// What belongs to one seed: a random list, under these limits or random ones, and a queue for best
-/// fees.
+/// Queues for parents first that belong to one seed.
+const PARENTS: u64 = 12;
+
+/// What belongs to one seed: a random list, under these limits or random ones, a queue for best fees,
+/// and some for parents first.
 pub fn seed<S: Side>(
     side: &S,
     folder: &Path,
@@ -502,7 +589,13 @@ pub fn seed<S: Side>(
         return Ok(());
     }
     let list = generate::fees_list(&mut Rng::new(seed));
-    started(side, folder, &list, counts).map(|_| ())
+    started(side, folder, &list, counts)?;
+    for n in 0..PARENTS {
+        let seed = seed.wrapping_mul(PARENTS).wrapping_add(n);
+        let list = generate::parents_list(&mut Rng::new(seed));
+        started(side, folder, &list, counts)?;
+    }
+    Ok(())
 }
 
 /// Makes and runs one random list. A difference comes with the list up to it.

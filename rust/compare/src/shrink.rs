@@ -60,6 +60,21 @@ fn smaller_starts(list: &List) -> Vec<List> {
         queue.records.remove(at);
         starts.push(Start::Queue(queue));
     }
+    for at in 0..queue.records.len() {
+        for outputs in [false, true] {
+            let mut queue = queue.clone();
+            let Some(holder) = &mut queue.records[at].holder else {
+                continue;
+            };
+            let ids = match outputs {
+                true => &mut holder.outputs,
+                false => &mut holder.inputs,
+            };
+            if ids.pop().is_some() {
+                starts.push(Start::Queue(queue));
+            }
+        }
+    }
     let with_start = |start| List {
         start,
         ..list.clone()

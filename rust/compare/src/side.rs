@@ -45,6 +45,8 @@ pub trait Side {
 
     fn best_fees(&self, area: &[u8], asked: &Fees, out: &mut [u8]) -> u64;
 
+    fn parents_first(&self, area: &[u8], now: u64, height: u32, out: &mut [u8]) -> u64;
+
     /// The other reading calls.
     fn read(&self, reading: Reading, area: &[u8], out: &mut [u8]) -> u64;
 }
@@ -207,6 +209,10 @@ impl Side for Model {
         calls::best_fees(area, limit, budget, asked.now, asked.height, out)
     }
 
+    fn parents_first(&self, area: &[u8], now: u64, height: u32, out: &mut [u8]) -> u64 {
+        calls::selection_parents_first(area, now, height, out)
+    }
+
     fn read(&self, reading: Reading, area: &[u8], out: &mut [u8]) -> u64 {
         match reading {
             Reading::Revision => put_value(out, |value| calls::revision(area, value)),
@@ -361,6 +367,10 @@ impl Side for Library {
         let Fees { limit, budget, .. } = *asked;
         let answer = raw::best_fees(area, limit, budget, asked.now, asked.height, out);
         number(answer)
+    }
+
+    fn parents_first(&self, area: &[u8], now: u64, height: u32, out: &mut [u8]) -> u64 {
+        number(raw::selection_parents_first(area, now, height, out))
     }
 
     fn read(&self, reading: Reading, area: &[u8], out: &mut [u8]) -> u64 {

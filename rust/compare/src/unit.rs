@@ -173,34 +173,41 @@ impl<'s, S: Side> Unit<'s, S> {
         Ok(text)
     }
 
-    /// The output of `length` bytes that a call leaves, or its refusal.
-    fn output(length: usize, call: impl FnOnce(&mut [u8]) -> u64) -> Result<Vec<u8>, u64> {
-        let mut out = vec![UNTOUCHED; length];
-        match call(&mut out) {
-            100 => Ok(out),
-            number => Err(number),
-        }
-    }
-
     pub fn read(&self, reading: Reading, length: usize) -> Result<Vec<u8>, u64> {
-        Self::output(length, |out| self.side.read(reading, &self.current, out))
+        output(length, |out| self.side.read(reading, &self.current, out))
     }
 
-    /// The ids that a selection has. No queue has more records than there is room for.
-    pub fn selected(&self, reading: Reading) -> Result<Vec<Id>, Fault> {
+    /// No answer of ids is longer: no queue has more records than there is room for.
+    fn ids_bound(&self) -> usize {
         let limits = &self.first_limits;
-        let length = 4 + 32 * (2 * limits.pending + limits.tombstones) as usize;
-        let answer = self.read(reading, length);
-        let answer = answer.map_err(|number| format!("{} gave back {number}", reading.name()))?;
-        ids_of(&answer).ok_or(format!("{} is not whole", reading.name()))
+        4 + 32 * (2 * limits.pending + limits.tombstones) as usize
+    }
+
+    /// The ids that a selection has.
+    pub fn selected(&self, reading: Reading) -> Result<Vec<Id>, Fault> {
+        let answer = self.read(reading, self.ids_bound());
+        ids_in(reading.name(), answer)
+    }
+
+    /// The ids that are listed parents first.
+    pub fn listed(&self, now: u64, height: u32) -> Result<Vec<Id>, Fault> {
+        let answer = self.parents_first(now, height, self.ids_bound());
+        ids_in("selection_parents_first", answer)
     }
 
     pub fn entry(&self, id: &Id, length: usize) -> Result<Vec<u8>, u64> {
-        Self::output(length, |out| self.side.entry(&self.current, id, out))
+        output(length, |out| self.side.entry(&self.current, id, out))
     }
 
     pub fn best_fees(&self, asked: &Fees, length: usize) -> Result<Vec<u8>, u64> {
-        Self::output(length, |out| self.side.best_fees(&self.current, asked, out))
+        output(length, |out| self.side.best_fees(&self.current, asked, out))
+    }
+
+    pub fn parents_first(&self, now: u64, height: u32, length: usize) -> Result<Vec<u8>, u64> {
+        let area = &self.current;
+        output(length, |out| {
+            self.side.parents_first(area, now, height, out)
+        })
     }
 
     /// The number given back, and what stands behind the pointer.
@@ -227,6 +234,15 @@ impl<'s, S: Side> Unit<'s, S> {
     }
 }
 
+/// The output of `length` bytes that a call leaves, or its refusal.
+pub(crate) fn output(length: usize, call: impl FnOnce(&mut [u8]) -> u64) -> Result<Vec<u8>, u64> {
+    let mut out = vec![UNTOUCHED; length];
+    match call(&mut out) {
+        100 => Ok(out),
+        number => Err(number),
+    }
+}
+
 fn done(number: u64, kind: Option<u64>, out: Vec<u8>) -> Done {
     Done {
         number,
@@ -247,6 +263,12 @@ fn expect(call: &str, number: u64, expected: u64) -> Result<(), Fault> {
         return Err(format!("{call} gave back {number}, not {expected}"));
     }
     Ok(())
+}
+
+/// The ids that a call answered.
+fn ids_in(call: &str, answer: Result<Vec<u8>, u64>) -> Result<Vec<Id>, Fault> {
+    let answer = answer.map_err(|number| format!("{call} gave back {number}"))?;
+    ids_of(&answer).ok_or(format!("{call} is not whole"))
 }
 
 /// The ids behind their count; nothing where they are not all there.

@@ -65,6 +65,12 @@ fn the_library_answers_as_the_oracle() {
     // The gate's run begins with these.
     let counts = no_difference(&Library, "library", 1..101, Look::All);
     assert_eq!(counts.met_by_fees(), [4, 5, 21, 100]);
+    // Records waited, and were left off or listed in another order, often enough.
+    let met = counts.parents;
+    assert!(met.compared > counts.steps, "{met}");
+    for count in [met.waiting, met.left_off, met.turned] {
+        assert!(count > 200, "{met}");
+    }
     // What may not be selected was there, in each of the ways in which it comes and goes.
     let met = counts.withdrawn;
     assert!(met.events > counts.steps / 4, "{met}");
@@ -81,6 +87,7 @@ fn the_library_answers_as_the_oracle() {
 }
 
 type BestFees = fn(&[u8], &Fees, &mut [u8]) -> u64;
+type ParentsFirst = fn(&[u8], u64, u32, &mut [u8]) -> u64;
 
 /// The model, some of whose calls may be wrong.
 struct Faulty {
@@ -91,6 +98,7 @@ struct Faulty {
     image_limits: fn(&[u8], &mut [u64; 5]) -> u64,
     read: fn(Reading, &[u8], &mut [u8]) -> u64,
     best_fees: BestFees,
+    parents_first: ParentsFirst,
 }
 
 const RIGHT: Faulty = Faulty {
@@ -101,6 +109,7 @@ const RIGHT: Faulty = Faulty {
     image_limits: |text, numbers| Model.image_limits(text, numbers),
     read: |reading, area, out| Model.read(reading, area, out),
     best_fees: |area, asked, out| Model.best_fees(area, asked, out),
+    parents_first: calls::selection_parents_first,
 };
 
 impl Side for Faulty {
@@ -172,6 +181,10 @@ impl Side for Faulty {
 
     fn best_fees(&self, area: &[u8], asked: &Fees, out: &mut [u8]) -> u64 {
         (self.best_fees)(area, asked, out)
+    }
+
+    fn parents_first(&self, area: &[u8], now: u64, height: u32, out: &mut [u8]) -> u64 {
+        (self.parents_first)(area, now, height, out)
     }
 
     fn read(&self, reading: Reading, area: &[u8], out: &mut [u8]) -> u64 {
@@ -387,6 +400,88 @@ fn a_wrong_distance_is_noticed() {
     assert!(list.events.is_empty(), "{list}{found}");
 }
 
+/// The number, once a list of two records or more was changed by `change`, which has their ids.
+fn changed_list(
+    area: &[u8],
+    (now, height): (u64, u32),
+    out: &mut [u8],
+    change: fn(&mut [u8]),
+) -> u64 {
+    let number = calls::selection_parents_first(area, now, height, out);
+    if number == 100 && out[3] >= 2 {
+        let length = 4 + 32 * usize::from(out[3]);
+        change(&mut out[4..length]);
+    }
+    number
+}
+
+#[test]
+fn a_wrong_list_is_noticed_by_the_oracles_selection() {
+    let sides: [(ParentsFirst, &str, &str); 2] = [
+        (
+            |area, now, height, out| {
+                changed_list(area, (now, height), out, |ids| ids.copy_within(32..64, 0))
+            },
+            "listed-twice",
+            "an id is there twice",
+        ),
+        (
+            |area, now, height, out| {
+                changed_list(area, (now, height), out, |ids| ids[..32].fill(0x55))
+            },
+            "lists-another",
+            "an id is not selected",
+        ),
+    ];
+    for (parents_first, name, wrong) in sides {
+        let side = Faulty {
+            parents_first,
+            ..RIGHT
+        };
+        let (list, found) = noticed(side, name);
+        let what = "the list of selection_parents_first";
+        assert_eq!(found.what, what, "{list}{found}");
+        assert!(found.side.contains(wrong), "{list}{found}");
+    }
+}
+
+#[test]
+fn a_wrong_order_is_noticed() {
+    let sides: [(ParentsFirst, &str); 2] = [
+        // The old selection.
+        (calls::selection_entries_at, "not-parents-first"),
+        (
+            |area, now, height, out| {
+                changed_list(area, (now, height), out, |ids| ids.rotate_left(32))
+            },
+            "turned-list",
+        ),
+    ];
+    for (parents_first, name) in sides {
+        let side = Faulty {
+            parents_first,
+            ..RIGHT
+        };
+        let (list, found) = noticed(side, name);
+        let what = "the answer of selection_parents_first";
+        assert_eq!(found.what, what, "{list}{found}");
+    }
+    // A short output that is taken.
+    let side = Faulty {
+        parents_first: |area, now, height, out| match calls::selection_parents_first(
+            area, now, height, out,
+        ) {
+            4 => 100,
+            number => number,
+        },
+        ..RIGHT
+    };
+    let (list, found) = noticed(side, "takes-short-lists");
+    let what = "the list of selection_parents_first";
+    assert_eq!(found.what, what, "{list}{found}");
+    assert!(found.side.contains("it is not whole"), "{list}{found}");
+}
+
 /// Tombstones as Queued holders of no bytes.
 fn with_tombstones_queued(area: &mut [u8], which: impl Fn(&Record) -> bool) {
     let mut queue = model::area::decode(area).expect("a sound area");
@@ -409,7 +504,7 @@ fn with_tombstones_queued(area: &mut [u8], which: impl Fn(&Record) -> bool) {
 
 #[test]
 fn a_selected_withdrawn_id_is_noticed_by_the_history_alone() {
-    let sides: [(Faulty, &str); 4] = [
+    let sides: [(Faulty, &str); 5] = [
         (
             // A cancellation that leaves the record, told and stored as if it had not.
             Faulty {
@@ -457,6 +552,14 @@ fn a_selected_withdrawn_id_is_noticed_by_the_history_alone() {
                 ..RIGHT
             },
             "selects-tombstones-at",
+        ),
+        (
+            // All records are listed parents first.
+            Faulty {
+                parents_first: |area, _, _, out| calls::record_ids(area, out),
+                ..RIGHT
+            },
+            "lists-tombstones",
         ),
     ];
     for (side, name) in sides {

@@ -5,7 +5,7 @@ use std::collections::{BTreeMap, BTreeSet};
 
 use crate::rules::{self, Admission, Change, Kind, Reconciliation, ABSENT};
 use crate::values::{Confirmation, Height, Id, Limits, Queue, Record, TimeMs};
-use crate::{area, fees, frame, image};
+use crate::{area, fees, frame, image, parents};
 
 pub const LIMIT: u64 = 1;
 pub const AREA_SHORT: u64 = 2;
@@ -497,6 +497,13 @@ pub fn selection_entries_at(lent: &[u8], now: u64, height: u32, out: &mut [u8]) 
     read_bytes(lent, out, |queue| {
         let selected = rules::selection_at(queue, TimeMs(now), Height(height));
         ids_bytes(selected.into_iter().map(|record| &record.id))
+    })
+}
+
+pub fn selection_parents_first(lent: &[u8], now: u64, height: u32, out: &mut [u8]) -> u64 {
+    read_bytes(lent, out, |queue| {
+        let listed = parents::parents_first(queue, TimeMs(now), Height(height));
+        ids_bytes(listed.into_iter().map(|record| &record.id))
     })
 }
 

@@ -6,6 +6,7 @@
 //! - [`frame`], [`area`], [`image`]: the encodings.
 //! - [`rules`]: each call as a function on queues.
 //! - [`fees`]: document 02's best fees for a block, as a function on queues.
+//! - [`parents`]: document 02's second selection order, as a function on queues.
 //! - [`calls`]: each call as the exported function of that name has it, on lent bytes.
 //! - [`load`]: large sound queues with chosen ids, to measure with.
 //! - [`random`]: random sound queues and damaged bytes for tests.
@@ -16,6 +17,7 @@ pub mod fees;
 pub mod frame;
 pub mod image;
 pub mod load;
+pub mod parents;
 pub mod random;
 pub mod rules;
 pub mod sound;

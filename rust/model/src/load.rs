@@ -1,4 +1,7 @@
-//! Queues made to measure: how many records, how many inputs and outputs each, and with which ids.
+//! Queues made to measure: how many records, how many inputs and outputs each, with which ids, and
+//! who waits for whom.
+
+use std::cmp::Reverse;
 
 use crate::random::{nth_id, Rng};
 use crate::values::{
@@ -16,18 +19,41 @@ pub enum Ids {
     Ends,
     /// The sum of the first and the last 8 bytes alike: one number in the filter (`Filter.hashL`).
     Filter,
-    /// Random, and each input an output of another record.
-    Chained,
+    /// The sum of all four words of 8 bytes alike: one number where parents are looked for.
+    Sum,
+    /// Random, and each record has one input and one output, again and again. Not with
+    /// [`Links::Spread`].
+    Repeated,
+}
+
+/// Which inputs of Queued records are outputs of which others.
+#[derive(Debug, Clone, Copy, PartialEq, Eq)]
+pub enum Links {
+    /// None.
+    Apart,
+    /// All are outputs of the record before, the first one's of the last one: each one waits.
+    Ring,
+    /// The same, but the first one waits for nobody; the selection has parents first.
+    Chain,
+    /// All are outputs of the record behind; the selection has children first.
+    Reversed,
+    /// Each is an output of another one of the records behind: a record waits for as many as it has
+    /// inputs.
+    Spread,
 }
 
 fn box_id(ids: Ids, n: u64) -> Id {
     let mut rng = Rng::new(n);
     let (front, a, b, end) = (rng.u64(), rng.u64(), rng.u64(), rng.u64());
     let words = match ids {
-        Ids::Random | Ids::Chained => [front, a, b, end],
+        Ids::Random | Ids::Repeated => [front, a, b, end],
         Ids::Front => [7, 7, 7, front],
         Ids::Ends => [7, a, b, 7],
         Ids::Filter => [front, a, b, 7u64.wrapping_sub(front)],
+        Ids::Sum => {
+            let sum = front.wrapping_add(a).wrapping_add(b);
+            [front, a, b, 7u64.wrapping_sub(sum)]
+        }
     };
     let mut id = [0; 32];
     for (at, word) in words.iter().enumerate() {
@@ -46,26 +72,43 @@ pub struct Load {
     pub boxes: u64,
     pub bytes: usize,
     pub ids: Ids,
+    pub links: Links,
+}
+
+/// An input, or an output: of which record, and which one of its.
+fn box_of(load: &Load, side: u64, n: u64, at: u64) -> Id {
+    let at = if load.ids == Ids::Repeated { 0 } else { at };
+    box_id(load.ids, (side << 40) + n * load.boxes + at)
+}
+
+/// The record whose output this input is.
+fn parent(load: &Load, n: u64, at: u64) -> Option<u64> {
+    let behind = match load.links {
+        // Mined records have inputs of their own.
+        _ if n >= load.queued => return None,
+        Links::Apart => return None,
+        Links::Ring => return Some((n + load.queued - 1) % load.queued),
+        Links::Chain => return n.checked_sub(1),
+        Links::Reversed => n + 1,
+        Links::Spread => n + 1 + at,
+    };
+    (behind < load.queued).then_some(behind)
 }
 
 fn holder(load: &Load, n: u64) -> Holder {
-    let made = |side: u64, from: u64| {
-        let ids = 0..load.boxes;
-        ids.map(|at| box_id(load.ids, (side << 40) + from * load.boxes + at))
-            .collect()
+    let input = |at: u64| match parent(load, n, at) {
+        Some(parent) => box_of(load, 1, parent, at),
+        None => box_of(load, 0, n, at),
     };
-    let from = match load.ids {
-        // The outputs of the record before.
-        Ids::Chained => (1, (n + load.queued - 1) % load.queued.max(1)),
-        _ => (0, n),
-    };
-    // Two Mined records must not share the inputs of Queued ones.
-    let from = if n < load.queued { from } else { (0, n) };
     Holder {
-        inputs: made(from.0, from.1),
-        outputs: made(1, n),
+        inputs: (0..load.boxes).map(input).collect(),
+        outputs: (0..load.boxes).map(|at| box_of(load, 1, n, at)).collect(),
         bytes: vec![n as u8; load.bytes],
     }
+}
+
+fn record_id(n: u64) -> Id {
+    box_id(Ids::Random, (2 << 40) + n)
 }
 
 fn record(load: &Load, n: u64) -> Record {
@@ -76,7 +119,7 @@ fn record(load: &Load, n: u64) -> Record {
         _ => State::Cancelled,
     };
     Record {
-        id: box_id(Ids::Random, (2 << 40) + n),
+        id: record_id(n),
         state,
         reason: if state == State::Cancelled {
             Reason::Cancelled
@@ -86,7 +129,7 @@ fn record(load: &Load, n: u64) -> Record {
         created: TimeMs(n),
         time_deadline: (n == 1).then_some(TimeMs(5)),
         height_deadline: None,
-        priority: (n % 5) as i32,
+        priority: priority(load, n),
         label: None,
         fee: 1_000_000,
         size: load.bytes as u32,
@@ -99,6 +142,27 @@ fn record(load: &Load, n: u64) -> Record {
         finish: FinishNumber(if n < holders { 0 } else { n - holders + 1 }),
         holder: (n < holders).then(|| holder(load, n)),
     }
+}
+
+fn priority(load: &Load, n: u64) -> i32 {
+    match load.links {
+        Links::Apart | Links::Ring => (n % 5) as i32,
+        Links::Chain | Links::Reversed | Links::Spread => 0,
+    }
+}
+
+/// The ids that parents first has to list of the queue, at time 0 and height 0.
+pub fn parents_first(load: &Load) -> Vec<Id> {
+    let mut order: Vec<u64> = (0..load.queued).collect();
+    match load.links {
+        // By priority, then by time of creation.
+        Links::Apart => order.sort_by_key(|n| (Reverse(priority(load, *n)), *n)),
+        // One alone waits for nobody.
+        Links::Ring if load.queued > 1 => order.clear(),
+        Links::Ring | Links::Chain => {}
+        Links::Reversed | Links::Spread => order.reverse(),
+    }
+    order.into_iter().map(record_id).collect()
 }
 
 /// The queue, sound.

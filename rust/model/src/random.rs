@@ -453,6 +453,84 @@ pub fn fees_budget(rng: &mut Rng) -> u64 {
     }
 }
 
+/// A sound queue of so many records, at most 2,048, many of which name inputs of others among their
+/// outputs: in chains, in rings, two the same one, or one of their own. Some are Mined, Conflicted,
+/// finished, or have a deadline.
+pub fn parents_queue(rng: &mut Rng, count: usize, inputs: usize) -> Queue {
+    let limit = (1 + count as u32).min(Limits::MAX_PENDING);
+    let mut queue = Queue::fresh(Limits {
+        pending: limit,
+        bytes: 1 + count as u32,
+        tombstones: limit,
+        inputs: inputs as u32,
+    });
+    let mut room = Room::new(&queue.limits);
+    room.inputs.truncate(count * queue.limits.inputs as usize);
+    let inputs: Vec<Vec<Id>> = (0..count).map(|_| room.take_inputs(rng)).collect();
+    // How often an output is not of a later one, so that rings come about.
+    let wild = rng.pick(&[1, 2, 6, usize::MAX]);
+    let priorities = rng.pick(&[&[4][..], &[0, 1], &[i32::MIN, -1, 0, 1, i32::MAX]]);
+    let states = rng.pick(&[&[State::Queued][..], &PARENT_STATES]);
+    let mut ids: Vec<Id> = (0..count).map(nth_id).collect();
+    for n in 0..count {
+        let at = rng.below(ids.len());
+        let id = ids.swap_remove(at);
+        let state = rng.pick(states);
+        let holder = (state != State::Cancelled).then(|| Holder {
+            inputs: inputs[n].clone(),
+            outputs: parents_outputs(rng, &queue.limits, &inputs, n, wild),
+            bytes: vec![n as u8; rng.below(2)],
+        });
+        let mut record = room.filled(rng, id, state, holder);
+        record.priority = rng.pick(priorities);
+        record.time_deadline = rng.once_in(8).then(|| time(rng));
+        record.height_deadline = rng.once_in(8).then(|| height(rng));
+        queue.records.push(record);
+    }
+    queue.records.sort_by_key(|record| record.id);
+    number_tombstones(rng, &mut queue);
+    debug_assert!(is_sound(&queue));
+    queue
+}
+
+const PARENT_STATES: [State; 8] = [
+    State::Queued,
+    State::Queued,
+    State::Queued,
+    State::Queued,
+    State::Queued,
+    State::Mined,
+    State::Conflicted,
+    State::Cancelled,
+];
+
+/// At most K outputs of the `n`-th record: mostly inputs of later ones, the next above all; once in
+/// `wild` times the one before or any; rarely its own.
+fn parents_outputs(
+    rng: &mut Rng,
+    limits: &Limits,
+    inputs: &[Vec<Id>],
+    n: usize,
+    wild: usize,
+) -> Vec<Id> {
+    let mut outputs = Vec::new();
+    let most = limits.inputs as usize;
+    for _ in 0..rng.up_to(most).max(rng.up_to(most)) {
+        let child = match rng.below(8) {
+            0..=3 if rng.once_in(wild) => n.saturating_sub(1),
+            _ if rng.once_in(wild) => rng.below(inputs.len()),
+            0 => n,
+            1..=4 => n + 1,
+            _ => n + 1 + rng.below(inputs.len() - n),
+        };
+        match inputs.get(child) {
+            Some(wanted) if !wanted.is_empty() => outputs.push(rng.pick(wanted)),
+            _ => outputs.push(box_id(rng, limits)),
+        }
+    }
+    outputs
+}
+
 /// The queue with one value changed; mostly no longer sound.
 pub fn altered(rng: &mut Rng, queue: &Queue) -> Queue {
     let mut queue = queue.clone();

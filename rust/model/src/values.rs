@@ -183,6 +183,11 @@ impl Record {
         self.holder.as_ref().map_or(&[], |holder| &holder.inputs)
     }
 
+    /// The output ids; a tombstone has none.
+    pub fn outputs(&self) -> &[Id] {
+        self.holder.as_ref().map_or(&[], |holder| &holder.outputs)
+    }
+
     /// The number of signed bytes; 0 for a tombstone.
     pub fn byte_count(&self) -> usize {
         self.holder.as_ref().map_or(0, |holder| holder.bytes.len())

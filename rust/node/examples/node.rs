@@ -22,14 +22,15 @@ fn main() -> Result<(), Box<dyn std::error::Error>> {
         ..Admission::new(id, inputs, outputs, signed, TimeMs(1_000), Height(100))
     })?;
 
-    // What the template builder takes: the most fee in at most 500,000 bytes, by 10,000 steps of a
-    // search over the first 20 records of `selection_entries_at`.
+    // What the template builder takes: all that can stand in a block now, no child before its parent.
     let queue = store.queue();
-    let best = queue.best_fees(500_000, 10_000, TimeMs(1_000), Height(100))?;
-    for id in best.ids {
+    for id in queue.selection_parents_first(TimeMs(1_000), Height(100))? {
         let signed: &[u8] = queue.signed_bytes(id)?;
         println!("{id}: {} signed bytes", signed.len());
     }
+    // Where they do not all fit: the most fee in at most 500,000 bytes, by 10,000 steps of a search
+    // over the first 20 records of `selection_entries_at`. A child may be in it without its parent.
+    let best = queue.best_fees(500_000, 10_000, TimeMs(1_000), Height(100))?;
     println!("fee {}, at most {} more", best.fee, best.distance);
 
     // A write that fails is refusal 17: the queue is as before, and the call can be made again.

@@ -190,6 +190,13 @@ uint64_t pokerbox_selection_entries(const uint8_t *area, size_t area_len, uint8_
 uint64_t pokerbox_selection_entries_at(const uint8_t *area, size_t area_len, uint64_t now,
                                        uint32_t height, uint8_t *out, size_t out_len);
 
+/* A count of 4 bytes and the ids of the records that pokerbox_selection_entries_at gives at `now` and
+ * `height`, parents first. A record waits for every other one of them that has one of its inputs among
+ * its outputs; the next one listed is always the first, in the order of pokerbox_selection_entries_at,
+ * of those that wait for nothing unlisted. Those that still wait at the end are left off. */
+uint64_t pokerbox_selection_parents_first(const uint8_t *area, size_t area_len, uint64_t now,
+                                          uint32_t height, uint8_t *out, size_t out_len);
+
 /* Of the first POKERBOX_MAX_CANDIDATES records that pokerbox_selection_entries_at gives at `now` and
  * `height`, the set with the most fee whose signed bytes are at most `limit` together, as good as
  * `budget` steps allow, 1 to POKERBOX_MAX_BUDGET. `out` gets the set's fee, 8 bytes, the steps used,

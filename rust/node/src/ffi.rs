@@ -216,6 +216,14 @@ mod c {
             out: *mut u8,
             out_len: usize,
         ) -> u64;
+        pub fn pokerbox_selection_parents_first(
+            area: *const u8,
+            area_len: usize,
+            now: u64,
+            height: u32,
+            out: *mut u8,
+            out_len: usize,
+        ) -> u64;
         pub fn pokerbox_best_fees(
             area: *const u8,
             area_len: usize,
@@ -480,6 +488,20 @@ pub fn signed_bytes(area: &[u8], id: &[u8], start: &mut u64, length: &mut u64) -
 pub fn selection_entries_at(area: &[u8], now: u64, height: u32, out: &mut [u8]) -> u64 {
     unsafe {
         c::pokerbox_selection_entries_at(
+            area.as_ptr(),
+            area.len(),
+            now,
+            height,
+            out.as_mut_ptr(),
+            out.len(),
+        )
+    }
+}
+
+#[cfg(exported = "selection_parents_first")]
+pub fn selection_parents_first(area: &[u8], now: u64, height: u32, out: &mut [u8]) -> u64 {
+    unsafe {
+        c::pokerbox_selection_parents_first(
             area.as_ptr(),
             area.len(),
             now,

@@ -421,9 +421,48 @@ impl Queue {
         )
     }
 
+    /// The records that [`Queue::selection_entries_at`] gives at this moment, parents first: a template
+    /// may list them in this order.
+    ///
+    /// A record waits for every other one of them that has one of its inputs among its outputs. The
+    /// next one listed is always the first, in the order of `selection_entries_at`, of those that wait
+    /// for nothing unlisted. Records that wait for each other, and all that wait for them, are left
+    /// off; no list that has each record after all that it waits for has more.
+    ///
+    /// ```
+    /// use pokerbox::{
+    ///     Admission, Height, InputId, Limits, Outcome, OutputId, Queue, TimeMs, TxId,
+    /// };
+    ///
+    /// let mut queue = Queue::fresh(Limits::new(16, 65_536, 16, 8)?)?;
+    /// // The first one spends the output 9 of the second, and is wanted more.
+    /// for (n, priority, input, output) in [(1, 7, 9, 10), (2, 0, 8, 9)] {
+    ///     let (inputs, outputs) = (vec![InputId([input; 32])], vec![OutputId([output; 32])]);
+    ///     let (id, signed) = (TxId([n; 32]), vec![n]);
+    ///     let given = Admission {
+    ///         priority,
+    ///         ..Admission::new(id, inputs, outputs, signed, TimeMs(1_000), Height(100))
+    ///     };
+    ///     queue.admit(&given)?.settle(Outcome::Kept)?;
+    /// }
+    /// let (child, parent) = (TxId([1; 32]), TxId([2; 32]));
+    /// let (now, height) = (TimeMs(1_000), Height(100));
+    /// assert_eq!(queue.selection_entries_at(now, height)?, [child, parent]);
+    /// assert_eq!(queue.selection_parents_first(now, height)?, [parent, child]);
+    /// # Ok::<(), pokerbox::Error>(())
+    /// ```
+    #[cfg(exported = "selection_parents_first")]
+    pub fn selection_parents_first(&self, now: TimeMs, height: Height) -> Result<Vec<TxId>, Error> {
+        self.read(
+            Self::ids_len(self.max_holders()),
+            |area, out| raw::selection_parents_first(area, now.0, height.0, out),
+            |answer| answer.counted(Reader::tx_id),
+        )
+    }
+
     /// What to put into a block: of the first 20 records that [`Queue::selection_entries_at`] gives
     /// at this moment, the set with the most fee whose signed bytes are at most `limit` together. A
-    /// child may be in it without its parent.
+    /// child may be in it without its parent, or before it.
     ///
     /// The search tries sets until `budget` steps are used up, 1 to [`BestFees::MAX_BUDGET`], and
     /// gives the best set that it met; the answer says how much better another could be.

@@ -250,6 +250,19 @@ pub fn selection_entries_at(
     answered(ffi::selection_entries_at(area, now, height, out))
 }
 
+/// A count and the ids of the records that [`selection_entries_at`] gives, each after all of them that
+/// it waits for: the others that have one of its inputs among their outputs. Those that still wait at
+/// the end are left off.
+#[cfg(exported = "selection_parents_first")]
+pub fn selection_parents_first(
+    area: &[u8],
+    now: u64,
+    height: u32,
+    out: &mut [u8],
+) -> Result<(), Error> {
+    answered(ffi::selection_parents_first(area, now, height, out))
+}
+
 /// Of the first 20 records that [`selection_entries_at`] gives, a set with the most fee whose signed
 /// bytes are at most `limit`, as good as `budget` steps allow. `out` gets its fee, 8 bytes, the steps
 /// used, 4, the distance, 8, a count and the ids: at most 664 bytes.

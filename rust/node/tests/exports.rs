@@ -2,16 +2,17 @@
 //! damaged input.
 
 // Some parts wait for calls that are not exported yet.
-#![cfg_attr(not(all_exported), allow(dead_code))]
+#![cfg_attr(not(all_exported), allow(dead_code, unused_imports))]
 
 mod common;
 
 use common::{
-    area_to_write, lent_flag, lent_id, lent_queue, many, output, same, same_change, same_reading,
-    same_values, sometimes_cut, Met,
+    area_to_write, counters, lent_flag, lent_id, lent_queue, many, output, same, same_change,
+    same_reading, same_values, sometimes_cut, Met,
 };
+use model::load::{self, Ids, Links, Load};
 use model::random::{self, Rng};
-use model::{area, calls, image, Limits, Queue};
+use model::{area, calls, image, Height, Id, Limits, Queue, TimeMs};
 use pokerbox::raw;
 
 const CASES: u64 = 6_000;
@@ -550,7 +551,215 @@ macro_rules! moment_readings {
 
 moment_readings! {
     "selection_entries_at" selection_entries_at;
+    "selection_parents_first" selection_parents_first;
     "due" due;
+}
+
+/// What parents first answers, with an output around the answer's length.
+#[cfg(exported = "selection_parents_first")]
+fn parents_first_is(
+    met: &mut Met,
+    rng: &mut Rng,
+    queue: &Queue,
+    (now, height): (TimeMs, Height),
+    listed: &[Id],
+) {
+    let lent = area::encode(queue);
+    let answer = calls::ids_bytes(listed);
+    let out = output(rng, answer.len());
+    same(
+        met,
+        &[],
+        &out,
+        |_, out| raw::selection_parents_first(&lent, now.0, height.0, out),
+        |_, out| match out.get_mut(..answer.len()) {
+            Some(out) => {
+                out.copy_from_slice(&answer);
+                calls::ANSWERED
+            }
+            None => calls::OUTPUT_SHORT,
+        },
+    );
+}
+
+/// As the model has it, or for a large queue as counters have it.
+#[cfg(exported = "selection_parents_first")]
+fn same_parents_first(met: &mut Met, rng: &mut Rng, queue: &Queue, large: bool) {
+    let (now, height) = (random::time(rng), random::height(rng));
+    for (now, height) in [(now, height), (TimeMs(0), Height(0))] {
+        let listed = match large {
+            true => counters::parents_first(queue, now, height),
+            false => {
+                let listed = model::parents::parents_first(queue, now, height);
+                listed.iter().map(|record| record.id).collect()
+            }
+        };
+        parents_first_is(met, rng, queue, (now, height), &listed);
+    }
+}
+
+/// Chains, rings, outputs that two records name, parents that are not selected.
+#[test]
+#[cfg(exported = "selection_parents_first")]
+fn parents_first_of_many() {
+    for count in [0, 1, 2, 3, 5, 9, 20, 60] {
+        let mut met = Met::default();
+        many(400, |rng| {
+            let inputs = 1 + rng.below(4);
+            let queue = random::parents_queue(rng, count, inputs);
+            same_parents_first(&mut met, rng, &queue, false);
+            // The judge of large ones.
+            let moment = (random::time(rng), random::height(rng));
+            let listed = model::parents::parents_first(&queue, moment.0, moment.1);
+            let listed: Vec<Id> = listed.iter().map(|record| record.id).collect();
+            let counted = counters::parents_first(&queue, moment.0, moment.1);
+            assert_eq!(counted, listed);
+        });
+        met.expect(&[4, 100]);
+    }
+}
+
+/// As many selected records, and as many inputs, as a call may have a bound at, and more.
+#[test]
+#[cfg(exported = "selection_parents_first")]
+fn parents_first_of_large_queues() {
+    let mut met = Met::default();
+    for (count, inputs) in [
+        (64, 128),
+        (128, 64),
+        (200, 128),
+        (511, 2),
+        (512, 16),
+        (513, 16),
+        (520, 3),
+        (1_024, 2),
+        (2_047, 8),
+        (2_048, 1),
+    ] {
+        many(4, |rng| {
+            let queue = random::parents_queue(rng, count, inputs);
+            same_parents_first(&mut met, rng, &queue, true);
+        });
+    }
+    met.expect(&[4, 100]);
+}
+
+/// Every kind of ids, and every way of waiting.
+#[test]
+#[cfg(exported = "selection_parents_first")]
+fn parents_first_of_loads() {
+    let mut met = Met::default();
+    let rng = &mut Rng::new(1);
+    for ids in [
+        Ids::Random,
+        Ids::Front,
+        Ids::Ends,
+        Ids::Filter,
+        Ids::Sum,
+        Ids::Repeated,
+    ] {
+        for links in [
+            Links::Apart,
+            Links::Ring,
+            Links::Chain,
+            Links::Reversed,
+            Links::Spread,
+        ] {
+            if (ids, links) == (Ids::Repeated, Links::Spread) {
+                continue;
+            }
+            // 8,192 inputs are the most but for the last three.
+            for (queued, boxes) in [
+                (1, 5),
+                (63, 5),
+                (64, 128),
+                (65, 1),
+                (512, 16),
+                (513, 15),
+                (1_024, 8),
+                (2_048, 4),
+                (65, 128),
+                (512, 17),
+                (2_048, 5),
+            ] {
+                let load = Load {
+                    limits: [1_024, 2_048, 2, boxes],
+                    queued,
+                    mined: 0,
+                    tombstones: 2,
+                    boxes,
+                    bytes: 1,
+                    ids,
+                    links,
+                };
+                let (queue, listed) = (load::queue(&load), load::parents_first(&load));
+                let moment = (TimeMs(0), Height(0));
+                parents_first_is(&mut met, rng, &queue, moment, &listed);
+                // One of them is due, and nobody waits for it any more.
+                let moment = (TimeMs(5), Height(0));
+                let listed = counters::parents_first(&queue, moment.0, moment.1);
+                parents_first_is(&mut met, rng, &queue, moment, &listed);
+            }
+        }
+    }
+    met.expect(&[4, 100]);
+}
+
+/// At the top limits: 262,144 inputs and as many outputs.
+#[test]
+#[cfg(exported = "selection_parents_first")]
+fn parents_first_of_full_units() {
+    for (ids, links) in [
+        (Ids::Random, Links::Apart),
+        (Ids::Front, Links::Ring),
+        (Ids::Random, Links::Chain),
+        (Ids::Repeated, Links::Reversed),
+        (Ids::Ends, Links::Spread),
+        (Ids::Filter, Links::Reversed),
+        (Ids::Sum, Links::Spread),
+    ] {
+        let load = Load {
+            limits: [1_024, 16_777_216, 1_024, 128],
+            queued: 2_048,
+            mined: 0,
+            tombstones: 1_024,
+            boxes: 128,
+            bytes: 100,
+            ids,
+            links,
+        };
+        let lent = area::encode(&load::queue(&load));
+        let answer = calls::ids_bytes(&load::parents_first(&load));
+        let mut out = vec![0xee; answer.len()];
+        let given = raw::selection_parents_first(&lent, 0, 0, &mut out);
+        assert_eq!(given, Ok(()), "{ids:?}, {links:?}");
+        assert!(out == answer, "{ids:?}, {links:?}");
+    }
+}
+
+/// Outputs that are each named by many records.
+#[test]
+#[cfg(exported = "selection_parents_first")]
+fn parents_first_of_shared_outputs() {
+    let mut met = Met::default();
+    many(60, |rng| {
+        let inputs = 1 + rng.below(4);
+        let count = rng.pick(&[3, 10, 70]);
+        let mut queue = random::parents_queue(rng, count, inputs);
+        let wanted = model::rules::reserved_inputs(&queue);
+        let wanted: Vec<Id> = wanted.into_iter().collect();
+        if wanted.is_empty() {
+            return;
+        }
+        // Few ids for all outputs.
+        let few = (1 + rng.below(6)).min(wanted.len());
+        for holder in queue.records.iter_mut().filter_map(|r| r.holder.as_mut()) {
+            let named = (0..rng.up_to(inputs)).map(|_| wanted[rng.below(few)]);
+            holder.outputs = named.collect();
+        }
+        same_parents_first(&mut met, rng, &queue, false);
+    });
+    met.expect(&[4, 100]);
 }
 
 /// What best fees is given beside the area and the output.
@@ -814,7 +1023,8 @@ value_readings! {
     exported = "expire",
     exported = "image",
     exported = "open",
-    exported = "selection_entries_at"
+    exported = "selection_entries_at",
+    exported = "selection_parents_first"
 ))]
 fn many_records() {
     let limits = Limits::checked(1_024, 65_536, 1_024, 2).unwrap();
@@ -846,6 +1056,13 @@ fn many_records() {
             &out,
             |_, out| raw::selection_entries_at(&lent, 3, 4, out),
             |_, out| calls::selection_entries_at(&lent, 3, 4, out),
+        );
+        same(
+            &mut met,
+            &next,
+            &out,
+            |_, out| raw::selection_parents_first(&lent, 3, 4, out),
+            |_, out| calls::selection_parents_first(&lent, 3, 4, out),
         );
         let text = image::encode(&queue);
         let mut written = vec![0; text.len()];

@@ -65,7 +65,7 @@ fn the_header_declares_what_rust_declares() {
     let header = text("include/pokerbox.h");
     let declarations = c_declarations(&header);
     assert_eq!(declarations, rust_declarations());
-    assert_eq!(declarations.len(), 31);
+    assert_eq!(declarations.len(), 32);
 }
 
 #[test]

@@ -140,6 +140,38 @@ fn a_fresh_queue_refuses_what_is_absent() {
     assert_eq!(queue.selection_entries(), Ok(vec![]));
 }
 
+#[test]
+#[cfg(exported = "selection_parents_first")]
+fn parents_first() {
+    let mut queue = Queue::fresh(Limits::new(4, 10, 1, 2).unwrap()).unwrap();
+    let (now, height) = (TimeMs(5), Height(6));
+    assert_eq!(queue.selection_parents_first(now, height), Ok(vec![]));
+    // 1 waits for 2 and 3, of which 3 has a deadline; 4 waits for nobody.
+    for (n, priority, inputs, outputs) in [
+        (1, 9, [11, 12], [21]),
+        (2, 8, [13, 14], [11]),
+        (3, 5, [15, 16], [12]),
+        (4, 7, [17, 18], [24]),
+    ] {
+        let inputs = inputs.map(|n| InputId([n; 32])).to_vec();
+        let outputs = outputs.map(|n| OutputId([n; 32])).to_vec();
+        let given = Admission {
+            priority,
+            time_deadline: (n == 3).then_some(TimeMs(9)),
+            ..Admission::new(TxId([n; 32]), inputs, outputs, vec![], now, height)
+        };
+        let change = queue.admit(&given).unwrap();
+        change.settle(Outcome::Kept).unwrap();
+    }
+    let listed = |now| {
+        let listed = queue.selection_parents_first(TimeMs(now), height);
+        let numbers = listed.unwrap().into_iter().map(|id| id.0[0]);
+        numbers.collect::<Vec<u8>>()
+    };
+    assert_eq!(listed(5), [2, 4, 3, 1]);
+    assert_eq!(listed(9), [2, 1, 4]);
+}
+
 /// A queue of three with fees 5, 4, 3 and 6, 5, 5 signed bytes.
 fn three() -> Queue {
     let mut queue = Queue::fresh(Limits::new(3, 16, 1, 1).unwrap()).unwrap();

@@ -1,6 +1,7 @@
 //! The stack that calls use: every exported call, on small queues and on large ones, in a thread
-//! with little stack. `POKERBOX_STACK` sets another number of bytes, to find how few are enough,
-//! and `POKERBOX_STACK_TOP` one for the full unit; with too few the process ends.
+//! with little stack, or with the most where the queue is one for which a call may take that.
+//! `POKERBOX_STACK` and `POKERBOX_STACK_TOP` set other numbers of bytes, to find how few are enough;
+//! with too few the process ends.
 
 // Of the shared module `every` this test needs a part.
 #![allow(dead_code)]
@@ -9,16 +10,22 @@ mod common;
 mod every;
 
 use every::Args;
-use model::load::{self, Ids, Load};
+use model::load::{self, Ids, Links, Load};
 use model::random::{self, Rng};
-use model::{area, calls, image, Limits, Queue, State};
+use model::{area, calls, image, rules, Height, Limits, Queue, State, TimeMs};
 use pokerbox::raw;
 
-/// While the queue has at most 8,192 inputs.
+/// While the queue has at most [`FEW_INPUTS`]; parents first, while it also selects at most
+/// [`FEW_SELECTED`] records.
 const STACK: usize = 160 * 1024;
 
-/// At the top limits.
+/// Ever.
 const TOP: usize = 1_000_000;
+
+const FEW_INPUTS: usize = 8_192;
+const FEW_SELECTED: usize = 512;
+
+const PARENTS_FIRST: &str = "selection_parents_first";
 
 fn stack(name: &str, bytes: usize) -> usize {
     match std::env::var(name) {
@@ -71,10 +78,39 @@ impl Lent {
         }
     }
 
-    /// The numbers that all calls give back, by the library or by the model.
+    fn few_inputs(&self) -> bool {
+        let inputs = self
+            .queue
+            .records
+            .iter()
+            .map(|record| record.inputs().len());
+        inputs.sum::<usize>() <= FEW_INPUTS
+    }
+
+    /// At time 0 and height 0, when the most are selected.
+    fn few_selected(&self) -> bool {
+        rules::selection_at(&self.queue, TimeMs(0), Height(0)).len() <= FEW_SELECTED
+    }
+
+    /// The number that parents first gives back, by the library or by the model. The model is asked
+    /// for the selection instead, which is refused where parents first is: it takes long to find
+    /// who waits for whom.
+    #[cfg(exported = "selection_parents_first")]
+    fn parents_first(&mut self, library: bool) -> u64 {
+        let (area, out) = (&self.area, &mut self.out);
+        match library {
+            true => common::Number::number(raw::selection_parents_first(area, 0, 0, out)),
+            false => calls::selection_entries_at(area, 0, 0, out),
+        }
+    }
+
+    /// The numbers that all other calls give back, by the library or by the model.
     fn numbers(&mut self, library: bool) -> Vec<(&'static str, u64)> {
         let mut numbers = Vec::new();
         for call in every::calls() {
+            if call.name == PARENTS_FIRST {
+                continue;
+            }
             // Settling gets a sound next area.
             self.next.copy_from_slice(&self.area);
             let made = if library { call.library } else { call.model };
@@ -133,18 +169,33 @@ impl Lent {
     }
 }
 
-fn in_little_stack(lent: Lent) {
-    in_stack(stack("POKERBOX_STACK", STACK), lent);
+/// What `made` gives in a thread with so much stack, which is little or the most.
+fn in_thread<T: Send>(little: bool, made: impl FnOnce() -> T + Send) -> T {
+    let bytes = match little {
+        true => stack("POKERBOX_STACK", STACK),
+        false => stack("POKERBOX_STACK_TOP", TOP),
+    };
+    std::thread::scope(|scope| {
+        let thread = std::thread::Builder::new().stack_size(bytes);
+        let thread = thread.spawn_scoped(scope, made).expect("a thread");
+        thread.join().expect("no panic")
+    })
 }
 
-fn in_stack(bytes: usize, mut lent: Lent) {
+/// Every call, each in the stack that it may take for this queue.
+fn in_stack(mut lent: Lent) {
+    let little = lent.few_inputs();
     let expected = lent.numbers(false);
-    let thread = std::thread::Builder::new().stack_size(bytes);
-    let given = thread.spawn(move || lent.numbers(true)).expect("a thread");
-    let given = given.join().expect("no panic");
+    let given = in_thread(little, || lent.numbers(true));
     assert_eq!(given, expected);
     #[cfg(exported = "best_fees")]
     assert!(given.contains(&("best_fees", 100)), "{given:?}");
+    #[cfg(exported = "selection_parents_first")]
+    {
+        let little = little && lent.few_selected();
+        let given = in_thread(little, || lent.parents_first(true));
+        assert_eq!((given, lent.parents_first(false)), (100, 100));
+    }
 }
 
 #[test]
@@ -153,7 +204,7 @@ fn small_queues() {
         let mut rng = Rng::new(seed);
         let limits = random::small_limits(&mut rng);
         let queue = random::queue(&mut rng, limits);
-        in_little_stack(Lent::new(&mut rng, queue));
+        in_stack(Lent::new(&mut rng, queue));
     }
 }
 
@@ -169,7 +220,9 @@ fn large_limits() {
             holder.inputs.truncate(4);
         }
     }
-    in_little_stack(Lent::new(&mut rng, queue));
+    let lent = Lent::new(&mut rng, queue);
+    assert!(lent.few_inputs() && lent.few_selected());
+    in_stack(lent);
 }
 
 /// As many records as there can be.
@@ -178,42 +231,104 @@ fn many_records() {
     let limits = Limits::checked(1_024, 65_536, 1_024, 2).expect("limits in range");
     let mut rng = Rng::new(1);
     let queue = random::queue(&mut rng, limits);
-    in_little_stack(Lent::new(&mut rng, queue));
+    let lent = Lent::new(&mut rng, queue);
+    assert!(lent.few_inputs());
+    in_stack(lent);
 }
 
-/// Chained records at the top limits: no input is available, each is looked for among the outputs.
-fn chained(queued: u64, mined: u64, tombstones: u64, ids: Ids) -> Lent {
+/// Under limits that have room: the top ones for more than 512 records. In reconciliation no input is
+/// available: each is looked for among the outputs.
+fn loaded(queued: u64, mined: u64, boxes: u64, ids: Ids, links: Links) -> Lent {
+    let limits = match queued + mined {
+        ..=512 => [256, 65_536, 128, 128],
+        _ => TOP_LIMITS,
+    };
+    loaded_under(limits, queued, mined, boxes, (ids, links))
+}
+
+const TOP_LIMITS: [u64; 4] = [1_024, 16_777_216, 1_024, 128];
+
+fn loaded_under(
+    limits: [u64; 4],
+    queued: u64,
+    mined: u64,
+    boxes: u64,
+    (ids, links): (Ids, Links),
+) -> Lent {
     let queue = load::queue(&Load {
-        limits: [1_024, 16_777_216, 1_024, 128],
+        limits,
         queued,
         mined,
-        tombstones,
-        boxes: 128,
+        tombstones: limits[2],
+        boxes,
         bytes: 100,
         ids,
+        links,
     });
     Lent::new(&mut Rng::new(1), queue)
 }
 
-/// 8,192 inputs, whatever their ids.
+const LOADS: [(Ids, Links); 10] = [
+    (Ids::Random, Links::Apart),
+    (Ids::Front, Links::Apart),
+    (Ids::Ends, Links::Apart),
+    (Ids::Filter, Links::Apart),
+    (Ids::Sum, Links::Apart),
+    (Ids::Random, Links::Ring),
+    (Ids::Random, Links::Chain),
+    (Ids::Repeated, Links::Reversed),
+    (Ids::Random, Links::Spread),
+    (Ids::Sum, Links::Spread),
+];
+
+/// 8,192 inputs, whatever their ids, of few records and of 512.
 #[test]
 fn few_inputs() {
-    for ids in [
-        Ids::Random,
-        Ids::Front,
-        Ids::Ends,
-        Ids::Filter,
-        Ids::Chained,
-    ] {
-        in_little_stack(chained(40, 24, 100, ids));
+    for (ids, links) in LOADS {
+        for (queued, mined, boxes) in [(40, 24, 128), (64, 0, 128), (512, 0, 16)] {
+            let lent = loaded(queued, mined, boxes, ids, links);
+            assert!(lent.few_inputs() && lent.few_selected());
+            in_stack(lent);
+        }
+    }
+}
+
+/// The same few inputs in the largest area.
+#[test]
+fn few_inputs_under_the_top_limits() {
+    for load in LOADS.into_iter().take(6) {
+        let lent = loaded_under(TOP_LIMITS, 40, 24, 128, load);
+        assert!(lent.few_inputs() && lent.few_selected());
+        in_stack(lent);
+    }
+}
+
+/// More than 512 selected records, or more than 8,192 inputs: parents first may take the most.
+#[test]
+fn above_what_is_few() {
+    let (ids, links) = (Ids::Random, Links::Spread);
+    let many = loaded(513, 0, 15, ids, links);
+    assert!(many.few_inputs() && !many.few_selected());
+    let wide = loaded(512, 0, 17, ids, links);
+    assert!(!wide.few_inputs() && wide.few_selected());
+    let most = loaded(2_048, 0, 4, ids, links);
+    assert!(most.few_inputs() && !most.few_selected());
+    for lent in [many, wide, most] {
+        in_stack(lent);
     }
 }
 
 /// 262,144 inputs and as many outputs.
 #[test]
 fn full_unit() {
-    let bytes = stack("POKERBOX_STACK_TOP", TOP);
-    for ids in [Ids::Chained, Ids::Filter] {
-        in_stack(bytes, chained(1_024, 1_024, 1_024, ids));
+    for (queued, mined, ids, links) in [
+        (1_024, 1_024, Ids::Random, Links::Ring),
+        (1_024, 1_024, Ids::Filter, Links::Apart),
+        (2_048, 0, Ids::Random, Links::Spread),
+        (2_048, 0, Ids::Sum, Links::Reversed),
+    ] {
+        let lent = loaded(queued, mined, 128, ids, links);
+        assert!(!lent.few_inputs());
+        in_stack(lent);
     }
 }

@@ -1,6 +1,6 @@
 //! Builds the comparison with each wrong edit in `mutants.txt`, of the oracle's text or the model's,
 //! and looks whether the library is then found to differ. The edits are made in a copy of the
-//! sources. Of an edit of the model, its own tests are run as well.
+//! sources. Of an edit of the model's best fees or parents first, its own tests are run as well.
 
 use std::collections::BTreeSet;
 use std::fs;
@@ -154,8 +154,8 @@ fn run(settings: &Settings) -> Result<bool, String> {
     Ok(right == tried)
 }
 
-/// What the comparison said, and for an edit of the model how many of its tests failed; or what the
-/// compiler said.
+/// What the comparison said, and where the model has tests for the call how many of them failed; or
+/// what the compiler said.
 type Built = Result<(Seen, Option<usize>), String>;
 
 fn seen(settings: &Settings, copy: &Copy, edit: &Edit) -> Result<Built, String> {
@@ -168,10 +168,12 @@ fn seen(settings: &Settings, copy: &Copy, edit: &Edit) -> Result<Built, String> 
     }
     let look = if edit.withdrawn { "withdrawn" } else { "all" };
     let seen = compare(settings, &copy.target.join("debug/compare"), look)?;
-    if !edit.file.starts_with("model/") {
-        return Ok(Ok((seen, None)));
-    }
-    let said = copy.cargo(settings, &["test", "--package", "model", "--test", "fees"])?;
+    let tests = match edit.call.as_str() {
+        "best_fees" => "fees",
+        "selection_parents_first" => "parents",
+        _ => return Ok(Ok((seen, None))),
+    };
+    let said = copy.cargo(settings, &["test", "--package", "model", "--test", tests])?;
     let said = said.unwrap_or_else(|said| said);
     let failed = between(&said, " passed; ", " failed;").and_then(|count| count.parse().ok());
     Ok(Ok((seen, failed)))

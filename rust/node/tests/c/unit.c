@@ -54,6 +54,13 @@ int main(void) {
     expect("select", pokerbox_selection_entries_at(next, sizeof next, 5, 6, out, sizeof out),
            POKERBOX_ANSWERED);
     expect("selected", out[3], 1);
+    expect("parents first",
+           pokerbox_selection_parents_first(next, sizeof next, 5, 6, out, 36), POKERBOX_ANSWERED);
+    expect("listed", out[3], 1);
+    expect("listed id", (uint64_t)memcmp(out + 4, id, sizeof id), 0);
+    expect("short output",
+           pokerbox_selection_parents_first(next, sizeof next, 5, 6, out, 35),
+           POKERBOX_OUTPUT_TOO_SHORT);
     expect("best fees",
            pokerbox_best_fees(next, sizeof next, 3, POKERBOX_MAX_BUDGET, 5, 6, out, 56),
            POKERBOX_ANSWERED);

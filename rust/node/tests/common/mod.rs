@@ -2,6 +2,7 @@
 
 #![allow(dead_code)]
 
+pub mod counters;
 mod folder;
 
 use std::collections::BTreeMap;

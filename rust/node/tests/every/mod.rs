@@ -163,6 +163,12 @@ pub fn calls() -> Vec<Call> {
     call!(list, "selection_entries_at", false, |m, a, area, _, out| {
         m::selection_entries_at(area, a.now, a.height, out)
     });
+    call!(
+        list,
+        "selection_parents_first",
+        false,
+        |m, a, area, _, out| { m::selection_parents_first(area, a.now, a.height, out) }
+    );
     call!(list, "best_fees", false, |m, a, area, _, out| {
         m::best_fees(area, a.limit, a.budget, a.now, a.height, out)
     });

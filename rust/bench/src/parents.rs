@@ -1,0 +1,118 @@
+//! Parents first: how much longer it takes than the selection, and than the check of the area.
+
+use std::time::Duration;
+
+use model::calls::ids_bytes;
+use model::load::{self, Ids, Links, Load};
+use pokerbox::raw;
+
+use crate::growth::{full, plain, ratio, times, Lent};
+
+/// With 1,000 records of 2 inputs it may take so many times as long as the selection.
+const MOST_TIMES: f64 = 2.0;
+/// At the top limits it may take so many milliseconds beyond the check.
+const MOST_MS: f64 = 1_000.0;
+
+const LINKS: [(Links, &str); 5] = [
+    (Links::Apart, "unchained"),
+    (Links::Ring, "chained in a ring: all are left off"),
+    (Links::Chain, "chained, the selection has parents first"),
+    (Links::Reversed, "chained, the selection has children first"),
+    (Links::Spread, "each input another record's output"),
+];
+
+const IDS: [(Ids, &str); 5] = [
+    (Ids::Random, "random ids"),
+    (Ids::Front, "first 24 bytes alike"),
+    (Ids::Ends, "first and last 8 bytes alike"),
+    (Ids::Filter, "chosen against the filter"),
+    (Ids::Sum, "chosen against the call's own hash"),
+];
+
+/// The times of the call, which lists what it should.
+fn parents_first(lent: &Lent, load: &Load, enough: Duration) -> (f64, f64) {
+    let mut out = vec![0; 4 + 32 * load.queued as usize];
+    let time = times(enough, || {
+        raw::selection_parents_first(lent.area(), 0, 0, &mut out).expect("answered");
+    });
+    let listed = ids_bytes(&load::parents_first(load));
+    assert!(out.starts_with(&listed), "the list");
+    time
+}
+
+/// The times of the selection and of parents first, of 1,000 records.
+fn both(links: Links, enough: Duration) -> [(f64, f64); 2] {
+    let load = plain(1_000, Ids::Random, links);
+    let lent = Lent::new(&load, enough);
+    let mut out = vec![0; 4 + 32 * load.queued as usize];
+    let selection = times(enough, || {
+        raw::selection_entries_at(lent.area(), 0, 0, &mut out).expect("answered");
+    });
+    [selection, parents_first(&lent, &load, enough)]
+}
+
+/// The ratios alone.
+pub fn ratios(enough: Duration) {
+    for (links, name) in LINKS {
+        let [selection, first] = both(links, enough);
+        let name = format!("selection_parents_first / selection_entries_at, {name}");
+        ratio(&name, first.0 / selection.0, MOST_TIMES);
+    }
+}
+
+/// 2,048 Queued records of 128 inputs and as many outputs: as many as there can be after rollbacks.
+fn top(ids: Ids, links: Links) -> Load {
+    Load {
+        queued: 2_048,
+        mined: 0,
+        ..full(ids, links)
+    }
+}
+
+fn at_the_top(name: &str, load: &Load, enough: Duration) {
+    let lent = Lent::new(load, enough);
+    let (sound, first) = (lent.sound(), parents_first(&lent, load, enough));
+    let ms = |(least, median): (f64, f64)| format!("{:.1} ({:.1})", least * 1e3, median * 1e3);
+    let beyond = (first.0 - sound.0) * 1e3;
+    let verdict = if beyond <= MOST_MS { "yes" } else { "no" };
+    println!(
+        "| {name} | {} | {} | {beyond:.0} | {MOST_MS} | {verdict} |",
+        ms(sound),
+        ms(first)
+    );
+}
+
+pub fn rows(enough: Duration) {
+    println!("### Parents first\n");
+    println!("1,000 records of 2 inputs and outputs. Microseconds, least (median).\n");
+    println!(
+        "| records | selection_entries_at | selection_parents_first | ratio | at most | reached |"
+    );
+    println!("|---|---:|---:|---:|---:|---|");
+    for (links, name) in LINKS {
+        let [selection, first] = both(links, enough);
+        let us = |(least, median): (f64, f64)| format!("{:.0} ({:.0})", least * 1e6, median * 1e6);
+        let value = first.0 / selection.0;
+        let verdict = if value <= MOST_TIMES { "yes" } else { "no" };
+        println!(
+            "| {name} | {} | {} | {value:.2} | {MOST_TIMES} | {verdict} |",
+            us(selection),
+            us(first)
+        );
+    }
+    println!("\n2,048 Queued records of 128 inputs and outputs, top limits. Milliseconds, least (median).\n");
+    println!(
+        "| ids and records | sound | selection_parents_first | beyond sound | at most | reached |"
+    );
+    println!("|---|---:|---:|---:|---:|---|");
+    for (ids, ids_name) in IDS {
+        for (links, name) in LINKS {
+            at_the_top(&format!("{ids_name}; {name}"), &top(ids, links), enough);
+        }
+    }
+    for (links, name) in &LINKS[..4] {
+        let name = format!("one input and one output 128 times; {name}");
+        at_the_top(&name, &top(Ids::Repeated, *links), enough);
+    }
+    println!();
+}
