@@ -1,7 +1,7 @@
 -- The bits of words: one more is set, the lines of rows, the rows that a line names. Assumes nothing.
 use mathlib.Core.Path.{_≡_, refl, ap, sym, _∙_}
-use mathlib.Core.Bool.{Bool, true, false, cond, not, _&&_, _||_}
-use mathlib.Core.List.{List, [], _∷_, _++_}
+use mathlib.Core.Bool.{Bool, true, false, cond, _&&_, _||_}
+use mathlib.Core.List.{List, _∷_}
 use Prim.Native.Nat.{ℕ, zero, suc, _+_, _-_, _*_, _/_, _%_, _^_, _≤_, _<_, max}
 use native.Mathlib.Omega.{arith}
 use native.Mathlib.Numerals.{add-one}
@@ -9,24 +9,43 @@ use native.Mathlib.Nat.{pow-suc, mod-lt, div-add-mod', div-lt-iff-lt-mul, max-ze
 use lib.Arith.{digits-div, digits-mod}
 use lib.Bits.{bitOr, or-zero-r}
 use lib.Dec.{ltb, leb, eqb}
-use lib.ListN.{length, getD, set, length-set, length-append}
+use lib.ListN.{length, getD, set, length-set}
 use lib.Seq.{getD-set-same, getD-set-other}
 use borrow.Author.Tests.{eqb-true, eqb-false, eq-eqb, ne-eqb, ltb-true, ltb-false, lt-ltb, le-ltb, leb-true, leb-false, le-leb, lt-leb}
 use Rattle.queue.specs.Codec.{cases}
-use Rattle.queue.specs.ReadLaws.{false-true}
 use Rattle.queue.specs.Suspects.{noR}
 use Rattle.queue.specs.paper.Lists.{any?}
 use Rattle.queue.specs.parents.Links.{bitL, bitAt, Joined, inLine, ones, wordOnes, kidsOf}
 use Rattle.queue.proofs.FilterLaws.{or-half, or-odd}
+use Rattle.queue.proofs.OwnLaws.{any-append}
 
 -- ---- a word
 or-right : (a : Bool) → (a || true) ≡ true
 or-right true = refl
 or-right false = refl
 
-or-no : (a : Bool) → (a || false) ≡ a
+pub or-no : (a : Bool) → (a || false) ≡ a
 or-no true = refl
 or-no false = refl
+
+pub or-group : (a b c : Bool) → ((a || b) || c) ≡ (a || (b || c))
+or-group true b c = refl
+or-group false b c = refl
+
+and-yes : (a : Bool) → a ≡ (a && true)
+and-yes true = refl
+and-yes false = refl
+
+and-no : (a b : Bool) → ((a && false) && b) ≡ false
+and-no true b = refl
+and-no false b = refl
+
+pub spread : (a b c : Bool) → ((a && c) || (b && c)) ≡ ((a || b) && c)
+spread true true true = refl
+spread true true false = refl
+spread true false true = refl
+spread true false false = refl
+spread false b c = refl
 
 half-pow : (m : ℕ) → 2 ^ suc m / 2 ≡ 2 ^ m
 half-pow m = ap (λ (x : ℕ). x / 2) (pow-suc 2 m ∙ sym (add-zero (2 ^ m * 2))) ∙ digits-div (2 ^ m) (omega arith)
@@ -84,10 +103,6 @@ module _ (bits : List ℕ) (w row j : ℕ) (in-row : row * w + w ≤ length bits
       let e = eqb-false (i * w + k / 64) cell t in
       rw (getD-set-other bits cell (i * w + k / 64) x 0 e, other e) (sym (or-no (bitL (getD bits (i * w + k / 64) 0) (k % 64)))))
     where
-      and-yes : (a : Bool) → a ≡ (a && true)
-      and-yes true = refl
-      and-yes false = refl
-
       other : (i * w + k / 64 ≡ cell → ⊥) → (eqb k j && eqb i row) ≡ false
       other e = cases (eqb k j)
           (λ t. cases (eqb i row)
@@ -105,12 +120,8 @@ joined-to {w} {bits} {bits′} {new} {new′} f x = record { size = x .size; is 
 pub joined-then : {w : ℕ} {a b c : List ℕ} {f g h : ℕ → ℕ → Bool} → Joined w a b f → Joined w b c g → ((i j : ℕ) → (f i j || g i j) ≡ h i j) → Joined w a c h
 joined-then {w} {a} {b} {c} {f} {g} {h} x y k = record {
   size = y .size ∙ x .size;
-  is = λ i j p q. y .is i j (rw (x .size) p) q ∙ ap (λ (z : Bool). z || g i j) (x .is i j p q) ∙ regroup (bitAt a w i j) (f i j) (g i j) ∙ ap (λ (z : Bool). bitAt a w i j || z) (k i j);
+  is = λ i j p q. y .is i j (rw (x .size) p) q ∙ ap (λ (z : Bool). z || g i j) (x .is i j p q) ∙ or-group (bitAt a w i j) (f i j) (g i j) ∙ ap (λ (z : Bool). bitAt a w i j || z) (k i j);
 }
-  where
-    regroup : (a b c : Bool) → ((a || b) || c) ≡ (a || (b || c))
-    regroup true b c = refl
-    regroup false b c = refl
 
 -- ---- one row's bit
 pub no-is : (x : ℕ) → x % 4294967296 ≡ noR x
@@ -140,24 +151,16 @@ module _ (bits : List ℕ) (w start row x : ℕ) (found : Bool) (e : start ≡ r
 
   pub row-zero : noR x ≡ 0 → Joined w bits bits rowNew
   row-zero u = joined-none (λ i j _. rw (u, ne-eqb 0 (suc j) (λ q. let z : ⊥ = omega arith in z)) (and-no found (inLine row i j)))
-    where
-      and-no : (a b : Bool) → ((a && false) && b) ≡ false
-      and-no true b = refl
-      and-no false b = refl
 
   pub row-own : {m j₀ : ℕ} → m ≡ noR x → 0 < m → j₀ ≡ m - 1 → j₀ ≡ row → Joined w bits bits rowNew
   row-own {m} {j₀} g p f q = joined-none (λ i j _. cases (eqb j row)
-      (λ u. rw u (and-no (found && eqb (noR x) (suc j)) (eqb i row)))
-      (λ u. rw (ne-eqb (noR x) (suc j) (λ z. eqb-false j row u (let y : j ≡ row = omega arith in y))) (and-no-2 found (inLine row i j))))
+      (λ u. rw u (and-last (found && eqb (noR x) (suc j)) (eqb i row)))
+      (λ u. rw (ne-eqb (noR x) (suc j) (λ z. eqb-false j row u (let y : j ≡ row = omega arith in y))) (and-no found (inLine row i j))))
     where
-      and-no : (a b : Bool) → (a && (b && false)) ≡ false
-      and-no true true = refl
-      and-no true false = refl
-      and-no false b = refl
-
-      and-no-2 : (a b : Bool) → ((a && false) && b) ≡ false
-      and-no-2 true b = refl
-      and-no-2 false b = refl
+      and-last : (a b : Bool) → (a && (b && false)) ≡ false
+      and-last true true = refl
+      and-last true false = refl
+      and-last false b = refl
 
   pub row-wide : {m j₀ a : ℕ} → m ≡ noR x → 0 < m → j₀ ≡ m - 1 → a ≡ j₀ / 64 → w ≤ a → Joined w bits bits rowNew
   row-wide {m} {j₀} {a} g p f q h = joined-none (λ i j k. rw (ne-eqb (noR x) (suc j) (λ z.
@@ -165,10 +168,6 @@ module _ (bits : List ℕ) (w start row x : ℕ) (found : Bool) (e : start ≡ r
       let v : j / 64 < w = word-in w j k in
       let u : a ≡ j / 64 = q ∙ ap (λ (n : ℕ). n / 64) y in
       let o : ⊥ = omega arith in o)) (and-no found (inLine row i j)))
-    where
-      and-no : (a b : Bool) → ((a && false) && b) ≡ false
-      and-no true b = refl
-      and-no false b = refl
 
   pub row-set : {m j₀ a c p y : ℕ} {bits′ : List ℕ} → m ≡ noR x → 0 < m → found ≡ true → j₀ ≡ m - 1 → (j₀ ≡ row → ⊥) → a ≡ j₀ / 64 → a < w → p ≡ start + a → c ≡ j₀ % 64 → y ≡ 2 ^ c
       → bits′ ≡ set bits p (bitOr (getD bits p 0) y) → Joined w bits bits′ rowNew
@@ -191,10 +190,6 @@ module _ (bits : List ℕ) (w start row x : ℕ) (found : Bool) (e : start ≡ r
           rw (u, t, eq-eqb (noR x) (suc j) (let z : noR x ≡ suc j = omega arith in z), ne-eqb j row (λ z. n (sym v ∙ z))) (and-yes (eqb i row)))
           (λ u. let v = eqb-false j j₀ u in
           rw (u, t, ne-eqb (noR x) (suc j) (λ z. v (let y : j ≡ j₀ = omega arith in y))))
-        where
-          and-yes : (a : Bool) → a ≡ (a && true)
-          and-yes true = refl
-          and-yes false = refl
 
 -- ---- the rows that a line names
 ones-any : (n x j k : ℕ) → any? (eqb k) (ones n x j) ≡ ((leb j k && ltb k (j + n)) && bitL x (k - j))
@@ -227,10 +222,6 @@ ones-any (suc n) x j k =
         → (b : Bool) → any? (eqb k) (cond b (j ∷ ones n (x / 2) (j + 1)) (ones n (x / 2) (j + 1))) ≡ ((leb j k && ltb k (j + suc n)) && bitL x (k - j))
     later t e i true = rw t (i ∙ shifted t)
     later t e i false = i ∙ shifted t
-
-any-append : (p : ℕ → Bool) (a b : List ℕ) → any? p (a ++ b) ≡ (any? p a || any? p b)
-any-append p [] b = refl
-any-append p (x ∷ a) b = cases (p x) (λ t. rw t) (λ t. rw t (any-append p a b))
 
 -- a number from j on: its word, and its bit
 words-any : (bits : List ℕ) (m p j k : ℕ) → j ≤ k → k < j + 64 * m → any? (eqb k) (wordOnes bits m p j) ≡ bitL (getD bits (p + (k - j) / 64) 0) ((k - j) % 64)

@@ -1,24 +1,23 @@
 -- Rows for what records want, in slots and in a table, and the bits that come of them. Assumes nothing.
-use mathlib.Core.Path.{_≡_, refl, ap, sym, _∙_, subst}
-use mathlib.Core.Bool.{Bool, true, false, cond, not, _&&_, _||_}
+use mathlib.Core.Path.{_≡_, refl, ap, sym, _∙_}
+use mathlib.Core.Bool.{Bool, true, false, not, _&&_, _||_}
 use mathlib.Core.List.{List, [], _∷_, _++_}
-use Prim.Native.Nat.{ℕ, zero, suc, _+_, _-_, _*_, _/_, _%_, _≤_, _<_}
+use Prim.Native.Nat.{ℕ, zero, suc, _+_, _-_, _/_, _%_, _≤_, _<_}
 use native.Mathlib.Omega.{arith}
 use native.Mathlib.Numerals.{add-one}
-use native.Mathlib.Nat.{mod-lt, suc-mul, mul-le-mul-right, le-of-suc-le-suc}
+use native.Mathlib.Nat.{le-of-suc-le-suc}
 use lib.Dec.{ltb, leb, eqb}
-use lib.ListN.{length, take, drop, getD, set, length-set, length-take, List·getD-eq-default}
-use lib.Seq.{getD-set-same, getD-set-other, take-suc, take-suc-set, take-all, getD-take, drop-cons}
-use borrow.Author.Tests.{eqb-true, eqb-false, eq-eqb, ne-eqb, ltb-true, ltb-false, lt-ltb, le-ltb, leb-true, leb-false, le-leb, lt-leb, not-true, not-false}
+use lib.ListN.{length, take, getD, set, length-set, length-take, List·getD-eq-default}
+use lib.Seq.{getD-set-same, getD-set-other, take-suc, take-suc-set, take-all, getD-take}
+use borrow.Author.Tests.{eqb-true, eqb-false, eq-eqb, ne-eqb, ltb-true, ltb-false, lt-ltb, le-ltb, leb-true, le-leb, lt-leb, not-true}
 use Rattle.queue.specs.Codec.{All, cases}
 use Rattle.queue.specs.Ids.{part}
 use Rattle.queue.specs.Lists.{and-true, and-both}
-use Rattle.queue.specs.Order.{same-is, same-self, same-sym, or-true, or-false}
-use Rattle.queue.specs.Frames.{recC, idC}
-use Rattle.queue.specs.Forms.{formC, afterIn, turn-in}
+use Rattle.queue.specs.Order.{same-is, or-false}
+use Rattle.queue.specs.Frames.{idC}
 use Rattle.queue.specs.View.{view}
 use Rattle.queue.specs.Reads.{Reads, whole, listAt}
-use Rattle.queue.specs.ReadLaws.{Turn, none-left, false-true}
+use Rattle.queue.specs.ReadLaws.{none-left, false-true}
 use Rattle.queue.specs.Facts.{factsOf, SeenAs}
 use Rattle.queue.specs.Filter.{slotL, marked, markL}
 use Rattle.queue.specs.Suspects.{idR, noR, upTo, later, Shuffled, InOrder, Cut}
@@ -27,15 +26,15 @@ use Rattle.queue.specs.paper.Records.{Bytes, Id, Rec}
 use Rattle.queue.specs.paper.Ids.{cmpL, same?}
 use Rattle.queue.specs.paper.Lists.{any?, all?}
 use Rattle.queue.specs.paper.Sound.{inputs, outputs, among?}
-use Rattle.queue.specs.parents.Links.{hashAll, wantsAt, outsAt, Modest, Short, Joined, hit, inLine, Zero, Kept, Held, Rowed, Linked, outputsLinked, Begins}
+use Rattle.queue.specs.parents.Links.{hashAll, wantsAt, outsAt, Short, Joined, hit, inLine, Zero, Kept, Held, Rowed, Linked, outputsLinked, Begins}
 use Rattle.queue.specs.declared.frame.Seen.{Seen}
-use Rattle.queue.proofs.Turns.{Scan, start, here, on, end, SeenIn, ReadsRec}
+use Rattle.queue.proofs.Turns.{Scan, start, here, on, ReadsRec}
 use Rattle.queue.proofs.FilterLaws.{mark-size, mark-here, mark-old, slot-in}
-use Rattle.queue.proofs.RowLaws.{any-none, any-some, later-no, later-yes, later-behind, rising}
+use Rattle.queue.proofs.RowLaws.{id-long, any-none, any-some, later-no, later-yes, later-behind, rising}
 use Rattle.queue.proofs.SuspectLaws.{id-bytes, all-at, all-append, shuffled-all}
 use Rattle.queue.proofs.OwnLaws.{shuffled-any, any-append}
 use Rattle.queue.proofs.FeeLaws.{the-turn, rec-is, known-at}
-use Rattle.queue.proofs.BitLaws.{joined-none, joined-to, joined-then}
+use Rattle.queue.proofs.BitLaws.{or-no, or-group, spread, joined-none, joined-to, joined-then}
 
 -- ---- zeros
 pub zero-go : (v : List ℕ) (i : ℕ) → ((j : ℕ) → j < i → getD v j 0 ≡ 0) → (j : ℕ) → j < i + 1 → getD (set v i 0) j 0 ≡ 0
@@ -73,6 +72,11 @@ meets-is s y x n e = rw (e, lt-ltb 0 (x % 4294967296) (pos (x % 4294967296) n)) 
     yes : (a : Bool) → a ≡ (a && true)
     yes true = refl
     yes false = refl
+
+pub meets-same : (s : Bytes) (y x : ℕ) {n m : ℕ} {a b : Id} {r : Bool} → (x % 4294967296 ≡ 0 → ⊥) → n ≡ length (view false s (y / 4294967296)) → m ≡ length (view false s (x / 4294967296)) → 32 ≤ n → 32 ≤ m
+    → a ≡ part 32 (view false s (y / 4294967296)) 0 → b ≡ part 32 (view false s (x / 4294967296)) 0 → r ≡ same? a b → r ≡ later false s (idR false s y) 0 x
+meets-same s y x n e f h k p q r =
+    r ∙ rw (p ∙ sym (id-long false s y (omega arith)), q ∙ sym (id-long false s x (omega arith))) (meets-is s y x n refl)
 
 -- what a row of record j with the id y says
 row-says : (s : Bytes) (w j : ℕ) (y : Id) → idR false s w ≡ y → noR w ≡ suc j → (i : ℕ) (z : Id) → hit s i z w ≡ (eqb i j && same? z y)
@@ -226,10 +230,6 @@ pub record Rowing (s : Bytes) (j : ℕ) (b : Bytes) (c at : ℕ) (slots₀ t₀ 
   pub sizes : (length slots ≡ length slots₀) × (length t ≡ length t₀)
   pub by : (own : ℕ → Id → Bool) → Held s slots₀ t₀ rows₀ own → Held s slots t rows (λ i z. own i z || (eqb i j && done z))
 
-or-no : (a : Bool) → a ≡ (a || false)
-or-no true = refl
-or-no false = refl
-
 and-no : (a : Bool) → (a && false) ≡ false
 and-no true = refl
 and-no false = refl
@@ -240,7 +240,7 @@ rowing s j b c at slots t rows h w = record {
   done = λ z. false;
   split = λ z. refl;
   sizes = (refl, refl);
-  by = λ own x. held-to (λ i z. or-no (own i z) ∙ ap (λ (q : Bool). own i z || q) (sym (and-no (eqb i j)))) x;
+  by = λ own x. held-to (λ i z. sym (or-no (own i z)) ∙ ap (λ (q : Bool). own i z || q) (sym (and-no (eqb i j)))) x;
 }
 
 module _ {s : Bytes} {j : ℕ} {b : Bytes} {c at : ℕ} {slots₀ t₀ rows₀ : List ℕ} {i left : ℕ} {slots t : List ℕ} (v : List ℕ) (k : ℕ) (x : Rowing s j b c at slots₀ t₀ rows₀ i left slots t (take k v)) where
@@ -254,15 +254,11 @@ module _ {s : Bytes} {j : ℕ} {b : Bytes} {c at : ℕ} {slots₀ t₀ rows₀ :
       record {
         scan = on (x .scan) tt p u refl;
         done = λ o. x .done o || same? o y;
-        split = λ o. x .split o ∙ ap (λ (k : List Id). x .done o || among? o k) (u .list) ∙ ap (λ (k : Id). x .done o || (same? o k || among? o (listAt idC (left - 1) b next))) (u .is) ∙ regroup (x .done o) (same? o y) (among? o (listAt idC (left - 1) b next));
+        split = λ o. x .split o ∙ ap (λ (k : List Id). x .done o || among? o k) (u .list) ∙ ap (λ (k : Id). x .done o || (same? o k || among? o (listAt idC (left - 1) b next))) (u .is) ∙ sym (or-group (x .done o) (same? o y) (among? o (listAt idC (left - 1) b next)));
         sizes = (z .0 ∙ x .sizes .0, z .1 ∙ x .sizes .1);
         by = λ own o. held-to (λ i z. ap (λ (q : Bool). (own i z || (eqb i j && x .done z)) || q) (row-says s w j y q n i z) ∙ join (own i z) (eqb i j) (x .done z) (same? z y)) (held-more s slots t v h w k m a d l g (x .by own o));
       }
     where
-      regroup : (a b c : Bool) → (a || (b || c)) ≡ ((a || b) || c)
-      regroup true b c = refl
-      regroup false b c = refl
-
       join : (a b c d : Bool) → ((a || (b && c)) || (b && d)) ≡ (a || (b && (c || d)))
       join true b c d = refl
       join false true c d = refl
@@ -271,7 +267,7 @@ module _ {s : Bytes} {j : ℕ} {b : Bytes} {c at : ℕ} {slots₀ t₀ rows₀ :
   pub rowing-end : left ≡ 0 → Rowed s j (listAt idC c b at) slots₀ t₀ rows₀ slots t (take k v)
   rowing-end e = record {
     sizes = x .sizes;
-    by = λ own o. held-to (λ n z. ap (λ (q : Bool). own n z || (eqb n j && q)) (or-no (x .done z) ∙ sym (x .split z ∙ ap (λ (k : List Id). x .done z || among? z k) (none-left idC b left i e .0)))) (x .by own o);
+    by = λ own o. held-to (λ n z. ap (λ (q : Bool). own n z || (eqb n j && q)) (sym (or-no (x .done z)) ∙ sym (x .split z ∙ ap (λ (k : List Id). x .done z || among? z k) (none-left idC b left i e .0)))) (x .by own o);
   }
 
 -- ---- a record that stands at a place, as it was read
@@ -327,7 +323,7 @@ records-go s at a b {ids} h e x r = held-to (λ j z. both j z) (r .by (wantedIn 
         let y : among? z ids ≡ among? z (wantsAt s at j) = rw (e, q) in
         rw (t, y, le-leb a j (omega arith), le-ltb j b (omega arith), lt-ltb j (b + 1) (omega arith)))
         (λ t. let q = eqb-false j b t in
-        rw (t, upto q) (sym (or-no ((leb a j && ltb j (b + 1)) && among? z (wantsAt s at j)))))
+        rw (t, upto q) ((or-no ((leb a j && ltb j (b + 1)) && among? z (wantsAt s at j)))))
       where
         upto : (j ≡ b → ⊥) → ltb j b ≡ ltb j (b + 1)
         upto q = cases (ltb j b)
@@ -402,16 +398,9 @@ module _ (s : Bytes) (v : List ℕ) (y : ℕ) (ny : noR y ≡ 0) where
           let z = idR false s y in
           let tk : take (k + 1) v ≡ take k v ++ (getD v k 0 ∷ []) = rw add-one (take-suc v k 0 h) in
           let a : any? (hit s j z) (take (k + 1) v) ≡ (any? (hit s j z) (take k v) || hit s j z (getD v k 0)) =
-          ap (any? (hit s j z)) tk ∙ any-append (hit s j z) (take k v) (getD v k 0 ∷ []) ∙ ap (λ (q : Bool). any? (hit s j z) (take k v) || q) (sym (or-no (hit s j z (getD v k 0)))) in
+          ap (any? (hit s j z)) tk ∙ any-append (hit s j z) (take k v) (getD v k 0 ∷ []) ∙ ap (λ (q : Bool). any? (hit s j z) (take k v) || q) ((or-no (hit s j z (getD v k 0)))) in
           rw (a, e) (spread (any? (hit s j z) (take k v)) (hit s j z (getD v k 0)) (inLine row i j)));
     }
-      where
-        spread : (a b c : Bool) → ((a && c) || (b && c)) ≡ ((a || b) && c)
-        spread true true true = refl
-        spread true true false = refl
-        spread true false true = refl
-        spread true false false = refl
-        spread false b c = refl
 
     pub run-end : length v ≤ k → Joined w bits₀ bits (λ i j. any? (hit s j (idR false s y)) v && inLine row i j)
     run-end h = joined-to (λ i j. rw (take-all k v h)) (x .joined)
@@ -453,7 +442,7 @@ module _ (s : Bytes) (y h : ℕ) (slots t v : List ℕ) (e : h ≡ hashAll (idR 
 
     pub id-unseen : {b : Bool} → b ≡ marked t h → b ≡ false → Linked w s slots t v bits bits′ (λ own i j. own j (idR false s y) && inLine row i j)
     id-unseen q n = record {
-      by = λ own x. joined-to (λ i j. ap (λ (z : Bool). z && inLine row i j) (slot-bits j ∙ sym (slot-only x j) ∙ or-no (any? (hit s j (idR false s y)) slots) ∙ ap (λ (z : Bool). any? (hit s j (idR false s y)) slots || z) (sym (unmarked x (sym q ∙ n) j)) ∙ x .has j (idR false s y))) g;
+      by = λ own x. joined-to (λ i j. ap (λ (z : Bool). z && inLine row i j) (slot-bits j ∙ sym (slot-only x j) ∙ sym (or-no (any? (hit s j (idR false s y)) slots)) ∙ ap (λ (z : Bool). any? (hit s j (idR false s y)) slots || z) (sym (unmarked x (sym q ∙ n) j)) ∙ x .has j (idR false s y))) g;
     }
 
     pub id-seen : {bits″ : List ℕ} → Joined w bits′ bits″ (λ i j. any? (hit s j (idR false s y)) v && inLine row i j) → Linked w s slots t v bits bits″ (λ own i j. own j (idR false s y) && inLine row i j)
@@ -461,13 +450,6 @@ module _ (s : Bytes) (y h : ℕ) (slots t v : List ℕ) (e : h ≡ hashAll (idR 
       by = λ own x. joined-then g k (λ i j. ap (λ (z : Bool). (z && inLine row i j) || (any? (hit s j (idR false s y)) v && inLine row i j)) (slot-bits j ∙ sym (slot-only x j))
           ∙ spread (any? (hit s j (idR false s y)) slots) (any? (hit s j (idR false s y)) v) (inLine row i j) ∙ ap (λ (z : Bool). z && inLine row i j) (x .has j (idR false s y)));
     }
-      where
-        spread : (a b c : Bool) → ((a && c) || (b && c)) ≡ ((a || b) && c)
-        spread true true true = refl
-        spread true true false = refl
-        spread true false true = refl
-        spread true false false = refl
-        spread false b c = refl
 
 -- ---- the outputs of a record: those before i have their bits
 pub record Linking (w row : ℕ) (s b : Bytes) (c at : ℕ) (slots t v bits₀ : List ℕ) (i left : ℕ) (bits : List ℕ) : Type 0 where
@@ -489,25 +471,14 @@ module _ {w row : ℕ} {s b : Bytes} {c at : ℕ} {slots t v bits₀ : List ℕ}
       record {
         scan = on (x .scan) tt p u refl;
         done = λ f. x .done f || f y;
-        split = λ f. x .split f ∙ ap (λ (k : List Id). x .done f || any? f k) (u .list) ∙ ap (λ (k : Id). x .done f || (f k || any? f (listAt idC (left - 1) b next))) (u .is) ∙ regroup (x .done f) (f y) (any? f (listAt idC (left - 1) b next));
+        split = λ f. x .split f ∙ ap (λ (k : List Id). x .done f || any? f k) (u .list) ∙ ap (λ (k : Id). x .done f || (f k || any? f (listAt idC (left - 1) b next))) (u .is) ∙ sym (or-group (x .done f) (f y) (any? f (listAt idC (left - 1) b next)));
         size = n ∙ x .size;
         by = λ own o. joined-then (x .by own o) (g .by own o) (λ i j. ap (λ (k : Id). (x .done (own j) && inLine row i j) || (own j k && inLine row i j)) q ∙ spread (x .done (own j)) (own j y) (inLine row i j));
       }
-    where
-      regroup : (a b c : Bool) → (a || (b || c)) ≡ ((a || b) || c)
-      regroup true b c = refl
-      regroup false b c = refl
-
-      spread : (a b c : Bool) → ((a && c) || (b && c)) ≡ ((a || b) && c)
-      spread true true true = refl
-      spread true true false = refl
-      spread true false true = refl
-      spread true false false = refl
-      spread false b c = refl
 
   pub linking-end : left ≡ 0 → Linked w s slots t v bits₀ bits (λ own i j. any? (own j) (listAt idC c b at) && inLine row i j)
   linking-end e = record {
-    by = λ own o. joined-to (λ i j. ap (λ (q : Bool). q && inLine row i j) (or-no (x .done (own j)) ∙ sym (x .split (own j) ∙ ap (λ (k : List Id). x .done (own j) || any? (own j) k) (none-left idC b left _ e .0)))) (x .by own o);
+    by = λ own o. joined-to (λ i j. ap (λ (q : Bool). q && inLine row i j) (sym (or-no (x .done (own j))) ∙ sym (x .split (own j) ∙ ap (λ (k : List Id). x .done (own j) || any? (own j) k) (none-left idC b left _ e .0)))) (x .by own o);
   }
 
 -- ---- the outputs of all rows: those before i have their bits
@@ -532,7 +503,7 @@ lines-go {w} i s at {ids} e x y = record {
         let n : eqb j i ≡ eqb j k = rw q in
         rw (t, z, n, le-ltb k i (omega arith), lt-ltb k (i + 1) (omega arith)))
         (λ t. let q = eqb-false k i t in
-        rw (t, upto q, off (any? (own j) ids) (not (eqb j i))) (sym (or-no (ltb k (i + 1) && (any? (own j) (outsAt s at k) && not (eqb j k))))))
+        rw (t, upto q, off (any? (own j) ids) (not (eqb j i))) ((or-no (ltb k (i + 1) && (any? (own j) (outsAt s at k) && not (eqb j k))))))
       where
         off : (a b : Bool) → (a && (false && b)) ≡ false
         off true b = refl
@@ -592,5 +563,5 @@ blocks-go {w} a b s at h x o y = joined-then x (y .by (wantedIn s at a b) o) (λ
 
     both : (j : ℕ) (c : Bool) → ((ltb j a && c) || ((leb a j && ltb j b) && c)) ≡ (ltb j b && c)
     both j c = cases (ltb j a)
-        (λ t. let k = ltb-true j a t in rw (t, lt-leb a j k, lt-ltb j b (omega arith)) (sym (or-no c)))
+        (λ t. let k = ltb-true j a t in rw (t, lt-leb a j k, lt-ltb j b (omega arith)) ((or-no c)))
         (λ t. let k = ltb-false j a t in rw (t, le-leb a j k))

@@ -1,38 +1,40 @@
 -- The counters' loops, and that the list they make is the parents-first order. Assumes nothing.
 use mathlib.Core.Path.{_≡_, refl, ap, sym, _∙_, subst}
 use mathlib.Core.Bool.{Bool, true, false, cond, not, _&&_, _||_}
-use mathlib.Core.Option.{Option, none, some}
+use mathlib.Core.Option.{some}
 use mathlib.Core.List.{List, [], _∷_, _++_, append-assoc, append-nil}
 use Prim.Native.Nat.{ℕ, zero, suc, _+_, _-_, _*_, _/_, _%_, _^_, _≤_, _<_}
 use native.Mathlib.Omega.{arith}
 use native.Mathlib.Numerals.{add-one}
 use native.Mathlib.Nat.{pow-suc, suc-mul, zero-mul, mul-le-mul-right, mul-comm, le-of-suc-le-suc, div-lt-iff-lt-mul}
-use lib.Dec.{ltb, leb, eqb}
-use lib.ListN.{length, take, drop, getD, set, replicate, length-set, length-take, length-append, length-replicate, getD-replicate, take-append-drop}
+use lib.Dec.{ltb, eqb}
+use lib.ListN.{length, take, drop, getD, set, replicate, length-set, length-append, length-replicate, getD-replicate, take-append-drop}
 use lib.Seq.{getD-set-same, getD-set-other, set-out, set-getD, take-suc-set, ext-getD, length-take-le}
-use borrow.Author.Tests.{eqb-true, eqb-false, eq-eqb, ne-eqb, ltb-true, ltb-false, lt-ltb, le-ltb, leb-true, leb-false, le-leb, lt-leb, not-true, not-false}
+use borrow.Author.Tests.{eqb-true, eqb-false, eq-eqb, ne-eqb, ltb-true, ltb-false, lt-ltb, le-ltb, not-true, not-false}
 use Rattle.queue.specs.Codec as codec
 use Rattle.queue.specs.Codec.{All, cases}
-use Rattle.queue.specs.Lists.{Pairwise, and-true, and-both, all-map, sub-all, sub-pairwise}
-use Rattle.queue.specs.Order.{same-is, same-self, same-sym, below-not-same, or-true, or-false}
+use Rattle.queue.specs.Lists.{Pairwise, and-true, all-map, sub-all}
+use Rattle.queue.specs.ListLaws.{filter-sub, sort-apart}
+use Rattle.queue.specs.parents.Laws.{option-cases}
+use Rattle.queue.specs.Order.{same-self, same-sym, below-not-same, or-true}
 use Rattle.queue.specs.ReadLaws.{false-true}
 use Rattle.queue.specs.Splice.{Put, be}
-use Rattle.queue.specs.Sounds.{Before, InRange, Right, sound-of}
+use Rattle.queue.specs.Sounds.{Before, InRange, sound-of}
 use Rattle.queue.specs.Forms.{queueC}
 use Rattle.queue.specs.Opens.{AreaAs, AreaIs}
-use Rattle.queue.specs.Areas.{layout, readArea, Stands, stands-reads, reads-stands}
+use Rattle.queue.specs.Areas.{layout, readArea, stands-reads, reads-stands}
 use Rattle.queue.specs.Checked.{Written, written}
-use Rattle.queue.specs.SelectAs.{Row, rows, Even, Table, ahead?, idAt, RowIs, RowsAs, chosen, Gathered}
+use Rattle.queue.specs.SelectAs.{Row, rows, Table, ahead?, idAt, RowsAs, chosen, Gathered}
 use Rattle.queue.specs.fees.Told.{noRec, recAt, recOf, Known}
 use Rattle.queue.specs.fees.Laws as laws
 use Rattle.queue.specs.parents.Counters.{firstOne, raise, lower, counted, picks, start, byCounters, Kids, rowsAt}
 use Rattle.queue.specs.parents.CounterLaws.{lower-length, raise-length, counted-length, by-counters}
 use Rattle.queue.specs.parents.Links.{wantsAt, outsAt, Modest, Short, Named, bitL, bitAt, Joined, Zero, outputsLinked, ones, wordOnes, kidsOf, Few, Clear, Lowered}
 use Rattle.queue.specs.paper.Records.{Bytes, Id, Rec, Queue}
-use Rattle.queue.specs.paper.Lists.{maybe, any?, filter, insert, sort, map, concat}
-use Rattle.queue.specs.paper.Ids.{same?, below?}
-use Rattle.queue.specs.paper.Sound.{inputs, outputs, among?, need}
-use Rattle.queue.specs.paper.Reading.{first?, selected?, selectedAt}
+use Rattle.queue.specs.paper.Lists.{any?, sort, map, concat}
+use Rattle.queue.specs.paper.Ids.{same?}
+use Rattle.queue.specs.paper.Sound.{among?, need}
+use Rattle.queue.specs.paper.Reading.{first?, selected?}
 use Rattle.queue.specs.paper.Calls.{idsBytes, toldOut, readOf}
 use Rattle.queue.specs.paper.Parents.{waitsFor?, parentsFirst, parentsFirstOf}
 use Rattle.queue.specs.declared.Kind.the-variants.{Nothing}
@@ -549,20 +551,6 @@ zero-array n = record { all = go n }
     go (suc n) (suc i) = go n i
 
 -- ---- the rows in order
-insert-pairwise : {A : Type 0} (R : A → A → Type 0) → ((a b : A) → R a b → R b a) → (lt : A → A → Bool) (x : A) (l : List A) → All (R x) l → Pairwise R l → Pairwise R (insert lt x l)
-insert-pairwise R f lt x [] h p = (tt, tt)
-insert-pairwise R f lt x (a ∷ l) h p = cases (lt x a)
-    (λ t. rw t (h, p))
-    (λ t. rw t (insert-all x l (f x a (h .0)) (p .0), insert-pairwise R f lt x l (h .1) (p .1)))
-  where
-    insert-all : (x : _) (l : List _) → R a x → All (R a) l → All (R a) (insert lt x l)
-    insert-all x [] q h = (q, tt)
-    insert-all x (b ∷ l) q h = cases (lt x b) (λ t. rw t (q, h)) (λ t. rw t (h .0, insert-all x l q (h .1)))
-
-sort-pairwise : {A : Type 0} (R : A → A → Type 0) → ((a b : A) → R a b → R b a) → (lt : A → A → Bool) (l : List A) → Pairwise R l → Pairwise R (sort lt l)
-sort-pairwise R f lt [] p = tt
-sort-pairwise R f lt (a ∷ l) p = insert-pairwise R f lt a (sort lt l) (sort-all lt (R a) l (p .0)) (sort-pairwise R f lt l (p .1))
-
 module _ (s : Bytes) where
   abbrev placeOf : Row → ℕ
   placeOf w = w .1 .1
@@ -590,7 +578,7 @@ module _ (s : Bytes) where
   named-sort z n = record {
     known = all-from (Known s) (sort ahead? z) (sort-all ahead? (λ w. Known s (placeOf w)) z (all-to (Known s) z (n .known)));
     short = all-from (Short s) (sort ahead? z) (sort-all ahead? (λ w. Short s (placeOf w)) z (all-to (Short s) z (n .short)));
-    apart = pair-from (sort ahead? z) (sort-pairwise (λ v w. Differ (placeOf v) (placeOf w)) (λ v w d. same-sym (recAt s (placeOf w) .id) (recAt s (placeOf v) .id) ∙ d) ahead? z (pair-to z (n .apart)));
+    apart = pair-from (sort ahead? z) (sort-apart ahead? (λ v w. Differ (placeOf v) (placeOf w)) (λ v w d. same-sym (recAt s (placeOf w) .id) (recAt s (placeOf v) .id) ∙ d) z (pair-to z (n .apart)));
   }
 
 module _ (s : Bytes) {m : ℕ} (a b c : List ℕ) {a′ b′ c′ : List ℕ} (named : Named s (map (λ w. w .1 .1) (rows a b c))) (t : Table m a′ b′ c′ (sort ahead? (rows a b c))) where
@@ -637,15 +625,11 @@ gathered-listed {s} {l} {room} {m} {a} {b} {c} out g h e =
     ∙ ap (λ (k : List Rec). toldOut (idsBytes (map (λ (r : Rec). r .id) (parentsFirst waitsFor? k))) out) (rows-recs s (sort ahead? (take m (rows a b c))) (sort first? l) (sort-rows s (take m (rows a b c)) l (g .listed) h))
 
 -- ---- the call
-filter-all : {A : Type 0} (P : A → Type 0) (p : A → Bool) (l : List A) → All P l → All P (filter p l)
-filter-all P p [] h = tt
-filter-all P p (a ∷ l) h = let i = filter-all P p l (h .1) in cases (p a) (λ t. rw t (h .0, i)) (λ t. rw t i)
-
 module _ {s : Bytes} {x : Area} (now height : ℕ) {q : Queue} (a : AreaAs s x q) where
   pub chosen-modest : All Modest (chosen now height s (x .open .head .count) (x .open .start))
   chosen-modest =
       let u = sound-of q (a .sound) in
-      rw (chosen-is now height a) (filter-all Modest (selected? now height) (q .recs) (all-map (q .recs) (λ r h. let k = h .ins in let m = u .range .K-high in omega arith) (u .right)))
+      rw (chosen-is now height a) (sub-all Modest (filter-sub (selected? now height) (q .recs)) (all-map (q .recs) (λ r h. let k = h .ins in let m = u .range .K-high in omega arith) (u .right)))
 
   pub parents-100 : (out : Bytes) {w : Written} → readArea s ≡ some q → w ≡ toldOut (idsBytes (map (λ (r : Rec). r .id) (parentsFirst waitsFor? (sort first? (chosen now height s (x .open .head .count) (x .open .start)))))) out
       → w ≡ parentsFirstOf s now height out
@@ -675,10 +659,6 @@ take-over zero (x ∷ a) b h = absurd (let z : ⊥ = omega arith in z)
 take-over (suc n) (x ∷ a) b h =
     let e : suc n - suc (length a) ≡ n - length a = omega arith in
     rw e (ap (λ (l : Bytes). x ∷ l) (take-over n a b (le-of-suc-le-suc h)))
-
-option-cases : {A X : Type 0} (o : Option A) → (o ≡ none → X) → ((a : A) → o ≡ some a → X) → X
-option-cases none f g = f refl
-option-cases (some a) f g = g a refl
 
 pub long-reads : (s : Bytes) (n : ℕ) → 51905024 ≤ n → readArea (take n s) ≡ readArea s
 long-reads s n h = option-cases (readArea s)

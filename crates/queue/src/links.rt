@@ -16,6 +16,9 @@ use super::suspects::cmp_rows;
 use super::suspects::in_order;
 use super::suspects::order_rows;
 use super::suspects::row_at;
+use super::view::id_at;
+use super::view::same_id;
+use super::view::size;
 ghost use mathlib.Core.Path.{_≡_};
 ghost use mathlib.Core.Bool.{true, false, _&&_};
 ghost use Prim.Native.Nat.{suc, _+_, _*_, _≤_, _<_};
@@ -127,14 +130,24 @@ fn keep_rows(
     Block { next: b, len: k }
 }
 
-// Has the row x a number, and the id of y?
+// Has the row x a number, and the id of y? Two ids are compared without an early way out; rows too near the end have none.
 fn meets(s: &[u8], y: u64, x: u64) -> bool
     ensures { λ r. ⌜ r ≡ later false (now (s .entry)) (idR false (now (s .entry)) y) 0 x ⌝ }
 {
     if x % 4294967296 == 0 {
         return false;
     }
-    cmp_rows(s, false, y, x) == 1
+    let p = (y / 4294967296) as usize;
+    let q = (x / 4294967296) as usize;
+    if size(s, false, p) < 32 {
+        return cmp_rows(s, false, y, x) == 1;
+    }
+    if size(s, false, q) < 32 {
+        return cmp_rows(s, false, y, x) == 1;
+    }
+    let a = id_at(s, false, p, 0);
+    let b = id_at(s, false, q, 0);
+    same_id(a, b)
 }
 
 // The bit of the record that the row x is for, in a line that is not its own.

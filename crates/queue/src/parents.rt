@@ -8,27 +8,25 @@ use super::frame::Height;
 use super::frame::Time;
 use super::links::links;
 use super::logic::both;
-use super::own::count_inputs;
 use super::put::put_be;
 use super::select::gather;
 use super::select::order;
 use super::select::put_ids;
 ghost use mathlib.Core.Path.{_≡_};
 ghost use mathlib.Core.Bool.{true, false, cond};
-ghost use Prim.Native.Nat.{ℕ, _+_, _-_, _*_, _≤_, _<_};
+ghost use Prim.Native.Nat.{_+_, _-_, _*_, _≤_, _<_};
 ghost use lib.ListN.{length, take, getD, set, replicate};
 ghost use Rattle.queue.specs.Codec.{All};
 ghost use Rattle.queue.specs.Frames.{recC};
 ghost use Rattle.queue.specs.Forms.{formC};
-ghost use Rattle.queue.specs.Reads.{whole, listAt};
+ghost use Rattle.queue.specs.Reads.{whole};
 ghost use Rattle.queue.specs.Lists.{Pairwise};
 ghost use Rattle.queue.specs.Sounds.{Before};
 ghost use Rattle.queue.specs.Checked.{written};
 ghost use Rattle.queue.specs.SelectAs.{rows, Even, ahead?, idAt, chosen};
-ghost use Rattle.queue.specs.fees.Told.{Known, recAt, recOf};
+ghost use Rattle.queue.specs.fees.Told.{recAt, recOf};
 ghost use Rattle.queue.specs.parents.Counters.{firstOne, raise, lower, counted, picks, byCounters};
 ghost use Rattle.queue.specs.parents.Links.{Zero, Few, Clear, Lowered, ones, wordOnes, kidsOf, Named, Modest};
-ghost use Rattle.queue.specs.paper.Records.{Rec};
 ghost use Rattle.queue.specs.paper.Lists.{map, sort};
 ghost use Rattle.queue.specs.paper.Reading.{first?};
 ghost use Rattle.queue.specs.paper.Calls.{toldOut, idsBytes};
@@ -266,6 +264,30 @@ fn parents_few(s: &[u8], at: &[usize], cs: &mut [u64], w: usize, out: &mut [u8])
     )
 }
 
+// With room for as many as there are without rollbacks.
+fn parents_some(s: &[u8], at: &[usize], cs: &mut [u64], w: usize, out: &mut [u8]) -> Answer
+    requires { ⌜ Named (now s) (now at) × (length (now s) < 4294967296) × (length (now at) ≡ length (now cs)) × (length (now at) ≤ 64 * w) × (w ≤ 16) ⌝ }
+    ensures { λ r. ⌜ written r (now (out .exit)) ≡ toldOut (idsBytes (map (λ r. r .id) (parentsFirst waitsFor? (map (recAt (now (s .entry))) (now (at .entry)))))) (now (out .entry)) ⌝ }
+{
+    let mut slots = [0u64; 8192];
+    let mut t = [0u64; 1024];
+    let mut v = [0u64; 4096];
+    let mut bits = [0u64; 16384];
+    let mut picked = [0usize; 1024];
+    parents_with(
+        s,
+        at,
+        cs,
+        &mut slots,
+        &mut t,
+        &mut v,
+        &mut bits,
+        w,
+        &mut picked,
+        out,
+    )
+}
+
 // With room for all.
 fn parents_many(s: &[u8], at: &[usize], cs: &mut [u64], w: usize, out: &mut [u8]) -> Answer
     requires { ⌜ Named (now s) (now at) × (length (now s) < 4294967296) × (length (now at) ≡ length (now cs)) × (length (now at) ≤ 64 * w) × (w ≤ 32) ⌝ }
@@ -291,20 +313,26 @@ fn parents_many(s: &[u8], at: &[usize], cs: &mut [u64], w: usize, out: &mut [u8]
 }
 
 // With tables as large as the rows ask for. Each function with tables is called at two places that differ in a number, so that the compiler
-// takes neither of them in here together with its tables.
-fn parents_sized(s: &[u8], at: &[usize], cs: &mut [u64], small: bool, out: &mut [u8]) -> Answer
-    requires { ⌜ Named (now s) (now at) × (length (now s) < 4294967296) × (length (now at) ≡ length (now cs)) × (length (now at) ≤ 2048) × (small ≡ true → length (now at) ≤ 512) ⌝ }
+// takes none of them in here together with its tables.
+fn parents_sized(s: &[u8], at: &[usize], cs: &mut [u64], out: &mut [u8]) -> Answer
+    requires { ⌜ Named (now s) (now at) × (length (now s) < 4294967296) × (length (now at) ≡ length (now cs)) × (length (now at) ≤ 2048) ⌝ }
     ensures { λ r. ⌜ written r (now (out .exit)) ≡ toldOut (idsBytes (map (λ r. r .id) (parentsFirst waitsFor? (map (recAt (now (s .entry))) (now (at .entry)))))) (now (out .entry)) ⌝ }
 {
     let n = at.len();
-    if small {
-        if n <= 256 {
-            return parents_few(s, at, cs, 4, out);
-        }
+    if n <= 256 {
+        return parents_few(s, at, cs, 4, out);
+    }
+    if n <= 512 {
         return parents_few(s, at, cs, 8, out);
     }
+    if n <= 768 {
+        return parents_some(s, at, cs, 12, out);
+    }
     if n <= 1024 {
-        return parents_many(s, at, cs, 16, out);
+        return parents_some(s, at, cs, 16, out);
+    }
+    if n <= 1536 {
+        return parents_many(s, at, cs, 24, out);
     }
     parents_many(s, at, cs, 32, out)
 }
@@ -315,25 +343,13 @@ fn parents_rows(
     ranks: &mut [u64],
     times: &mut [u64],
     at: &mut [usize],
-    small: bool,
     out: &mut [u8],
 ) -> Answer
-    requires { ⌜ Even (length (now ranks)) (now ranks) (now times) (now at) × (length (now ranks) ≤ 2048) × (small ≡ true → length (now ranks) ≤ 512) × (length (now s) < 4294967296) × Named (now s) (map (λ w. w .1 .1) (rows (now ranks) (now times) (now at))) ⌝ }
+    requires { ⌜ Even (length (now ranks)) (now ranks) (now times) (now at) × (length (now ranks) ≤ 2048) × (length (now s) < 4294967296) × Named (now s) (map (λ w. w .1 .1) (rows (now ranks) (now times) (now at))) ⌝ }
     ensures { λ r. ⌜ written r (now (out .exit)) ≡ toldOut (idsBytes (map (λ r. r .id) (parentsFirst waitsFor? (map (recOf (now (s .entry))) (sort ahead? (rows (now (ranks .entry)) (now (times .entry)) (now (at .entry)))))))) (now (out .entry)) ⌝ }
 {
     order(ranks, times, at);
-    parents_sized(s, at, ranks, small, out)
-}
-
-// Are the rows few, and few the inputs of the n records at `at`?
-fn is_small(s: &[u8], at: usize, n: u64, rows: usize) -> bool
-    requires { ⌜ (at ≤ length (now s)) × (whole (formC false recC) n (now s) at ≡ true) × (n < 4294967296) ⌝ }
-    ensures { λ r. ⌜ (r ≡ true → rows ≤ 512) ⌝ }
-{
-    if 512 < rows {
-        return false;
-    }
-    count_inputs(s, at, n) <= 8192
+    parents_sized(s, at, ranks, out)
 }
 
 fn parents_select(
@@ -347,19 +363,11 @@ fn parents_select(
     places: &mut [usize],
     out: &mut [u8],
 ) -> Answer
-    requires { ⌜ (at ≤ length (now s)) × (whole (formC false recC) n (now s) at ≡ true) × Even 2048 (now ranks) (now times) (now places) × (length (chosen (time .0) (height .0) (now s) n at) ≤ 2048) × Pairwise Before (chosen (time .0) (height .0) (now s) n at) × All Modest (chosen (time .0) (height .0) (now s) n at) × (length (now s) < 4294967296) × (n < 4294967296) ⌝ }
+    requires { ⌜ (at ≤ length (now s)) × (whole (formC false recC) n (now s) at ≡ true) × Even 2048 (now ranks) (now times) (now places) × (length (chosen (time .0) (height .0) (now s) n at) ≤ 2048) × Pairwise Before (chosen (time .0) (height .0) (now s) n at) × All Modest (chosen (time .0) (height .0) (now s) n at) × (length (now s) < 4294967296) ⌝ }
     ensures { λ r. ⌜ written r (now (out .exit)) ≡ toldOut (idsBytes (map (λ r. r .id) (parentsFirst waitsFor? (sort first? (chosen (time .0) (height .0) (now (s .entry)) n at))))) (now (out .entry)) ⌝ }
 {
     let m = gather(s, at, n, time, height, ranks, times, places);
-    let small = is_small(s, at, n, m);
-    parents_rows(
-        s,
-        &mut ranks[..m],
-        &mut times[..m],
-        &mut places[..m],
-        small,
-        out,
-    )
+    parents_rows(s, &mut ranks[..m], &mut times[..m], &mut places[..m], out)
 }
 
 // In an area that is not longer than a place can say.

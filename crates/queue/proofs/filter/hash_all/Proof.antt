@@ -1,7 +1,5 @@
 -- Filled from its answers by tools/proofkit.py: change those, and fill it again.
-use mathlib.Core.Path.{_≡_, refl, sym, ap, _∙_}
 use native.Mathlib.Omega.{arith}
-use Rattle.queue.specs.View.{view}
 use Rattle.queue.specs.parents.Links.{hashAll}
 use Rattle.queue.proofs.FilterLaws.{id-room}
 use borrow.Author.Needs.{needs}

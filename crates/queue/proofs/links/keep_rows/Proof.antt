@@ -1,9 +1,8 @@
 -- Filled from its answers by tools/proofkit.py: change those, and fill it again.
-use mathlib.Core.Path.{_≡_, refl, sym, ap, _∙_}
+use mathlib.Core.Path.{_≡_, refl, _∙_}
 use native.Mathlib.Omega.{arith}
-use mathlib.Core.Bool.{Bool, true, false, _&&_, _||_}
-use Prim.Native.Nat.{ℕ, _≤_, _+_, _-_, _*_, _/_, _%_, _<_}
-use lib.ListN.{length, take, drop, getD, set}
+use Prim.Native.Nat.{_≤_, _-_}
+use lib.ListN.{length, take}
 use Rattle.queue.specs.parents.Links.{Held}
 use Rattle.queue.proofs.LinkLaws.{wantedIn, records-start, records-go, ins-here, ins-are, ins-few, grew}
 use borrow.Author.Needs.{needs}

@@ -1,10 +1,9 @@
 -- Filled from its answers by tools/proofkit.py: change those, and fill it again.
-use mathlib.Core.Path.{_≡_, refl, sym, ap, _∙_}
+use mathlib.Core.Path.{ap}
 use native.Mathlib.Omega.{arith}
-use mathlib.Core.Bool.{Bool, true, false, _&&_, _||_}
-use Prim.Native.Nat.{ℕ, _≤_, _+_, _-_, _*_, _/_, _%_, _<_}
-use lib.ListN.{length, take, drop, getD, set}
-use borrow.Author.Tests.{not-true, not-false}
+use Prim.Native.Nat.{ℕ, _-_}
+use lib.ListN.{getD}
+use borrow.Author.Tests.{not-true}
 use Rattle.queue.proofs.LinkLaws.{id-unseen, id-seen}
 use borrow.Author.Needs.{needs}
 use Rattle.queue.proofs.links.link_id.Statement.{statement}

@@ -1,11 +1,10 @@
 -- Filled from its answers by tools/proofkit.py: change those, and fill it again.
-use mathlib.Core.Path.{_≡_, refl, sym, ap, _∙_}
+use mathlib.Core.Path.{_≡_, refl}
 use native.Mathlib.Omega.{arith}
-use mathlib.Core.Bool.{Bool, true, false, _&&_, _||_}
-use Prim.Native.Nat.{ℕ, _≤_, _+_, _-_, _*_, _/_, _%_, _<_}
-use lib.ListN.{length, take, drop, getD, set}
-use Rattle.queue.specs.parents.Counters.{raise, lower}
-use Rattle.queue.specs.parents.Links.{Clear, Lowered}
+use Prim.Native.Nat.{_-_}
+use lib.ListN.{length}
+use Rattle.queue.specs.parents.Counters.{lower}
+use Rattle.queue.specs.parents.Links.{Clear}
 use Rattle.queue.proofs.ParentLaws.{down, lower-nil, lower-cons, Words, words-start, words-go, words-end}
 use borrow.Author.Needs.{needs}
 use Rattle.queue.proofs.parents.lower_line.Statement.{statement}

@@ -1,9 +1,7 @@
 -- Filled from its answers by tools/proofkit.py: change those, and fill it again.
-use mathlib.Core.Path.{_≡_, refl, sym, ap, _∙_}
+use mathlib.Core.Path.{refl}
 use native.Mathlib.Omega.{arith}
-use mathlib.Core.Bool.{Bool, true, false, _&&_, _||_}
-use Prim.Native.Nat.{ℕ, _≤_, _+_, _-_, _*_, _/_, _%_, _<_}
-use lib.ListN.{length, take, drop, getD, set}
+use Prim.Native.Nat.{_-_}
 use borrow.Author.Tests.{not-true, not-false}
 use Rattle.queue.proofs.SelectLaws.{chosen-few, chosen-rising}
 use Rattle.queue.proofs.ParentLaws.{chosen-modest, parents-3, parents-100}
@@ -31,7 +29,7 @@ slice-aggregate-parents-select-3 : tie.Need-slice-aggregate-parents-select-3
 slice-aggregate-parents-select-3 c = search needs
 
 parents-select-requires : tie.Need-parents-select-requires
-parents-select-requires c κs = let u = c .before .before .before .before .before .before .before .before .area-at .ensures .good (not-false _ (c .before .before .before .before .before .before .if1 .left)) in (omega (arith, u .2 .store .up, u .2 .store .ends), u .2 .store .all, record { ranks = refl; times = refl; places = refl }, chosen-few (c .before .before .before .before .before .before .before .before .before .before .before .args .time .0) (c .before .before .before .before .before .before .before .before .before .before .before .args .height .0) (u .2), chosen-rising (c .before .before .before .before .before .before .before .before .before .before .before .args .time .0) (c .before .before .before .before .before .before .before .before .before .before .before .args .height .0) (u .2), chosen-modest (c .before .before .before .before .before .before .before .before .before .before .before .args .time .0) (c .before .before .before .before .before .before .before .before .before .before .before .args .height .0) (u .2), c .before .before .before .before .before .before .before .before .before .before .before .pre, u .2 .store .head .countSmall)
+parents-select-requires c κs = let u = c .before .before .before .before .before .before .before .before .area-at .ensures .good (not-false _ (c .before .before .before .before .before .before .if1 .left)) in (omega (arith, u .2 .store .up, u .2 .store .ends), u .2 .store .all, record { ranks = refl; times = refl; places = refl }, chosen-few (c .before .before .before .before .before .before .before .before .before .before .before .args .time .0) (c .before .before .before .before .before .before .before .before .before .before .before .args .height .0) (u .2), chosen-rising (c .before .before .before .before .before .before .before .before .before .before .before .args .time .0) (c .before .before .before .before .before .before .before .before .before .before .before .args .height .0) (u .2), chosen-modest (c .before .before .before .before .before .before .before .before .before .before .before .args .time .0) (c .before .before .before .before .before .before .before .before .before .before .before .args .height .0) (u .2), c .before .before .before .before .before .before .before .before .before .before .before .pre)
 
 same-length : tie.Need-same-length
 same-length c = search needs

@@ -1,9 +1,5 @@
 -- Filled from its answers by tools/proofkit.py: change those, and fill it again.
-use mathlib.Core.Path.{_≡_, refl, sym, ap, _∙_}
-use native.Mathlib.Omega.{arith}
-use mathlib.Core.Bool.{Bool, true, false, _&&_, _||_}
-use Prim.Native.Nat.{ℕ, _≤_, _+_, _-_, _*_, _/_, _%_, _<_}
-use lib.ListN.{length, take, drop, getD, set}
+use Prim.Native.Nat.{_-_}
 use Rattle.queue.proofs.ParentLaws.{raise-off, raise-out, raise-in}
 use borrow.Author.Needs.{needs}
 use Rattle.queue.proofs.parents.raise_if.Statement.{statement}

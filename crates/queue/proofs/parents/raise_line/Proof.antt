@@ -1,10 +1,9 @@
 -- Filled from its answers by tools/proofkit.py: change those, and fill it again.
-use mathlib.Core.Path.{_≡_, refl, sym, ap, _∙_}
+use mathlib.Core.Path.{_≡_, refl}
 use native.Mathlib.Omega.{arith}
-use mathlib.Core.Bool.{Bool, true, false, _&&_, _||_}
-use Prim.Native.Nat.{ℕ, _≤_, _+_, _-_, _*_, _/_, _%_, _<_}
-use lib.ListN.{length, take, drop, getD, set}
-use Rattle.queue.specs.parents.Counters.{raise, lower}
+use Prim.Native.Nat.{_+_, _-_}
+use lib.ListN.{length}
+use Rattle.queue.specs.parents.Counters.{raise}
 use Rattle.queue.specs.parents.Links.{Few}
 use Rattle.queue.proofs.ParentLaws.{up, raise-nil, raise-cons, Words, words-start, words-go, words-end, few-to}
 use borrow.Author.Needs.{needs}

@@ -1,11 +1,10 @@
 -- Filled from its answers by tools/proofkit.py: change those, and fill it again.
-use mathlib.Core.Path.{_≡_, refl, sym, ap, _∙_}
+use mathlib.Core.Path.{_≡_, refl}
 use native.Mathlib.Omega.{arith}
-use mathlib.Core.Bool.{Bool, true, false, _&&_, _||_}
-use Prim.Native.Nat.{ℕ, _≤_, _+_, _-_, _*_, _/_, _%_, _<_}
-use lib.ListN.{length, take, drop, getD, set}
+use Prim.Native.Nat.{_+_, _-_, _%_}
+use lib.ListN.{length}
 use lib.Dec.{eqb}
-use Rattle.queue.specs.parents.Counters.{raise, lower}
+use Rattle.queue.specs.parents.Counters.{raise}
 use Rattle.queue.specs.parents.Links.{Few}
 use Rattle.queue.proofs.ParentLaws.{up, raise-nil, raise-cons, Sweep, sweep-start, sweep-room, sweep-go, sweep-end, few-more, few-to}
 use borrow.Author.Needs.{needs}
