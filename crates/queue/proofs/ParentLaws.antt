@@ -46,7 +46,7 @@ use Rattle.queue.proofs.ReadingLaws.{told-4, told-100}
 use Rattle.queue.proofs.SelectLaws.{rows-take, rows-places, sort-all, sort-rows, ids-size, chosen-is}
 use Rattle.queue.proofs.FeeLaws.{getD-map, known-at, places-known, map-recs, rows-recs, gathered-known}
 use Rattle.queue.proofs.OpenLaws.{product}
-use Rattle.queue.proofs.BitLaws.{kids-any, line-in}
+use Rattle.queue.proofs.BitLaws.{kids-any, line-in, lines-room}
 use Rattle.queue.proofs.LinkLaws.{any-same}
 
 -- ---- ones
@@ -375,20 +375,8 @@ module _ {at bits : List ℕ} {w : ℕ} {cs₀ : List ℕ} {len : ℕ} {cs picke
           same = rw (p, d .is, add-one m, take-suc-set picked m (getD at i 0) (omega (arith, v .room)), append-assoc, ← (add-one m)) y;
         }
 
-pub ones-size : (cs₀ : List ℕ) {cs : List ℕ} → cs ≡ replicate (length cs₀) 1 → length cs ≡ length cs₀
+ones-size : (cs₀ : List ℕ) {cs : List ℕ} → cs ≡ replicate (length cs₀) 1 → length cs ≡ length cs₀
 ones-size cs₀ e = ap length e ∙ length-replicate (length cs₀) 1
-
-pub counted-size : (bits : List ℕ) (w : ℕ) (cs₀ : List ℕ) {cs₁ cs₂ : List ℕ} → cs₁ ≡ replicate (length cs₀) 1 → cs₂ ≡ counted (kidsOf bits w) 0 (length cs₁) cs₁ → length cs₂ ≡ length cs₀
-counted-size bits w cs₀ {cs₁} e f = ap length f ∙ counted-length (kidsOf bits w) 0 (length cs₁) cs₁ ∙ ones-size cs₀ e
-
-pub listed-all : (at bits : List ℕ) (w n : ℕ) (cs₀ : List ℕ) {cs₁ cs₂ l : List ℕ} → length cs₀ ≡ n → cs₁ ≡ replicate (length cs₀) 1 → cs₂ ≡ counted (kidsOf bits w) 0 (length cs₁) cs₁
-    → l ≡ map (placeAt at) (picks (kidsOf bits w) (length cs₂) cs₂) → l ≡ map (placeAt at) (byCounters (kidsOf bits w) n)
-listed-all at bits w n cs₀ {cs₁} {cs₂} {l} e a b c =
-    let x : cs₁ ≡ replicate n 1 = a ∙ rw e in
-    let k : length cs₁ ≡ n = ap length x ∙ length-replicate n 1 in
-    let y : cs₂ ≡ counted (kidsOf bits w) 0 n (replicate n 1) = b ∙ rw (k, x) in
-    let q : length cs₂ ≡ n = ap length y ∙ counted-length (kidsOf bits w) 0 n (replicate n 1) ∙ length-replicate n 1 in
-    c ∙ rw (q, y)
 
 -- ---- the answer's bytes
 module _ (s out : Bytes) (picked : List ℕ) (all : All (λ p. p + 33 ≤ length s) picked) where
@@ -524,6 +512,30 @@ module _ (s : Bytes) (at : List ℕ) (named : Named s at) where
     within-of [] h = tt
     within-of (i ∷ l) h = (known-at s at i (named .known) (h .0) .within, within-of l (h .1))
 
+    -- the counters after the rows were set to 1, and after they were counted
+    module _ (cs₀ : List ℕ) {cs₁ : List ℕ} (even : length at ≡ length cs₀) (few : length at ≤ 2048) (narrow : w ≤ 32) (ones : cs₁ ≡ replicate (length cs₀) 1) where
+      many-1 : length cs₁ ≡ length at
+      many-1 = ones-size cs₀ ones ∙ sym even
+
+      pub with-count : (length cs₁ * w ≤ length bits′) × (w ≤ 32) × (length cs₁ ≤ 2048) × Few 1 cs₁
+      with-count = (lines-room (length cs₁) (length at) w many-1 fits (x .size), narrow, omega (arith, many-1), few-ones (length cs₀) ones)
+
+      module _ {cs₂ : List ℕ} (sums : cs₂ ≡ counted (kidsOf bits′ w) 0 (length cs₁) cs₁) where
+        many-2 : length cs₂ ≡ length at
+        many-2 = ap length sums ∙ counted-length (kidsOf bits′ w) 0 (length cs₁) cs₁ ∙ many-1
+
+        pub with-list : (room : ℕ) → length at ≤ room → (length at ≡ length cs₂) × (length cs₂ * w ≤ length bits′) × (w ≤ 32) × (length cs₂ ≤ 2048) × (length cs₂ ≤ room)
+        with-list room h = (sym many-2, lines-room (length cs₂) (length at) w many-2 fits (x .size), narrow, omega (arith, many-2), omega (arith, many-2))
+
+        pub with-room : {r : ℕ} (room : ℕ) → r ≤ length cs₂ → length at ≤ room → r ≤ room
+        with-room room h k = omega (arith, many-2)
+
+        pub with-picked : {l : List ℕ} → l ≡ map (placeAt at) (picks (kidsOf bits′ w) (length cs₂) cs₂) → l ≡ map (placeAt at) (byCounters (kidsOf bits′ w) (length at))
+        with-picked e =
+            let a : cs₁ ≡ replicate (length at) 1 = ones ∙ ap (λ (n : ℕ). replicate n 1) (sym even) in
+            let b : cs₂ ≡ counted (kidsOf bits′ w) 0 (length at) (replicate (length at) 1) = sums ∙ rw (many-1, a) in
+            e ∙ rw (many-2, b)
+
     pub with-within : {l : List ℕ} → l ≡ map (placeAt at) (byCounters (kidsOf bits′ w) (length at)) → All (λ p. p + 33 ≤ length s) l
     with-within e = rw e (within-of (byCounters (kidsOf bits′ w) (length at)) below)
 
@@ -541,6 +553,9 @@ module _ (s : Bytes) (at : List ℕ) (named : Named s at) where
         → r ≡ toldOut (idsBytes (map (λ (r : Rec). r .id) (parentsFirst waitsFor? recs))) out
     with-told {l} out e f =
         f ∙ ap (λ (k : List Id). toldOut (idsBytes k) out) (ap (map (idAt s)) e ∙ ids-of (byCounters (kidsOf bits′ w) (length at)) below ∙ ap (map (λ (r : Rec). r .id)) order-is)
+
+pub fits-array : (n w m : ℕ) → n * w ≤ m → n * w ≤ length {A = ℕ} (replicate m 0)
+fits-array n w m h = let e = length-replicate {A = ℕ} m 0 in omega arith
 
 pub zero-array : (n : ℕ) → Zero (replicate n 0)
 zero-array n = record { all = go n }

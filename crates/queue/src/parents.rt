@@ -25,8 +25,8 @@ ghost use Rattle.queue.specs.Sounds.{Before};
 ghost use Rattle.queue.specs.Checked.{written};
 ghost use Rattle.queue.specs.SelectAs.{rows, Even, ahead?, idAt, chosen};
 ghost use Rattle.queue.specs.fees.Told.{recAt, recOf};
-ghost use Rattle.queue.specs.parents.Counters.{firstOne, raise, lower, counted, picks, byCounters};
-ghost use Rattle.queue.specs.parents.Links.{Zero, Few, Clear, Lowered, ones, wordOnes, kidsOf, Named, Modest};
+ghost use Rattle.queue.specs.parents.Counters.{firstOne, raise, lower, counted, picks};
+ghost use Rattle.queue.specs.parents.Links.{Few, Clear, Lowered, ones, wordOnes, kidsOf, Named, Modest};
 ghost use Rattle.queue.specs.paper.Lists.{map, sort};
 ghost use Rattle.queue.specs.paper.Reading.{first?};
 ghost use Rattle.queue.specs.paper.Calls.{toldOut, idsBytes};
@@ -195,16 +195,6 @@ fn list_rows(at: &[usize], bits: &[u64], w: usize, cs: &mut [u64], picked: &mut 
     m
 }
 
-// Each row counted, then listed.
-fn list_all(at: &[usize], bits: &[u64], w: usize, cs: &mut [u64], picked: &mut [usize]) -> usize
-    requires { ⌜ (length (now at) ≡ length (now cs)) × (length (now cs) * w ≤ length (now bits)) × (w ≤ 32) × (length (now cs) ≤ 2048) × (length (now cs) ≤ length (now picked)) ⌝ }
-    ensures { λ r. ⌜ (take r (now (picked .exit)) ≡ map (λ i. getD (now (at .entry)) i 0) (byCounters (kidsOf (now (bits .entry)) w) (length (now (at .entry))))) × (r ≤ length (now (cs .entry))) ⌝ }
-{
-    fill_ones(cs);
-    count_rows(bits, w, cs);
-    list_rows(at, bits, w, cs, picked)
-}
-
 // Refusal 4, or the ids of the records at these places.
 fn put_listed(s: &[u8], picked: &[usize], out: &mut [u8]) -> Answer
     requires { ⌜ All (λ p. p + 33 ≤ length (now s)) (now picked) × (length (now picked) ≤ 2048) ⌝ }
@@ -219,28 +209,7 @@ fn put_listed(s: &[u8], picked: &[usize], out: &mut [u8]) -> Answer
     Answer::Done(Kind::Nothing)
 }
 
-// With tables: the slots, the filter and the rows of `links`, the bits, in lines of w words, and the places that are listed.
-fn parents_with(
-    s: &[u8],
-    at: &[usize],
-    cs: &mut [u64],
-    slots: &mut [u64],
-    t: &mut [u64],
-    v: &mut [u64],
-    bits: &mut [u64],
-    w: usize,
-    picked: &mut [usize],
-    out: &mut [u8],
-) -> Answer
-    requires { ⌜ Named (now s) (now at) × (length (now s) < 4294967296) × (length (now at) ≡ length (now cs)) × (length (now at) ≤ 2048) × (length (now at) ≤ 64 * w) × (w ≤ 32) × (length (now at) * w ≤ length (now bits)) × Zero (now bits) × ((128 ≤ length (now v)) × (0 < length (now slots)) × (0 < length (now t)) × (length (now at) ≤ length (now picked))) ⌝ }
-    ensures { λ r. ⌜ written r (now (out .exit)) ≡ toldOut (idsBytes (map (λ r. r .id) (parentsFirst waitsFor? (map (recAt (now (s .entry))) (now (at .entry)))))) (now (out .entry)) ⌝ }
-{
-    links(s, at, slots, t, v, bits, w);
-    let r = list_all(at, bits, w, cs, picked);
-    put_listed(s, &picked[..r], out)
-}
-
-// With room for few rows.
+// With room for few rows: tables for `links`, bits in lines of w words, and the places that are listed. The counters stand in cs.
 fn parents_few(s: &[u8], at: &[usize], cs: &mut [u64], w: usize, out: &mut [u8]) -> Answer
     requires { ⌜ Named (now s) (now at) × (length (now s) < 4294967296) × (length (now at) ≡ length (now cs)) × (length (now at) ≤ 64 * w) × (w ≤ 8) ⌝ }
     ensures { λ r. ⌜ written r (now (out .exit)) ≡ toldOut (idsBytes (map (λ r. r .id) (parentsFirst waitsFor? (map (recAt (now (s .entry))) (now (at .entry)))))) (now (out .entry)) ⌝ }
@@ -250,21 +219,14 @@ fn parents_few(s: &[u8], at: &[usize], cs: &mut [u64], w: usize, out: &mut [u8])
     let mut v = [0u64; 1024];
     let mut bits = [0u64; 4096];
     let mut picked = [0usize; 512];
-    parents_with(
-        s,
-        at,
-        cs,
-        &mut slots,
-        &mut t,
-        &mut v,
-        &mut bits,
-        w,
-        &mut picked,
-        out,
-    )
+    links(s, at, &mut slots, &mut t, &mut v, &mut bits, w);
+    fill_ones(cs);
+    count_rows(&bits, w, cs);
+    let r = list_rows(at, &bits, w, cs, &mut picked);
+    put_listed(s, &picked[..r], out)
 }
 
-// With room for as many as there are without rollbacks.
+// The same with room for as many as there are without rollbacks.
 fn parents_some(s: &[u8], at: &[usize], cs: &mut [u64], w: usize, out: &mut [u8]) -> Answer
     requires { ⌜ Named (now s) (now at) × (length (now s) < 4294967296) × (length (now at) ≡ length (now cs)) × (length (now at) ≤ 64 * w) × (w ≤ 16) ⌝ }
     ensures { λ r. ⌜ written r (now (out .exit)) ≡ toldOut (idsBytes (map (λ r. r .id) (parentsFirst waitsFor? (map (recAt (now (s .entry))) (now (at .entry)))))) (now (out .entry)) ⌝ }
@@ -274,21 +236,14 @@ fn parents_some(s: &[u8], at: &[usize], cs: &mut [u64], w: usize, out: &mut [u8]
     let mut v = [0u64; 4096];
     let mut bits = [0u64; 16384];
     let mut picked = [0usize; 1024];
-    parents_with(
-        s,
-        at,
-        cs,
-        &mut slots,
-        &mut t,
-        &mut v,
-        &mut bits,
-        w,
-        &mut picked,
-        out,
-    )
+    links(s, at, &mut slots, &mut t, &mut v, &mut bits, w);
+    fill_ones(cs);
+    count_rows(&bits, w, cs);
+    let r = list_rows(at, &bits, w, cs, &mut picked);
+    put_listed(s, &picked[..r], out)
 }
 
-// With room for all.
+// The same with room for all.
 fn parents_many(s: &[u8], at: &[usize], cs: &mut [u64], w: usize, out: &mut [u8]) -> Answer
     requires { ⌜ Named (now s) (now at) × (length (now s) < 4294967296) × (length (now at) ≡ length (now cs)) × (length (now at) ≤ 64 * w) × (w ≤ 32) ⌝ }
     ensures { λ r. ⌜ written r (now (out .exit)) ≡ toldOut (idsBytes (map (λ r. r .id) (parentsFirst waitsFor? (map (recAt (now (s .entry))) (now (at .entry)))))) (now (out .entry)) ⌝ }
@@ -298,22 +253,15 @@ fn parents_many(s: &[u8], at: &[usize], cs: &mut [u64], w: usize, out: &mut [u8]
     let mut v = [0u64; 32768];
     let mut bits = [0u64; 65536];
     let mut picked = [0usize; 2048];
-    parents_with(
-        s,
-        at,
-        cs,
-        &mut slots,
-        &mut t,
-        &mut v,
-        &mut bits,
-        w,
-        &mut picked,
-        out,
-    )
+    links(s, at, &mut slots, &mut t, &mut v, &mut bits, w);
+    fill_ones(cs);
+    count_rows(&bits, w, cs);
+    let r = list_rows(at, &bits, w, cs, &mut picked);
+    put_listed(s, &picked[..r], out)
 }
 
-// With tables as large as the rows ask for. Each function with tables is called at two places that differ in a number, so that the compiler
-// takes none of them in here together with its tables.
+// With tables as large as the rows ask for. Each function with tables is called at two places that differ in a number, and makes its calls by
+// itself: it is then too large for the compiler to take it in here together with its tables.
 fn parents_sized(s: &[u8], at: &[usize], cs: &mut [u64], out: &mut [u8]) -> Answer
     requires { ⌜ Named (now s) (now at) × (length (now s) < 4294967296) × (length (now at) ≡ length (now cs)) × (length (now at) ≤ 2048) ⌝ }
     ensures { λ r. ⌜ written r (now (out .exit)) ≡ toldOut (idsBytes (map (λ r. r .id) (parentsFirst waitsFor? (map (recAt (now (s .entry))) (now (at .entry)))))) (now (out .entry)) ⌝ }
