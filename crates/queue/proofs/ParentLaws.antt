@@ -300,13 +300,6 @@ first-clear (c ∷ cs) (suc j) h e = cases (eqb c 1)
     (λ t. let k : suc j < 0 = rw t at h in absurd (let z : ⊥ = omega arith in z))
     (λ t. first-clear cs j (le-of-suc-le-suc (rw t at h)) e)
 
-first-one : (cs : List ℕ) → firstOne cs < length cs → getD cs (firstOne cs) 0 ≡ 1
-unfolding firstOne
-first-one [] h = absurd (let z : ⊥ = omega arith in z)
-first-one (c ∷ cs) h = cases (eqb c 1)
-    (λ t. rw t (eqb-true c 1 t))
-    (λ t. let k = rw t at h in rw t (first-one cs (le-of-suc-le-suc k)))
-
 pub first-here : {cs : List ℕ} {i : ℕ} → Clear i cs → i < length cs → getD cs i 0 ≡ 1 → i ≡ firstOne cs
 first-here {cs} {i} c h e = sym (first-is cs i (c .all) h e)
 
