@@ -1,6 +1,7 @@
 //! A commit with its write: the call, the image in a second file, syncs, rename, settling.
 
 use std::cell::RefCell;
+use std::path::Path;
 
 use compare::oracle::hex;
 use pokerbox::store::FileStore;
@@ -9,6 +10,19 @@ use reference::private_queue::inspect;
 use reference::private_queue::PrivateTransactionQueue;
 
 use crate::{time, Bench, Row, Time};
+
+/// The kind of the file system that a folder is on, where the system lists what is mounted.
+pub fn file_system(folder: &Path) -> Option<String> {
+    let folder = folder.canonicalize().ok()?;
+    let mounts = std::fs::read_to_string("/proc/mounts").ok()?;
+    let mounts = mounts.lines().filter_map(|line| {
+        let mut words = line.split(' ').skip(1);
+        Some((words.next()?, words.next()?))
+    });
+    let above = mounts.filter(|(place, _)| folder.starts_with(place));
+    let (_, name) = above.max_by_key(|(place, _)| place.len())?;
+    Some(name.into())
+}
 
 impl Bench<'_> {
     /// A cancellation, written into the folder that the bench was given.

@@ -2,6 +2,7 @@
 
 use std::time::Duration;
 
+use compare::tables::Tables;
 use model::fees::{MAX_BUDGET, MAX_CANDIDATES};
 use model::load::{Ids, Links};
 use pokerbox::raw;
@@ -12,11 +13,11 @@ use crate::growth::{full, plain, times, Lent};
 const MOST: f64 = 50.0;
 
 /// All sets of the candidates fit, so that the whole tree has as many nodes as the top budget.
-pub fn rows(enough: Duration) {
-    println!("### Best fees\n");
-    println!("Milliseconds, least (median). All sets of the {MAX_CANDIDATES} candidates fit.\n");
-    println!("| queue | sound | 1 step | 1,000 steps | {MAX_BUDGET} steps | of these beyond sound | at most | reached |");
-    println!("|---|---:|---:|---:|---:|---:|---:|---|");
+pub fn rows(enough: Duration, tables: &mut Tables) {
+    tables.line(format_args!("Milliseconds, least (median). All sets of the {MAX_CANDIDATES} candidates fit. 20 and 1,000 records: of 2 inputs and outputs and 300 signed"));
+    tables.line("bytes, P 1024, B 1048576, T 1024, K 2.\n");
+    tables.line(format_args!("| queue | sound | 1 step | 1,000 steps | {MAX_BUDGET} steps | of these beyond sound | at most | reached |"));
+    tables.line("|---|---:|---:|---:|---:|---:|---:|---|");
     let loads = [
         ("20 records", plain(20, Ids::Random, Links::Apart)),
         ("1,000 records", plain(1_000, Ids::Random, Links::Apart)),
@@ -41,13 +42,13 @@ pub fn rows(enough: Duration) {
             |(least, median): (f64, f64)| format!("{:.2} ({:.2})", least * 1e3, median * 1e3);
         let beyond = (whole.0 - sound.0) * 1e3;
         let verdict = if beyond <= MOST { "yes" } else { "no" };
-        println!(
+        tables.line(format_args!(
             "| {name} | {} | {} | {} | {} | {beyond:.1} | {MOST} | {verdict} |",
             both(sound),
             both(one),
             both(some),
             both(whole)
-        );
+        ));
     }
-    println!();
+    tables.line("");
 }

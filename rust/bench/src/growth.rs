@@ -3,6 +3,7 @@
 use std::time::{Duration, Instant};
 
 use compare::side::{Library, Side};
+use compare::tables::Tables;
 use model::calls::ReconcileArgs;
 use model::load::{self, Ids, Links, Load};
 use model::random::nth_id;
@@ -204,18 +205,21 @@ fn wide(boxes: u64) -> Load {
     }
 }
 
-pub fn ratio(name: &str, value: f64, most: f64) {
+pub fn ratio(tables: &mut Tables, name: &str, value: f64, most: f64) {
     let verdict = if value <= most { "yes" } else { "no" };
-    println!("| {name} | {value:.2} | {most} | {verdict} |");
+    tables.line(format_args!("| {name} | {value:.2} | {most} | {verdict} |"));
 }
 
 /// The ratios alone.
-pub fn ratios(enough: Duration) {
-    println!("| ratio of least times | is | at most | reached |\n|---|---:|---:|---|");
+pub fn ratios(enough: Duration, tables: &mut Tables) {
+    tables.line("Records of 2 inputs and outputs and 300 signed bytes, P 1024, B 1048576, T 1024, K 2; the row of 128 and 32 inputs: 1,023 Queued");
+    tables.line("records of 8,000 signed bytes and 1,024 tombstones, at the top limits.\n");
+    tables.line("| ratio of least times | is | at most | reached |\n|---|---:|---:|---|");
     for (queued, most) in [(10, 0.7), (1_000, 1.0)] {
         let mut lent = Lent::new(&plain(queued, Ids::Random, Links::Apart), enough);
         let (sound, copy) = (lent.sound().0, lent.copy().0);
         ratio(
+            tables,
             &format!("sound / copy, {queued} records"),
             sound / copy,
             most,
@@ -225,20 +229,26 @@ pub fn ratios(enough: Duration) {
         let mut lent = Lent::new(&plain(1_000, ids, links), enough);
         let (half, one) = (lent.reconcile(2, true).0, lent.reconcile(0, true).0);
         let name = format!("reconcile, half unavailable / one found, {name}");
-        ratio(&name, half / one, 2.0);
+        ratio(tables, &name, half / one, 2.0);
     }
     let [few, many] = [32, 128].map(|boxes| Lent::new(&wide(boxes), enough).sound().0);
-    ratio("sound, 1,023 x 128 / 1,023 x 32 inputs", many / few, 6.0);
-    crate::parents::ratios(enough);
+    let name = "sound, 1,023 x 128 / 1,023 x 32 inputs";
+    ratio(tables, name, many / few, 6.0);
+    crate::parents::ratios(enough, tables);
+    tables.line("");
 }
 
 /// A full unit with each kind of ids, in milliseconds: least and median.
-pub fn full_units(enough: Duration) {
+pub fn full_units(enough: Duration, tables: &mut Tables) {
+    let [p, b, t, k] = TOP;
+    tables.line(format_args!("P {p}, B {b}, T {t}, K {k}: 1,023 Queued and 1,024 Mined records of 128 inputs and outputs and 8,000 signed bytes, 1,024 tombstones.\n"));
     for (ids, links, name) in ALL {
-        println!("\n### A full unit at the top limits, {name}\n");
-        println!("| call | least, ms | median, ms |\n|---|---:|---:|");
+        tables.line(format_args!("## A full unit at the top limits, {name}\n"));
+        tables.line("| call | least, ms | median, ms |\n|---|---:|---:|");
         for (call, (least, median)) in Lent::new(&full(ids, links), enough).every() {
-            println!("| {call} | {:.1} | {:.1} |", least * 1e3, median * 1e3);
+            let [least, median] = [least, median].map(|seconds| seconds * 1e3);
+            tables.line(format_args!("| {call} | {least:.1} | {median:.1} |"));
         }
+        tables.line("");
     }
 }

@@ -1,5 +1,5 @@
 //! The same work by the exported calls and by `PrivateTransactionQueue`, as a table of times; then best fees, parents first, and how
-//! the library's times grow. `--short` prints the ratios alone, `--full` the full units, `--fees` best fees, `--parents` parents first.
+//! the library's times grow. Each part has a file of its own in docs/tables, which `--write` overwrites.
 
 mod commit;
 mod fees;
@@ -9,10 +9,12 @@ mod parents;
 use std::collections::{BTreeMap, BTreeSet};
 use std::hint::black_box;
 use std::path::{Path, PathBuf};
+use std::process::ExitCode;
 use std::time::{Duration, Instant};
 
 use compare::oracle::{hex, options_of, pool_entry, register, set_limits, whole_store};
 use compare::side::{Library, Side};
+use compare::tables::{command, Tables};
 use compare::unit::admit_args;
 use model::calls::ReconcileArgs;
 use model::random::nth_id;
@@ -35,18 +37,123 @@ const LEAST: usize = 5;
 const MOST: usize = 201;
 const ENOUGH: Duration = Duration::from_millis(200);
 
-fn main() {
-    let mut args = std::env::args().skip(1);
-    let first = args.next();
-    match first.as_deref() {
-        Some("--short") => return growth::ratios(ENOUGH),
-        Some("--full") => return growth::full_units(ENOUGH),
-        Some("--fees") => return fees::rows(ENOUGH),
-        Some("--parents") => return parents::rows(ENOUGH),
-        _ => (),
+const USAGE: &str = "\
+usage: bench [--short | --full | --fees | --parents] [--write] [FOLDER]
+
+  --short    the ratios of the growth and of parents first alone
+  --full     a full unit at the top limits alone
+  --fees     best fees alone
+  --parents  parents first alone
+  --write    writes each part that is measured to its file in docs/tables, too
+  FOLDER     where files are written to be timed: best one in memory (the temporary folder)";
+
+/// What has a file of its own.
+#[derive(Clone, Copy)]
+enum Part {
+    Calls,
+    Fees,
+    Parents,
+    Growth,
+    Full,
+}
+
+impl Part {
+    fn measure(self, settings: &Settings) -> Result<(), String> {
+        let (file, title) = match self {
+            Part::Calls => (
+                "bench.md",
+                "Bench: the calls, and the same work by the Rust",
+            ),
+            Part::Fees => ("bench-fees.md", "Bench: best fees"),
+            Part::Parents => ("bench-parents.md", "Bench: parents first"),
+            Part::Growth => ("bench-growth.md", "Bench: growth"),
+            Part::Full => ("bench-full.md", "Bench: a full unit at the top limits"),
+        };
+        let mut tables = Tables::new(file, title, "docs/BENCH.md", &settings.command);
+        match self {
+            Part::Calls => calls(&settings.folder, &mut tables),
+            Part::Fees => fees::rows(ENOUGH, &mut tables),
+            Part::Parents => parents::rows(ENOUGH, &mut tables),
+            Part::Growth => growth::ratios(ENOUGH, &mut tables),
+            Part::Full => growth::full_units(ENOUGH, &mut tables),
+        }
+        tables.end(settings.write)
     }
-    let folder = first.map_or(std::env::temp_dir(), PathBuf::from);
+}
+
+struct Settings {
+    parts: Vec<Part>,
+    write: bool,
+    folder: PathBuf,
+    command: String,
+}
+
+fn settings(arguments: impl Iterator<Item = String>) -> Result<Settings, String> {
+    let (mut only, mut write, mut folder) = (None, false, None);
+    let mut given = Vec::new();
+    for argument in arguments {
+        let part = match argument.as_str() {
+            "--short" => Part::Growth,
+            "--full" => Part::Full,
+            "--fees" => Part::Fees,
+            "--parents" => Part::Parents,
+            "--write" => {
+                write = true;
+                given.push(argument);
+                continue;
+            }
+            option if option.starts_with('-') => return Err(format!("{option} is no option")),
+            _ if folder.is_some() => return Err("two folders".into()),
+            _ => {
+                folder = Some(PathBuf::from(argument));
+                given.push("FOLDER".into());
+                continue;
+            }
+        };
+        if only.replace(part).is_some() {
+            return Err("one part or all".into());
+        }
+        given.push(argument);
+    }
+    let all = [
+        Part::Calls,
+        Part::Fees,
+        Part::Parents,
+        Part::Growth,
+        Part::Full,
+    ];
+    let given: Vec<&str> = given.iter().map(String::as_str).collect();
+    Ok(Settings {
+        parts: only.map_or(all.to_vec(), |part| vec![part]),
+        write,
+        folder: folder.unwrap_or(std::env::temp_dir()),
+        command: command("-p bench", &given),
+    })
+}
+
+fn main() -> ExitCode {
+    let settings = match settings(std::env::args().skip(1)) {
+        Ok(settings) => settings,
+        Err(error) => {
+            eprintln!("bench: {error}\n{USAGE}");
+            return ExitCode::from(2);
+        }
+    };
+    for part in &settings.parts {
+        if let Err(error) = part.measure(&settings) {
+            eprintln!("bench: {error}");
+            return ExitCode::FAILURE;
+        }
+    }
+    ExitCode::SUCCESS
+}
+
+/// The same work on both sides.
+fn calls(folder: &Path, tables: &mut Tables) {
     let path = folder.join(format!("pokerbox-bench-{}.json", std::process::id()));
+    if let Some(name) = commit::file_system(folder) {
+        tables.line(format_args!("Files are written to {name}.\n"));
+    }
     // K 2 and B 1 MiB: room for the records, without much unused area.
     let roomy = [1_024, 1 << 20, 1_024, 2];
     // Limits that fit the load.
@@ -60,14 +167,9 @@ fn main() {
     ] {
         let [p, b, t, k] = limits;
         let limits = Limits::checked(p, b, t, k).expect("limits in range");
-        Bench::new(limits, records, tombstones, &path).run();
+        Bench::new(limits, records, tombstones, &path).run(tables);
     }
     let _ = std::fs::remove_file(&path);
-    fees::rows(ENOUGH);
-    parents::rows(ENOUGH);
-    println!("### Growth\n");
-    growth::ratios(ENOUGH);
-    growth::full_units(ENOUGH);
 }
 
 /// One queue on both sides.
@@ -214,21 +316,23 @@ impl<'a> Bench<'a> {
         }
     }
 
-    fn run(&mut self) {
+    fn run(&mut self, tables: &mut Tables) {
         assert_eq!(raw::sound(&self.area), Ok(()));
         let pending = self.queue.pending().count();
         let limits = &self.queue.limits;
-        println!(
-            "### {pending} records, {} tombstones, P {}, B {}, T {}, K {}: an area of {} bytes\n",
+        tables.line(format_args!(
+            "## {pending} records, {} tombstones, P {}, B {}, T {}, K {}: an area of {} bytes\n",
             self.queue.tombstones().count(),
             limits.pending,
             limits.bytes,
             limits.tombstones,
             limits.inputs,
             limits.need()
-        );
-        println!("Microseconds, least (median) of {LEAST} to {MOST} runs.\n");
-        println!("| work | library | Rust | library / Rust |\n|---|---:|---:|---:|");
+        ));
+        tables.line(format_args!(
+            "Microseconds, least (median) of {LEAST} to {MOST} runs.\n"
+        ));
+        tables.line("| work | library | Rust | library / Rust |\n|---|---:|---:|---:|");
         let mut rows = self.changing();
         rows.push(self.admission());
         rows.push(self.reconciliation());
@@ -246,15 +350,15 @@ impl<'a> Bench<'a> {
             };
             let ratio = row.library.zip(row.oracle);
             let ratio = ratio.map(|(library, oracle)| library.least / oracle.least.max(0.01));
-            println!(
+            tables.line(format_args!(
                 "| {} | {} | {} | {} |",
                 row.work,
                 both(row.library),
                 both(row.oracle),
                 ratio.map_or("-".into(), number)
-            );
+            ));
         }
-        println!();
+        tables.line("");
     }
 
     /// The Rust's time of a work that starts with the queue.

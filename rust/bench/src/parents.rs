@@ -2,6 +2,7 @@
 
 use std::time::Duration;
 
+use compare::tables::Tables;
 use model::calls::ids_bytes;
 use model::load::{self, Ids, Links, Load};
 use pokerbox::raw;
@@ -52,11 +53,11 @@ fn both(links: Links, enough: Duration) -> [(f64, f64); 2] {
 }
 
 /// The ratios alone.
-pub fn ratios(enough: Duration) {
+pub fn ratios(enough: Duration, tables: &mut Tables) {
     for (links, name) in LINKS {
         let [selection, first] = both(links, enough);
         let name = format!("selection_parents_first / selection_entries_at, {name}");
-        ratio(&name, first.0 / selection.0, MOST_TIMES);
+        ratio(tables, &name, first.0 / selection.0, MOST_TIMES);
     }
 }
 
@@ -69,50 +70,50 @@ fn top(ids: Ids, links: Links) -> Load {
     }
 }
 
-fn at_the_top(name: &str, load: &Load, enough: Duration) {
+fn at_the_top(tables: &mut Tables, name: &str, load: &Load, enough: Duration) {
     let lent = Lent::new(load, enough);
     let (sound, first) = (lent.sound(), parents_first(&lent, load, enough));
     let ms = |(least, median): (f64, f64)| format!("{:.1} ({:.1})", least * 1e3, median * 1e3);
     let beyond = (first.0 - sound.0) * 1e3;
     let verdict = if beyond <= MOST_MS { "yes" } else { "no" };
-    println!(
+    tables.line(format_args!(
         "| {name} | {} | {} | {beyond:.0} | {MOST_MS} | {verdict} |",
         ms(sound),
         ms(first)
-    );
+    ));
 }
 
-pub fn rows(enough: Duration) {
-    println!("### Parents first\n");
-    println!("1,000 records of 2 inputs and outputs. Microseconds, least (median).\n");
-    println!(
-        "| records | selection_entries_at | selection_parents_first | ratio | at most | reached |"
+pub fn rows(enough: Duration, tables: &mut Tables) {
+    tables.line("1,000 records of 2 inputs and outputs, P 1024, B 1048576, T 1024, K 2. Microseconds, least (median).\n");
+    tables.line(
+        "| records | selection_entries_at | selection_parents_first | ratio | at most | reached |",
     );
-    println!("|---|---:|---:|---:|---:|---|");
+    tables.line("|---|---:|---:|---:|---:|---|");
     for (links, name) in LINKS {
         let [selection, first] = both(links, enough);
         let us = |(least, median): (f64, f64)| format!("{:.0} ({:.0})", least * 1e6, median * 1e6);
         let value = first.0 / selection.0;
         let verdict = if value <= MOST_TIMES { "yes" } else { "no" };
-        println!(
+        tables.line(format_args!(
             "| {name} | {} | {} | {value:.2} | {MOST_TIMES} | {verdict} |",
             us(selection),
             us(first)
-        );
+        ));
     }
-    println!("\n2,048 Queued records of 128 inputs and outputs, top limits. Milliseconds, least (median).\n");
-    println!(
-        "| ids and records | sound | selection_parents_first | beyond sound | at most | reached |"
+    tables.line("\n2,048 Queued records of 128 inputs and outputs, top limits. Milliseconds, least (median).\n");
+    tables.line(
+        "| ids and records | sound | selection_parents_first | beyond sound | at most | reached |",
     );
-    println!("|---|---:|---:|---:|---:|---|");
+    tables.line("|---|---:|---:|---:|---:|---|");
     for (ids, ids_name) in IDS {
         for (links, name) in LINKS {
-            at_the_top(&format!("{ids_name}; {name}"), &top(ids, links), enough);
+            let name = format!("{ids_name}; {name}");
+            at_the_top(tables, &name, &top(ids, links), enough);
         }
     }
     for (links, name) in &LINKS[..4] {
         let name = format!("one input and one output 128 times; {name}");
-        at_the_top(&name, &top(Ids::Repeated, *links), enough);
+        at_the_top(tables, &name, &top(Ids::Repeated, *links), enough);
     }
-    println!();
+    tables.line("");
 }

@@ -10,6 +10,7 @@
 //! - [`run`]: compares the two after each event.
 //! - [`fixed`]: the fixed list that a Rattle program replays.
 //! - [`shrink`]: makes a list that shows a difference smaller.
+//! - [`tables`]: the files of docs/tables, which `bench` and `mutants` write.
 
 pub mod counts;
 pub mod fixed;
@@ -19,5 +20,6 @@ pub mod oracle;
 pub mod run;
 pub mod shrink;
 pub mod side;
+pub mod tables;
 pub mod unit;
 pub mod withdrawn;

@@ -9,14 +9,17 @@ use std::path::{Path, PathBuf};
 use std::process::{Command, ExitCode, Stdio};
 use std::time::Instant;
 
+use compare::tables::{command, Tables};
+
 const USAGE: &str = "\
-usage: mutants [--seconds N] [--seed N] [--only N] [--jobs N] [--dir DIR]
+usage: mutants [--seconds N] [--seed N] [--only N] [--jobs N] [--dir DIR] [--write]
 
   --seconds  how long a comparison may take to notice (10)
   --seed     the first list's seed (1)
   --only     only the edit with this number, or those from N-M
   --jobs     for cargo (1)
-  --dir      as for compare";
+  --dir      as for compare
+  --write    writes the table to docs/tables/noticing.md, too; not with --only";
 
 struct Settings {
     seconds: String,
@@ -25,6 +28,9 @@ struct Settings {
     only: Option<(usize, usize)>,
     jobs: String,
     folder: Option<String>,
+    write: bool,
+    /// As given, but for the folder.
+    given: Vec<String>,
 }
 
 /// One wrong edit.
@@ -68,9 +74,20 @@ fn settings(mut arguments: impl Iterator<Item = String>) -> Result<Settings, Str
         only: None,
         jobs: "1".into(),
         folder: None,
+        write: false,
+        given: Vec::new(),
     };
     while let Some(name) = arguments.next() {
+        settings.given.push(name.clone());
+        if name == "--write" {
+            settings.write = true;
+            continue;
+        }
         let value = arguments.next().ok_or(format!("{name} needs a value"))?;
+        settings.given.push(match name.as_str() {
+            "--dir" => "DIR".into(),
+            _ => value.clone(),
+        });
         match name.as_str() {
             "--seconds" => settings.seconds = value,
             "--seed" => settings.seed = value,
@@ -79,6 +96,9 @@ fn settings(mut arguments: impl Iterator<Item = String>) -> Result<Settings, Str
             "--dir" => settings.folder = Some(value),
             _ => return Err(format!("{name} is no option")),
         }
+    }
+    if settings.write && settings.only.is_some() {
+        return Err("--write is for all edits, --only for some".into());
     }
     Ok(settings)
 }
@@ -103,8 +123,20 @@ fn run(settings: &Settings) -> Result<bool, String> {
             ));
         }
     }
-    println!("| no. | edit | call | side | noticed after | seconds | by |");
-    println!("|---|---|---|---|---|---|---|");
+    let given: Vec<&str> = settings.given.iter().map(String::as_str).collect();
+    let command = command("-p compare --bin mutants", &given);
+    let mut tables = Tables::new(
+        "noticing.md",
+        "Does the comparison notice?",
+        "docs/NOTICING.md",
+        &command,
+    );
+    tables.line(format_args!(
+        "Each edit of `rust/compare/mutants.txt`, the comparison with seed {} for at most {} seconds.\n",
+        settings.seed, settings.seconds
+    ));
+    tables.line("| no. | edit | call | side | noticed after | seconds | by |");
+    tables.line("|---|---|---|---|---|---|---|");
     let (mut noticed, mut right, mut tried) = (0, 0, 0);
     for (number, edit) in (1..).zip(&edits) {
         if (settings.only).is_some_and(|(from, to)| !(from..=to).contains(&number)) {
@@ -145,12 +177,17 @@ fn run(settings: &Settings) -> Result<bool, String> {
             Some(count) => format!("{by}; {count} of the model's tests"),
         };
         let (what, call) = (&edit.what, &edit.call);
-        println!("| {number} | {what} | {call} | library | {after} | {seconds} | {by} |");
+        tables.line(format_args!(
+            "| {number} | {what} | {call} | library | {after} | {seconds} | {by} |"
+        ));
         let is_noticed = !matches!(seen, Seen::Nothing(_));
         noticed += usize::from(is_noticed);
         right += usize::from(is_noticed != edit.same);
     }
-    println!("\n{tried} edits, {noticed} noticed, {right} as they must be.");
+    tables.line(format_args!(
+        "\n{tried} edits, {noticed} noticed, {right} as they must be."
+    ));
+    tables.end(settings.write)?;
     Ok(right == tried)
 }
 
