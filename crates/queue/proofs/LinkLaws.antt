@@ -9,7 +9,7 @@ use native.Mathlib.Nat.{le-of-suc-le-suc}
 use lib.Dec.{ltb, leb, eqb}
 use lib.ListN.{length, take, getD, set, length-set, length-take, List·getD-eq-default}
 use lib.Seq.{getD-set-same, getD-set-other, take-suc, take-suc-set, take-all, getD-take}
-use borrow.Author.Tests.{eqb-true, eqb-false, eq-eqb, ne-eqb, ltb-true, ltb-false, lt-ltb, le-ltb, leb-true, le-leb, lt-leb, not-true}
+use borrow.Author.Tests.{eqb-true, eqb-false, eq-eqb, ne-eqb, ltb-true, ltb-false, lt-ltb, le-ltb, leb-true, le-leb, lt-leb, not-true, not-false}
 use Rattle.queue.specs.Codec.{All, cases}
 use Rattle.queue.specs.Ids.{part}
 use Rattle.queue.specs.Lists.{and-true, and-both}
@@ -26,7 +26,7 @@ use Rattle.queue.specs.paper.Records.{Bytes, Id, Rec}
 use Rattle.queue.specs.paper.Ids.{cmpL, same?}
 use Rattle.queue.specs.paper.Lists.{any?, all?}
 use Rattle.queue.specs.paper.Sound.{inputs, outputs, among?}
-use Rattle.queue.specs.parents.Links.{hashAll, wantsAt, outsAt, Short, Joined, hit, inLine, Zero, Kept, Held, Rowed, Linked, outputsLinked, Begins}
+use Rattle.queue.specs.parents.Links.{hashAll, wantsAt, outsAt, Short, Joined, hit, inLine, Zero, Cleared, Kept, Held, Rowed, Linked, outputsLinked, Begins}
 use Rattle.queue.specs.declared.frame.Seen.{Seen}
 use Rattle.queue.proofs.Turns.{Scan, start, here, on, ReadsRec}
 use Rattle.queue.proofs.FilterLaws.{mark-size, mark-here, mark-old, slot-in}
@@ -51,6 +51,18 @@ pub zero-end : (v : List ℕ) (i : ℕ) → ((j : ℕ) → j < i → getD v j 0 
 zero-end v i h k = record {
   all = λ j. cases (ltb j i) (λ t. h j (ltb-true j i t)) (λ t. let e = ltb-false j i t in List·getD-eq-default v 0 (let z : length v ≤ j = omega arith in z));
 }
+
+pub cleared : {go : Bool} {v v′ : List ℕ} → not go ≡ false → Zero v′ → Cleared go v v′
+cleared {go} t z = record { yes = λ _. z; no = λ e. false-true (sym e ∙ not-false go t) }
+
+pub untouched : {go : Bool} {v : List ℕ} → not go ≡ true → Cleared go v v
+untouched {go} t = record { yes = λ e. false-true (sym (not-true go t) ∙ e); no = λ _. refl }
+
+-- cleared, or the first time
+pub zero-now : (a : ℕ) {v v′ : List ℕ} → Cleared (ltb 0 a) v v′ → (a ≡ 0 → Zero v) → Zero v′
+zero-now a c f = cases (ltb 0 a)
+    (λ t. c .yes t)
+    (λ t. let k = ltb-false 0 a t in rw (c .no t) (f (let z : a ≡ 0 = omega arith in z)))
 
 -- ---- a row with the number 0 is none
 hit-none : (s : Bytes) (j : ℕ) (z : Id) → hit s j z 0 ≡ false

@@ -60,7 +60,7 @@ pub fn hash(id: [u8; 32]) -> u64
     std::num::wrapping_add_u64(a, b) % 274877906899
 }
 
-// Another number of an id: its four words of 8 bytes added.
+// Another number of an id: its four words of 8 bytes added, and spread, so that ids that count up are far from each other.
 pub fn hash_all(id: [u8; 32]) -> u64
     ensures { λ r. ⌜ r ≡ hashAll id ⌝ }
 {
@@ -70,5 +70,6 @@ pub fn hash_all(id: [u8; 32]) -> u64
     let d = be(&id, false, 0, 24, 8);
     let x = std::num::wrapping_add_u64(a, b);
     let y = std::num::wrapping_add_u64(c, d);
-    std::num::wrapping_add_u64(x, y) % 274877906899
+    let h = std::num::wrapping_add_u64(x, y) % 274877906899;
+    h * 41475557 / 8192
 }

@@ -30,7 +30,7 @@ ghost use Rattle.queue.specs.View.{view};
 ghost use Rattle.queue.specs.Reads.{whole, listAt};
 ghost use Rattle.queue.specs.Suspects.{idR, noR, later, InOrder};
 ghost use Rattle.queue.specs.fees.Told.{Known};
-ghost use Rattle.queue.specs.parents.Links.{hashAll, wantsAt, Short, Joined, hit, inLine, Zero, Kept, Held, Rowed, Begins, Linked, outputsLinked};
+ghost use Rattle.queue.specs.parents.Links.{hashAll, wantsAt, Short, Joined, hit, inLine, Zero, Cleared, Kept, Held, Rowed, Begins, Linked, outputsLinked};
 ghost use Rattle.queue.specs.paper.Lists.{any?};
 ghost use Rattle.queue.specs.paper.Sound.{among?};
 
@@ -47,9 +47,13 @@ pub struct Block {
     pub len: usize,
 }
 
-fn clear(v: &mut [u64])
-    ensures { λ _. ⌜ Zero (now (v .exit)) ⌝ }
+// All set to 0, if they are to be.
+fn clear(v: &mut [u64], go: bool)
+    ensures { λ _. ⌜ Cleared go (now (v .entry)) (now (v .exit)) ⌝ }
 {
+    if !go {
+        return;
+    }
     let n = v.len();
     let mut i: usize = 0;
     while i < n {
@@ -308,7 +312,7 @@ fn link_block(
     link_all(s, at, slots, t, v, o, bits, w);
 }
 
-// The bits of all pairs of rows: that of j in the line of i, where another record j wants an output of i.
+// The bits of all pairs of rows: that of j in the line of i, where another record j wants an output of i. The slots are empty at first.
 pub fn links(
     s: &[u8],
     at: &[usize],
@@ -318,13 +322,13 @@ pub fn links(
     bits: &mut [u64],
     w: usize,
 )
-    requires { ⌜ All (Known (now s)) (now at) × All (Short (now s)) (now at) × (length (now s) < 4294967296) × (length (now at) ≤ 2048) × (128 ≤ length (now v)) × (0 < length (now slots)) × (0 < length (now t)) × (length (now at) * w ≤ length (now bits)) ⌝ }
+    requires { ⌜ All (Known (now s)) (now at) × All (Short (now s)) (now at) × (length (now s) < 4294967296) × (length (now at) ≤ 2048) × (128 ≤ length (now v)) × (0 < length (now slots)) × (0 < length (now t)) × (length (now at) * w ≤ length (now bits)) × Zero (now slots) ⌝ }
     ensures { λ _. ⌜ Joined w (now (bits .entry)) (now (bits .exit)) (outputsLinked (now (s .entry)) (now (at .entry)) (λ j z. ltb j (length (now (at .entry))) && among? z (wantsAt (now (s .entry)) (now (at .entry)) j))) ⌝ }
 {
     let mut a: usize = 0;
     while a < at.len() {
-        clear(slots);
-        clear(t);
+        clear(slots, 0 < a);
+        clear(t, 0 < a);
         let b = keep_rows(s, at, a, slots, t, v);
         let n = b.len;
         link_block(s, at, slots, t, &mut v[..n], bits, w);

@@ -231,7 +231,7 @@ fn parents_some(s: &[u8], at: &[usize], cs: &mut [u64], w: usize, out: &mut [u8]
     requires { ⌜ Named (now s) (now at) × (length (now s) < 4294967296) × (length (now at) ≡ length (now cs)) × (length (now at) ≤ 64 * w) × (w ≤ 16) ⌝ }
     ensures { λ r. ⌜ written r (now (out .exit)) ≡ toldOut (idsBytes (map (λ r. r .id) (parentsFirst waitsFor? (map (recAt (now (s .entry))) (now (at .entry)))))) (now (out .entry)) ⌝ }
 {
-    let mut slots = [0u64; 8192];
+    let mut slots = [0u64; 32768];
     let mut t = [0u64; 1024];
     let mut v = [0u64; 4096];
     let mut bits = [0u64; 16384];

@@ -19,7 +19,7 @@ use Rattle.queue.specs.paper.Sound.{inputs, outputs, among?}
 
 -- any number of an id serves: only speed depends on it
 unfoldable pub hashAll : Id → ℕ
-hashAll x = ((beAt 8 (view false x 0) 0 + beAt 8 (view false x 0) 8) % 2 ^ 64 + (beAt 8 (view false x 0) 16 + beAt 8 (view false x 0) 24) % 2 ^ 64) % 2 ^ 64 % 274877906899
+hashAll x = ((beAt 8 (view false x 0) 0 + beAt 8 (view false x 0) 8) % 2 ^ 64 + (beAt 8 (view false x 0) 16 + beAt 8 (view false x 0) 24) % 2 ^ 64) % 2 ^ 64 % 274877906899 * 41475557 / 8192
 
 -- what the record at place number i of `at` wants, and its outputs
 abbrev pub wantsAt : Bytes → List ℕ → ℕ → List Id
@@ -69,6 +69,11 @@ inLine row i j = eqb i row && not (eqb j row)
 
 pub record Zero (v : List ℕ) : Type 0 where
   pub all : (i : ℕ) → getD v i 0 ≡ 0
+
+-- all set to 0, if they are to be
+pub record Cleared (go : Bool) (v v′ : List ℕ) : Type 0 where
+  pub yes : go ≡ true → Zero v′
+  pub no : go ≡ false → v′ ≡ v
 
 -- a row into its slot, or behind others, where its number is marked
 pub record Kept (h w k : ℕ) (slots t v : List ℕ) (r : ℕ) (slots′ t′ v′ : List ℕ) : Type 0 where

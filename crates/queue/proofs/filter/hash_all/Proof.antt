@@ -43,6 +43,9 @@ wrapping-add-u64-requires-2 c κs = search needs
 wrapping-add-u64-requires-3 : tie.Need-wrapping-add-u64-requires-3
 wrapping-add-u64-requires-3 c κs = search needs
 
+mul-result : tie.Need-mul-result
+mul-result c = search needs
+
 returns : tie.Need-returns
 unfolding hashAll
 returns c = simp (c .wrapping-add-u643 .ensures, c .before .wrapping-add-u642 .ensures, c .before .before .wrapping-add-u64 .ensures, c .before .before .before .before .before .before .before .before .before .be .ensures .0, c .before .before .before .before .before .before .before .be2 .ensures .0, c .before .before .before .before .before .be3 .ensures .0, c .before .before .before .be4 .ensures .0)
@@ -62,4 +65,5 @@ hash-all-spec =
     wrapping-add-u64-requires
     wrapping-add-u64-requires-2
     wrapping-add-u64-requires-3
+    mul-result
     returns)

@@ -4,7 +4,7 @@ use native.Mathlib.Omega.{arith}
 use Prim.Native.Nat.{ℕ, _-_, _<_}
 use lib.ListN.{length, getD}
 use lib.ListN.{length-set}
-use Rattle.queue.proofs.LinkLaws.{zero-go, zero-end}
+use Rattle.queue.proofs.LinkLaws.{zero-go, zero-end, cleared, untouched}
 use borrow.Author.Needs.{needs}
 use Rattle.queue.proofs.links.clear.Statement.{statement}
 use Rattle.queue.proofs.links.clear.Tie as tie
@@ -12,10 +12,13 @@ use Rattle.queue.proofs.links.clear.Reads as reads
 use Rattle.queue.proofs.links.clear.Lts as lts
 
 abbrev Inv-loop : tie.InvT-loop
-Inv-loop v₀ n i₀ v i = (length v ≡ length v₀) × ((j : ℕ) → j < i → getD v j 0 ≡ 0)
+Inv-loop v₀ go n i₀ v i = (length v ≡ length v₀) × ((j : ℕ) → j < i → getD v j 0 ≡ 0)
 
 abbrev μ-loop : tie.MeasureT-loop
-μ-loop v₀ n i₀ v i = n - i
+μ-loop v₀ go n i₀ v i = n - i
+
+returns : tie.Need-returns Inv-loop μ-loop
+returns c = untouched (c .if1 .taken)
 
 loop-holds : tie.Need-loop-holds Inv-loop μ-loop
 loop-holds c = (refl, λ j h. absurd (let z : ⊥ = omega arith in z))
@@ -38,8 +41,8 @@ loop-again c = (length-set (c .before .loop .v) (c .before .loop .i) 0 ∙ c .be
 same-length : tie.Need-same-length Inv-loop μ-loop
 same-length c = c .before .loop .inv .0
 
-returns : tie.Need-returns Inv-loop μ-loop
-returns c = zero-end (c .before .loop .v) (c .before .loop .i) (c .before .loop .inv .1) (omega (arith, c .before .loop .inv .0, c .loop-test .left))
+returns-2 : tie.Need-returns-2 Inv-loop μ-loop
+returns-2 c = cleared (c .before .before .if1 .left) (zero-end (c .before .loop .v) (c .before .loop .i) (c .before .loop .inv .1) (omega (arith, c .before .loop .inv .0, c .loop-test .left)))
 
 pub clear-spec : {M : Type 1} → statement M
 clear-spec =
@@ -47,6 +50,7 @@ clear-spec =
     (tie.spec
     Inv-loop
     μ-loop
+    returns
     loop-holds
     mul-v
     slice-write-v
@@ -54,4 +58,4 @@ clear-spec =
     loop-less
     loop-again
     same-length
-    returns)
+    returns-2)

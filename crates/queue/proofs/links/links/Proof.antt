@@ -4,8 +4,8 @@ use native.Mathlib.Omega.{arith}
 use Prim.Native.Nat.{_≤_, _-_}
 use lib.ListN.{length}
 use lib.Seq.{length-take-le}
-use Rattle.queue.specs.parents.Links.{Joined, outputsLinked}
-use Rattle.queue.proofs.LinkLaws.{wantedTo, blocks-start, blocks-go, blocks-end}
+use Rattle.queue.specs.parents.Links.{Joined, Zero, outputsLinked}
+use Rattle.queue.proofs.LinkLaws.{wantedTo, blocks-start, blocks-go, blocks-end, zero-now}
 use borrow.Author.Needs.{needs}
 use Rattle.queue.proofs.links.links.Statement.{statement}
 use Rattle.queue.proofs.links.links.Tie as tie
@@ -16,13 +16,13 @@ use Rattle.queue.proofs.links.keep_rows.Reads as keep-rows-reads
 use Rattle.queue.proofs.links.link_block.Reads as link-block-reads
 
 abbrev Inv-loop : tie.InvT-loop
-Inv-loop s at slots₀ t₀ v₀ bits₀ w a₀ slots t v bits a = Joined w bits₀ bits (outputsLinked s at (wantedTo s at a)) × (a ≤ length at) × (length v ≡ length v₀) × (length slots ≡ length slots₀) × (length t ≡ length t₀)
+Inv-loop s at slots₀ t₀ v₀ bits₀ w a₀ slots t v bits a = Joined w bits₀ bits (outputsLinked s at (wantedTo s at a)) × (a ≤ length at) × (length v ≡ length v₀) × (length slots ≡ length slots₀) × (length t ≡ length t₀) × (a ≡ 0 → Zero slots)
 
 abbrev μ-loop : tie.MeasureT-loop
 μ-loop s at slots₀ t₀ v₀ bits₀ w a₀ slots t v bits a = length at - a
 
 loop-holds : tie.Need-loop-holds Inv-loop μ-loop
-loop-holds c = (blocks-start (c .before .before .before .before .before .before .args .w) (c .before .before .before .before .before .before .args .s .now) (c .before .before .before .before .before .before .args .at .now) (c .before .before .before .before .before .before .args .bits .now), omega arith, refl, refl, refl)
+loop-holds c = (blocks-start (c .before .before .before .before .before .before .args .w) (c .before .before .before .before .before .before .args .s .now) (c .before .before .before .before .before .before .args .at .now) (c .before .before .before .before .before .before .args .bits .now), omega arith, refl, refl, refl, λ _. c .before .before .before .before .before .before .pre .8)
 
 clear-requires : tie.Need-clear-requires Inv-loop μ-loop
 clear-requires c κs = search needs
@@ -31,7 +31,7 @@ clear-requires-2 : tie.Need-clear-requires-2 Inv-loop μ-loop
 clear-requires-2 c κs = search needs
 
 keep-rows-requires : tie.Need-keep-rows-requires Inv-loop μ-loop
-keep-rows-requires c κs = (c .before .before .before .before .before .before .before .before .before .before .before .before .before .before .before .before .before .before .before .pre .0, c .before .before .before .before .before .before .before .before .before .before .before .before .before .before .before .before .before .before .before .pre .1, c .before .before .before .before .before .before .before .before .before .before .before .before .before .before .before .before .before .before .before .pre .2, c .before .before .before .before .before .before .before .before .before .before .before .loop-test .taken, c .before .before .before .before .before .before .before .before .before .before .before .before .before .before .before .before .before .before .before .pre .3, omega (arith, c .before .before .before .before .before .before .before .before .before .before .before .before .before .before .before .before .before .before .before .pre .4, c .before .before .before .before .before .before .before .before .before .before .before .before .loop .inv .2), omega (arith, c .before .before .before .before .before .before .before .before .before .before .before .before .before .before .before .before .before .before .before .pre .5, c .before .before .before .before .before .before .before .before .before .before .before .before .loop .inv .3), omega (arith, c .before .before .before .before .before .before .before .before .before .before .before .before .before .before .before .before .before .before .before .pre .6, c .before .before .before .before .before .before .before .before .before .before .before .before .loop .inv .4), c .before .before .before .before .before .before .before .before .before .clear .ensures)
+keep-rows-requires c κs = (c .before .before .before .before .before .before .before .before .before .before .before .before .before .before .before .before .before .before .before .pre .0, c .before .before .before .before .before .before .before .before .before .before .before .before .before .before .before .before .before .before .before .pre .1, c .before .before .before .before .before .before .before .before .before .before .before .before .before .before .before .before .before .before .before .pre .2, c .before .before .before .before .before .before .before .before .before .before .before .loop-test .taken, c .before .before .before .before .before .before .before .before .before .before .before .before .before .before .before .before .before .before .before .pre .3, omega (arith, c .before .before .before .before .before .before .before .before .before .before .before .before .before .before .before .before .before .before .before .pre .4, c .before .before .before .before .before .before .before .before .before .before .before .before .loop .inv .2), omega (arith, c .before .before .before .before .before .before .before .before .before .before .before .before .before .before .before .before .before .before .before .pre .5, c .before .before .before .before .before .before .before .before .before .before .before .before .loop .inv .3), omega (arith, c .before .before .before .before .before .before .before .before .before .before .before .before .before .before .before .before .before .before .before .pre .6, c .before .before .before .before .before .before .before .before .before .before .before .before .loop .inv .4), zero-now (c .before .before .before .before .before .before .before .before .before .before .before .before .loop .a) (c .before .before .before .before .before .before .before .before .before .clear .ensures) (c .before .before .before .before .before .before .before .before .before .before .before .before .loop .inv .5))
 
 slice-relend-prefix-link-block : tie.Need-slice-relend-prefix-link-block Inv-loop μ-loop
 slice-relend-prefix-link-block c = omega (arith, c .before .before .before .before .before .before .before .before .keep-rows .ensures .3)
@@ -46,7 +46,7 @@ loop-less : tie.Need-loop-less Inv-loop μ-loop
 loop-less c = omega (arith, c .before .before .before .before .before .before .before .before .before .before .before .before .before .before .before .keep-rows .ensures .1, c .before .before .before .before .before .before .before .before .before .before .before .before .before .before .before .keep-rows .ensures .2)
 
 loop-again : tie.Need-loop-again Inv-loop μ-loop
-loop-again c = (blocks-go (c .before .before .before .before .before .before .before .before .before .before .before .before .before .before .before .before .before .before .before .before .before .before .before .before .before .before .before .before .loop .a) (c .before .before .before .before .before .before .before .before .before .before .before .before .before .before .before .keep-rows .result .next) (c .before .before .before .before .before .before .before .before .before .before .before .before .before .before .before .before .before .before .before .before .before .before .before .before .before .before .before .before .before .before .before .before .before .before .before .args .s .now) (c .before .before .before .before .before .before .before .before .before .before .before .before .before .before .before .before .before .before .before .before .before .before .before .before .before .before .before .before .before .before .before .before .before .before .before .args .at .now) (omega (arith, c .before .before .before .before .before .before .before .before .before .before .before .before .before .before .before .keep-rows .ensures .1)) (c .before .before .before .before .before .before .before .before .before .before .before .before .before .before .before .before .before .before .before .before .before .before .before .before .before .before .before .before .loop .inv .0) (c .before .before .before .before .before .before .before .before .before .before .before .before .before .before .before .keep-rows .ensures .0) (c .before .before .before .before .link-block .ensures), c .before .before .before .before .before .before .before .before .before .before .before .before .before .before .before .keep-rows .ensures .2, omega (arith, c .before .before .before .before .before .before .before .before .before .before .before .before .before .before .before .before .before .before .before .before .before .before .before .before .before .before .before .before .loop .inv .2), omega (arith, c .before .before .before .before .before .before .before .before .before .before .before .before .before .before .before .before .before .before .before .before .before .before .before .before .before .before .before .before .loop .inv .3), omega (arith, c .before .before .before .before .before .before .before .before .before .before .before .before .before .before .before .before .before .before .before .before .before .before .before .before .before .before .before .before .loop .inv .4))
+loop-again c = (blocks-go (c .before .before .before .before .before .before .before .before .before .before .before .before .before .before .before .before .before .before .before .before .before .before .before .before .before .before .before .before .loop .a) (c .before .before .before .before .before .before .before .before .before .before .before .before .before .before .before .keep-rows .result .next) (c .before .before .before .before .before .before .before .before .before .before .before .before .before .before .before .before .before .before .before .before .before .before .before .before .before .before .before .before .before .before .before .before .before .before .before .args .s .now) (c .before .before .before .before .before .before .before .before .before .before .before .before .before .before .before .before .before .before .before .before .before .before .before .before .before .before .before .before .before .before .before .before .before .before .before .args .at .now) (omega (arith, c .before .before .before .before .before .before .before .before .before .before .before .before .before .before .before .keep-rows .ensures .1)) (c .before .before .before .before .before .before .before .before .before .before .before .before .before .before .before .before .before .before .before .before .before .before .before .before .before .before .before .before .loop .inv .0) (c .before .before .before .before .before .before .before .before .before .before .before .before .before .before .before .keep-rows .ensures .0) (c .before .before .before .before .link-block .ensures), c .before .before .before .before .before .before .before .before .before .before .before .before .before .before .before .keep-rows .ensures .2, omega (arith, c .before .before .before .before .before .before .before .before .before .before .before .before .before .before .before .before .before .before .before .before .before .before .before .before .before .before .before .before .loop .inv .2), omega (arith, c .before .before .before .before .before .before .before .before .before .before .before .before .before .before .before .before .before .before .before .before .before .before .before .before .before .before .before .before .loop .inv .3), omega (arith, c .before .before .before .before .before .before .before .before .before .before .before .before .before .before .before .before .before .before .before .before .before .before .before .before .before .before .before .before .loop .inv .4), λ e. absurd (let z : ⊥ = omega (arith, c .before .before .before .before .before .before .before .before .before .before .before .before .before .before .before .keep-rows .ensures .1) in z))
 
 same-length : tie.Need-same-length Inv-loop μ-loop
 same-length c = c .before .loop .inv .3

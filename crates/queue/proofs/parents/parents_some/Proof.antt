@@ -29,7 +29,7 @@ slice-aggregate-links-4 : tie.Need-slice-aggregate-links-4
 slice-aggregate-links-4 c = search needs
 
 links-requires : tie.Need-links-requires
-links-requires c κs = (c .before .before .before .before .before .before .before .before .pre .0 .known, c .before .before .before .before .before .before .before .before .pre .0 .short, c .before .before .before .before .before .before .before .before .pre .1, omega (arith, c .before .before .before .before .before .before .before .before .pre .3, c .before .before .before .before .before .before .before .before .pre .4), omega arith, omega arith, omega arith, (square (length (c .before .before .before .before .before .before .before .before .args .at .now)) (c .before .before .before .before .before .before .before .before .args .w) 1024 16 (omega (arith, c .before .before .before .before .before .before .before .before .pre .3, c .before .before .before .before .before .before .before .before .pre .4)) (c .before .before .before .before .before .before .before .before .pre .4)))
+links-requires c κs = (c .before .before .before .before .before .before .before .before .pre .0 .known, c .before .before .before .before .before .before .before .before .pre .0 .short, c .before .before .before .before .before .before .before .before .pre .1, omega (arith, c .before .before .before .before .before .before .before .before .pre .3, c .before .before .before .before .before .before .before .before .pre .4), omega arith, omega arith, omega arith, (square (length (c .before .before .before .before .before .before .before .before .args .at .now)) (c .before .before .before .before .before .before .before .before .args .w) 1024 16 (omega (arith, c .before .before .before .before .before .before .before .before .pre .3, c .before .before .before .before .before .before .before .before .pre .4)) (c .before .before .before .before .before .before .before .before .pre .4)), zero-array 32768)
 
 fill-ones-requires : tie.Need-fill-ones-requires
 fill-ones-requires c κs = search needs
