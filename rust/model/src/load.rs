@@ -42,6 +42,30 @@ pub enum Links {
     Spread,
 }
 
+const IDS: [Ids; 6] = [
+    Ids::Random,
+    Ids::Front,
+    Ids::Ends,
+    Ids::Filter,
+    Ids::Sum,
+    Ids::Repeated,
+];
+
+const LINKS: [Links; 5] = [
+    Links::Apart,
+    Links::Ring,
+    Links::Chain,
+    Links::Reversed,
+    Links::Spread,
+];
+
+/// All pairs that a load can have.
+pub fn kinds() -> impl Iterator<Item = (Ids, Links)> {
+    let with = |ids| LINKS.into_iter().map(move |links| (ids, links));
+    let made = |kind: &(Ids, Links)| *kind != (Ids::Repeated, Links::Spread);
+    IDS.into_iter().flat_map(with).filter(made)
+}
+
 fn box_id(ids: Ids, n: u64) -> Id {
     let mut rng = Rng::new(n);
     let (front, a, b, end) = (rng.u64(), rng.u64(), rng.u64(), rng.u64());

@@ -3,7 +3,7 @@
 
 use std::collections::{BTreeMap, BTreeSet};
 
-use model::load::{self, Ids, Links, Load};
+use model::load::{self, Load};
 use model::parents::parents_first;
 use model::random::{self, Rng};
 use model::{
@@ -337,34 +337,23 @@ fn the_call_on_queues() {
 /// Of each load the list that it has to give.
 #[test]
 fn loads() {
-    for ids in [Ids::Random, Ids::Front, Ids::Sum, Ids::Repeated] {
-        for links in [
-            Links::Apart,
-            Links::Ring,
-            Links::Chain,
-            Links::Reversed,
-            Links::Spread,
-        ] {
-            if (ids, links) == (Ids::Repeated, Links::Spread) {
-                continue;
-            }
-            for queued in [0, 1, 2, 3, 20] {
-                let load = Load {
-                    limits: [20, 100, 2, 4],
-                    queued,
-                    mined: 2,
-                    tombstones: 2,
-                    boxes: 4,
-                    bytes: 3,
-                    ids,
-                    links,
-                };
-                let queue = load::queue(&load);
-                assert!(model::sound::is_sound(&queue));
-                let listed = parents_first(&queue, TimeMs(0), Height(0));
-                let listed: Vec<Id> = listed.iter().map(|record| record.id).collect();
-                assert_eq!(listed, load::parents_first(&load), "{load:?}");
-            }
+    for (ids, links) in load::kinds() {
+        for queued in [0, 1, 2, 3, 20] {
+            let load = Load {
+                limits: [20, 100, 2, 4],
+                queued,
+                mined: 2,
+                tombstones: 2,
+                boxes: 4,
+                bytes: 3,
+                ids,
+                links,
+            };
+            let queue = load::queue(&load);
+            assert!(model::sound::is_sound(&queue));
+            let listed = parents_first(&queue, TimeMs(0), Height(0));
+            let listed: Vec<Id> = listed.iter().map(|record| record.id).collect();
+            assert_eq!(listed, load::parents_first(&load), "{load:?}");
         }
     }
 }

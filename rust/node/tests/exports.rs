@@ -650,56 +650,38 @@ fn parents_first_of_large_queues() {
 fn parents_first_of_loads() {
     let mut met = Met::default();
     let rng = &mut Rng::new(1);
-    for ids in [
-        Ids::Random,
-        Ids::Front,
-        Ids::Ends,
-        Ids::Filter,
-        Ids::Sum,
-        Ids::Repeated,
-    ] {
-        for links in [
-            Links::Apart,
-            Links::Ring,
-            Links::Chain,
-            Links::Reversed,
-            Links::Spread,
+    for (ids, links) in load::kinds() {
+        // 8,192 inputs are the most but for the last three.
+        for (queued, boxes) in [
+            (1, 5),
+            (63, 5),
+            (64, 128),
+            (65, 1),
+            (512, 16),
+            (513, 15),
+            (1_024, 8),
+            (2_048, 4),
+            (65, 128),
+            (512, 17),
+            (2_048, 5),
         ] {
-            if (ids, links) == (Ids::Repeated, Links::Spread) {
-                continue;
-            }
-            // 8,192 inputs are the most but for the last three.
-            for (queued, boxes) in [
-                (1, 5),
-                (63, 5),
-                (64, 128),
-                (65, 1),
-                (512, 16),
-                (513, 15),
-                (1_024, 8),
-                (2_048, 4),
-                (65, 128),
-                (512, 17),
-                (2_048, 5),
-            ] {
-                let load = Load {
-                    limits: [1_024, 2_048, 2, boxes],
-                    queued,
-                    mined: 0,
-                    tombstones: 2,
-                    boxes,
-                    bytes: 1,
-                    ids,
-                    links,
-                };
-                let (queue, listed) = (load::queue(&load), load::parents_first(&load));
-                let moment = (TimeMs(0), Height(0));
-                parents_first_is(&mut met, rng, &queue, moment, &listed);
-                // One of them is due, and nobody waits for it any more.
-                let moment = (TimeMs(5), Height(0));
-                let listed = counters::parents_first(&queue, moment.0, moment.1);
-                parents_first_is(&mut met, rng, &queue, moment, &listed);
-            }
+            let load = Load {
+                limits: [1_024, 2_048, 2, boxes],
+                queued,
+                mined: 0,
+                tombstones: 2,
+                boxes,
+                bytes: 1,
+                ids,
+                links,
+            };
+            let (queue, listed) = (load::queue(&load), load::parents_first(&load));
+            let moment = (TimeMs(0), Height(0));
+            parents_first_is(&mut met, rng, &queue, moment, &listed);
+            // One of them is due, and nobody waits for it any more.
+            let moment = (TimeMs(5), Height(0));
+            let listed = counters::parents_first(&queue, moment.0, moment.1);
+            parents_first_is(&mut met, rng, &queue, moment, &listed);
         }
     }
     met.expect(&[4, 100]);
