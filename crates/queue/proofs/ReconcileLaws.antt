@@ -40,7 +40,9 @@ use Rattle.queue.specs.SelectAs.{Row, rows, Even, Table, ahead?, idAt}
 use Rattle.queue.specs.Touching.{appliedIn, ownIds, InEntry, Judged, changed?, changes?}
 use Rattle.queue.specs.Releasing.{nextR, nextV, nextL, minedHolder?, minedOf, Stands, StandsAt, bytesAt, MinedRow, FallingRows, MinedRows, MinedGathered, walkR, walkC}
 use Rattle.queue.specs.Rebuilding.{keptOf, keptL}
-use Rattle.queue.specs.Reconciling.{asked, LentTo, JudgedIn, anyTouched, wholeQ, GoneAre, ChangedIs, cursorKind, cursorTo, CursorTold, WholeTo, FloorFor, goneBytes, ReconcileTold}
+use Rattle.queue.specs.Decided.{decided-number}
+use Rattle.queue.specs.paper.Decisions.{decisions}
+use Rattle.queue.specs.Reconciling.{asked, LentTo, JudgedIn, anyTouched, wholeQ, GoneAre, DecidedAre, ChangedIs, cursorKind, cursorTo, CursorTold, WholeTo, FloorFor, goneBytes, ReconcileTold}
 use Rattle.queue.specs.paper.Records.{Bytes, Id, Limits, Rec, Queue}
 use Rattle.queue.specs.paper.Lists.{isSome, one, any?, count, filter, find, sort, map, concat, maybe, isEmpty?}
 use Rattle.queue.specs.paper.Sound.{need, finishRight?, holder?, mined?, content}
@@ -212,6 +214,9 @@ module _ {s : Bytes} {a : Area} (w : AreaIn s a) {height : ℕ} {tip : Id} {t : 
             few = let y = length-take r gone in let x = min-le-left r (length gone) in omega arith;
           },
         )
+
+    pub decided-are : {d : ℕ} → d ≡ length (take c ra) → DecidedAre s (asked height tip t k caught ids m window) d
+    decided-are {d} e q x = e ∙ mined-even .ranks ∙ G .all ∙ ap length mined-is ∙ sym (decided-number C (w .q)) ∙ ap (λ z. length (decisions C z)) (one-queue s (w .is) x)
 
   -- ---- the whole area
   module _ {gone : List ℕ} (G : GoneAre s (asked height tip t k caught ids m window) gone) where

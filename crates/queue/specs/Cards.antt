@@ -10,13 +10,14 @@ use lib.ListN.{length, take, replicate}
 use Rattle.queue.specs.declared.Answer.{Answer}
 use Rattle.queue.specs.Hex.{textOf, digOf}
 use Rattle.queue.specs.paper.Records.{Bytes, Id, Limits, Rec, Queue, queued, mined, conflicted}
-use Rattle.queue.specs.paper.Lists.{all?, find, map, concat}
+use Rattle.queue.specs.paper.Lists.{one, all?, find, map, concat}
 use Rattle.queue.specs.paper.Ids.{cmpL, same?, rise?}
 use Rattle.queue.specs.paper.Sound.{need, sound?, inRange, counts?, right?, distinct?, apart?, used?, clash?}
 use Rattle.queue.specs.paper.Area.{termsBytes, placeBytes, heldBytes, recBytes, headBytes, queueBytes, areaBytes, imageBytes, over}
-use Rattle.queue.specs.paper.Changing.{Out, refused, done, top, named?, committed, moved, newRec, admit, finished, finishThose, forget, cancel, due?, expire, Applied, confirm, touch, releases, reconcile, reopened, reopen, setCursor, touchedRecs, toRelease}
+use Rattle.queue.specs.paper.Changing.{Out, refused, done, top, named?, committed, moved, newRec, admit, finished, finishThose, forget, cancel, due?, expire, Applied, Reconciling, confirm, touch, releases, reconcile, reopened, reopen, setCursor, touchedRecs, toRelease}
 use Rattle.queue.specs.paper.Calls.{kindNumber, number, idsBytes, fresh, settleNext}
 use Rattle.queue.specs.paper.Fees.{Best, bestFees, bestBytes, searchOf}
+use Rattle.queue.specs.paper.Decisions.{entered, decide, decisions}
 use Rattle.queue.specs.paper.Parents.{listed, waitsFor?, parentsFirstAt}
 
 -- the number that a call gives back: a refusal's own, or 100 and the kind
@@ -77,8 +78,11 @@ enterWith ins i n now due dueHeight q = admit (record {
 abbrev enter : ℕ → ℕ → ℕ → Option ℕ → Option ℕ → Queue → Out Rec
 enter = enterWith []
 
+abbrev watching : ℕ → ℕ → List Applied → Reconciling
+watching height window applied = record { height = height; tip = id 8; applied = applied; caughtUp = false; available = []; window = window }
+
 abbrev watch : ℕ → ℕ → List Applied → Queue → Out (Bool × List Id)
-watch height window applied q = reconcile (record { height = height; tip = id 8; applied = applied; caughtUp = false; available = []; window = window }) q
+watch height window applied q = reconcile (watching height window applied) q
 
 abbrev mined50 : ℕ → List Applied
 mined50 i = record { id = id i; height = 50; block = id 7 } ∷ []
@@ -191,6 +195,19 @@ listsAt? now height recs numbers =
 
 abbrev lists? : List Row → List ℕ → Bool
 lists? rows numbers = listsAt? 0 0 (map waiting rows) numbers
+
+-- document 02, P5: a reconciliation of a sound queue decides these ids in this order, and releases those with 1
+abbrev decides? : ℕ → ℕ → List Applied → Queue → List ℕ → List ℕ → Bool
+decides? height window applied q numbers gone =
+    let d = decisions (watching height window applied) q in
+    sound? q && (same? (concat (map (λ x. x .id) d)) (concat (map id numbers)) && same? (map (λ x. one (x .released)) d) gone)
+
+-- one Mined and one pending holder under P 1
+abbrev oneMined : Queue
+oneMined = after (enter 2 3 0 none none) (after (watch 50 100 (mined50 1)) (after (enter 1 3 0 none none) (fresh (limits 1 10 1 1))))
+
+abbrev numbered : ℕ → Queue → Queue
+numbered n q = record { persisted = q .persisted; limits = q .limits; revision = q .revision; cursor = q .cursor; tip = q .tip; counter = n; recs = q .recs }
 
 abbrev cards : List Bool
 cards =
@@ -316,8 +333,27 @@ cards =
     ∷ lists? ((1, (9, (73 ∷ 52 ∷ [], []))) ∷ (2, (8, (72 ∷ [], []))) ∷ (3, (7, (70 ∷ [], 71 ∷ []))) ∷ (4, (6, (71 ∷ [], 70 ∷ []))) ∷ (5, (5, (61 ∷ [], 62 ∷ [])))
     ∷ (6, (4, (64 ∷ [], 64 ∷ []))) ∷ (7, (3, (60 ∷ [], 61 ∷ []))) ∷ (8, (2, (51 ∷ [], 63 ∷ []))) ∷ (9, (1, (50 ∷ [], 60 ∷ []))) ∷ (10, (0, (53 ∷ [], 73 ∷ []))) ∷ [])
     (2 ∷ 6 ∷ 8 ∷ 9 ∷ 7 ∷ 5 ∷ 10 ∷ 1 ∷ [])
+    -- P5: nobody Mined; one Mined, kept and released
+    ∷ decides? 50 0 [] small [] []
+    ∷ decides? 50 1 [] confirmed (1 ∷ []) (0 ∷ [])
+    ∷ decides? 51 1 [] confirmed (1 ∷ []) (1 ∷ [])
+    -- the highest first; each is decided, also behind the first one released
+    ∷ decides? 149 100 [] twoMined (2 ∷ 1 ∷ []) (0 ∷ 0 ∷ [])
+    ∷ decides? 150 100 [] twoMined (2 ∷ 1 ∷ []) (1 ∷ 1 ∷ [])
+    -- one that this call confirms is decided too; with P 1 exceeded the lower one goes
+    ∷ decides? 50 100 [] oneMined (1 ∷ []) (0 ∷ [])
+    ∷ decides? 50 100 (mined50 2) oneMined (2 ∷ 1 ∷ []) (0 ∷ 1 ∷ [])
+    -- confirmed anew, elsewhere: once, at the new height
+    ∷ decides? 51 1 (record { id = id 1; height = 51; block = id 7 } ∷ []) confirmed (1 ∷ []) (0 ∷ [])
+    -- a Mined tombstone is not decided, nor is one that becomes Mined
+    ∷ decides? 50 0 [] (after (watch 50 0 []) confirmed) [] []
+    ∷ decides? 50 0 (mined50 1) (after (cancel (id 1)) (after (enter 1 3 0 none none) small)) [] []
+    -- 15 by those released: two of two have no room, two have just room, and none needs none
+    ∷ eqb (gives (watch 150 100 [] (numbered (top - 1) twoMined))) 15
+    ∷ eqb (gives (watch 150 100 [] (numbered (top - 2) twoMined))) 102
+    ∷ eqb (gives (watch 149 100 [] (numbered top twoMined))) 103
     ∷ []
 
 pub all-cards : all? (λ b. b) cards ≡ true
-unfolding cmpL over need sound? inRange counts? right? rise? distinct? apart? used? clash? termsBytes placeBytes heldBytes recBytes headBytes queueBytes areaBytes imageBytes committed moved newRec admit finished finishThose forget cancel due? expire confirm touch releases touchedRecs toRelease reconcile reopened reopen setCursor textOf digOf idsBytes bestBytes searchOf listed waitsFor?
+unfolding cmpL over need sound? inRange counts? right? rise? distinct? apart? used? clash? termsBytes placeBytes heldBytes recBytes headBytes queueBytes areaBytes imageBytes committed moved newRec admit finished finishThose forget cancel due? expire confirm touch releases touchedRecs toRelease reconcile entered decide decisions reopened reopen setCursor textOf digOf idsBytes bestBytes searchOf listed waitsFor?
 all-cards = refl

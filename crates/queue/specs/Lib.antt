@@ -28,6 +28,7 @@ pub mod Keeps
 pub mod Admits
 pub mod Cards
 pub mod Reconciles
+pub mod Decided
 pub mod NoHolder
 pub mod Checked
 pub mod Arguments

@@ -25,6 +25,7 @@ use Rattle.queue.specs.paper.Records.{Bytes, Id, Queue}
 use Rattle.queue.specs.paper.Lists.{isSome, one, any?, map, concat, isEmpty?}
 use Rattle.queue.specs.paper.Area.{areaBytes, over}
 use Rattle.queue.specs.paper.Changing.{Reconciling, touch, releaseOne, trimmed, committed, moved, topHeight, reconcile, ownOf, touchedRecs, toRelease}
+use Rattle.queue.specs.paper.Decisions.{decisions}
 use Rattle.queue.specs.Checked.{Outcome, told}
 use Rattle.queue.specs.paper.Calls.{releasedBytes}
 use Rattle.queue.specs.declared.area.Area.{Area}
@@ -63,6 +64,10 @@ pub record GoneAre (s : Bytes) (c : Reconciling) (gone : List ℕ) : Type 0 wher
   pub are : (q : Queue) → readArea s ≡ some q → map (idAt s) gone ≡ toRelease c q
   pub placed : All (λ p. p + 33 ≤ length s) gone
   pub few : length gone ≤ 2048
+
+-- how many Mined holders the walk decided
+abbrev pub DecidedAre : Bytes → Reconciling → ℕ → Type 0
+DecidedAre s c n = (q : Queue) → readArea s ≡ some q → n ≡ length (decisions c q)
 
 -- did a record change, or is one released?
 abbrev pub ChangedIs : Bytes → Reconciling → Bool → Type 0

@@ -4,6 +4,7 @@ pub mod Ids
 pub mod Sound
 pub mod Area
 pub mod Changing
+pub mod Decisions
 pub mod Reading
 pub mod Calls
 pub mod Fees

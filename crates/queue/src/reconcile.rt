@@ -16,6 +16,7 @@ use super::put::put_be;
 use super::put::put_u8;
 use super::rebuild::order_ranks;
 use super::rebuild::put_all;
+use super::release::Walked;
 use super::release::gather_mined;
 use super::release::release;
 use super::select::order;
@@ -37,13 +38,13 @@ ghost use Rattle.queue.specs.Opens.{limits};
 ghost use Rattle.queue.specs.SelectAs.{rows, Even, ahead?};
 ghost use Rattle.queue.specs.Releasing.{StandsAt, walkR};
 ghost use Rattle.queue.specs.CallsAs.{AreaIn};
-ghost use Rattle.queue.specs.Reconciling.{asked, LentTo, JudgedIn, GoneAre, ChangedIs, WholeTo, goneBytes, FloorFor, CursorTold, ReconcileTold};
+ghost use Rattle.queue.specs.Reconciling.{asked, LentTo, JudgedIn, GoneAre, DecidedAre, ChangedIs, WholeTo, goneBytes, FloorFor, CursorTold, ReconcileTold};
 ghost use Rattle.queue.specs.paper.Lists.{one, sort};
 ghost use Rattle.queue.specs.paper.Changing.{topHeight};
 ghost use Rattle.queue.specs.Checked.{outcome, reconcileOf};
 ghost use Rattle.queue.specs.paper.Calls.{reconcileArgs};
 
-// The rows in order, and the places of those released to the front of gone; returns how many.
+// The rows in order, then the walk.
 fn release_rows(
     s: &[u8],
     ranks: &mut [u64],
@@ -54,15 +55,16 @@ fn release_rows(
     p: u64,
     b: u64,
     gone: &mut [usize],
-) -> usize
+) -> Walked
     requires { ⌜ Even (length (now ranks)) (now ranks) (now times) (now places) × (length (now ranks) ≤ 2048) × (length (now gone) ≡ 2048) × All (StandsAt (now s)) (rows (now ranks) (now times) (now places)) ⌝ }
-    ensures { λ r. ⌜ (r ≤ length (now (ranks .entry))) × (take r (now (gone .exit)) ≡ walkR (limits p b 0 0) (height .0) window (now (s .entry)) 0 0 (sort ahead? (rows (now (ranks .entry)) (now (times .entry)) (now (places .entry))))) × (length (now (gone .exit)) ≡ length (now (gone .entry))) ⌝ }
+    ensures { λ r. ⌜ (r .gone ≤ length (now (ranks .entry))) × (take (r .gone) (now (gone .exit)) ≡ walkR (limits p b 0 0) (height .0) window (now (s .entry)) 0 0 (sort ahead? (rows (now (ranks .entry)) (now (times .entry)) (now (places .entry))))) × (length (now (gone .exit)) ≡ length (now (gone .entry))) × (r .decided ≡ length (now (ranks .entry))) ⌝ }
 {
     order(ranks, times, places);
     release(s, ranks, places, height, window, p, b, gone)
 }
 
-// The places of the released: the Mined holders after their verdicts in a table, in order, and walked.
+// The one pass over the confirmations: the Mined holders after their verdicts in a table, in order, and walked. It says how many it
+// decided, and leaves the places of the released in gone.
 fn release_all(
     s: &[u8],
     a: Area,
@@ -79,9 +81,9 @@ fn release_all(
     times: &mut [u64],
     places: &mut [usize],
     gone: &mut [usize],
-) -> usize
+) -> Walked
     requires { ⌜ AreaIn (now s) a × LentTo (height .0) tip (now t) k caught (now ids) m window × JudgedIn (now s) a (now t) k caught (now ids) m (now vs) × Even 2048 (now ranks) (now times) (now places) × (length (now gone) ≡ 2048) ⌝ }
-    ensures { λ r. ⌜ (r ≤ 2048) × GoneAre (now (s .entry)) (asked (height .0) tip (now (t .entry)) k caught (now (ids .entry)) m window) (take r (now (gone .exit))) × (length (now (gone .exit)) ≡ 2048) ⌝ }
+    ensures { λ r. ⌜ (r .gone ≤ 2048) × GoneAre (now (s .entry)) (asked (height .0) tip (now (t .entry)) k caught (now (ids .entry)) m window) (take (r .gone) (now (gone .exit))) × (length (now (gone .exit)) ≡ 2048) × DecidedAre (now (s .entry)) (asked (height .0) tip (now (t .entry)) k caught (now (ids .entry)) m window) (r .decided) ⌝ }
 {
     let o = a.open;
     let h = o.head;
@@ -294,7 +296,7 @@ fn reconcile_lent(
     let mut times = [0u64; 2048];
     let mut places = [0usize; 2048];
     let mut gone = [0usize; 2048];
-    let g = release_all(
+    let w = release_all(
         cur,
         a,
         height,
@@ -324,8 +326,8 @@ fn reconcile_lent(
         m,
         window,
         &vs[..n],
-        &gone[..g],
-        &mut ranks[..g],
+        &gone[..w.gone],
+        &mut ranks[..w.gone],
         out,
     )
 }

@@ -110,7 +110,13 @@ pub fn add_place(gone: &mut [usize], g: usize, out: bool, q: usize) -> usize
     g
 }
 
-// The places of the released, in the order of the walk, to the front of gone; returns how many.
+// What the walk came to: how many Mined holders it decided, and how many of these are released.
+pub struct Walked {
+    pub decided: u64,
+    pub gone: usize,
+}
+
+// The one walk over the Mined holders: each is decided, and the places of the released go to the front of gone, in this order.
 pub fn release(
     s: &[u8],
     ranks: &[u64],
@@ -120,20 +126,25 @@ pub fn release(
     p: u64,
     b: u64,
     gone: &mut [usize],
-) -> usize
+) -> Walked
     requires { ⌜ (length (now ranks) ≡ length (now places)) × (length (now places) ≤ length (now gone)) × (length (now places) ≤ 2048) × All (Stands (now s)) (now places) ⌝ }
-    ensures { λ r. ⌜ (r ≤ length (now (places .entry))) × (take r (now (gone .exit)) ≡ walkC (limits p b 0 0) (height .0) window (now (s .entry)) 0 0 (now (ranks .entry)) (now (places .entry))) × (length (now (gone .exit)) ≡ length (now (gone .entry))) ⌝ }
+    ensures { λ r. ⌜ (r .gone ≤ length (now (places .entry))) × (take (r .gone) (now (gone .exit)) ≡ walkC (limits p b 0 0) (height .0) window (now (s .entry)) 0 0 (now (ranks .entry)) (now (places .entry))) × (length (now (gone .exit)) ≡ length (now (gone .entry))) × (r .decided ≡ length (now (places .entry))) ⌝ }
 {
     let mut j: usize = 0;
     let mut g: usize = 0;
+    let mut decided: u64 = 0;
     let mut sum: u64 = 0;
     while j < places.len() {
         let q = places[j];
         let h = ranks[j];
         sum = sum + bytes_at(s, q);
-        let out = is_out(height, window, p, b, h, j as u64, sum);
+        let out = is_out(height, window, p, b, h, decided, sum);
         g = add_place(gone, g, out, q);
+        decided = decided + 1;
         j += 1;
     }
-    g
+    Walked {
+        decided: decided,
+        gone: g,
+    }
 }

@@ -57,13 +57,13 @@ array-share-prefix-gone : tie.Need-array-share-prefix-gone
 array-share-prefix-gone c = search needs
 
 slice-aggregate-reconcile-gone-2 : tie.Need-slice-aggregate-reconcile-gone-2
-slice-aggregate-reconcile-gone-2 c = sym (length-take-le (c .before .before .before .before .before .before .before .release-all .result) _ (omega (arith, c .before .before .before .before .before .before .before .release-all .ensures .0, c .before .before .before .before .before .before .before .release-all .ensures .2)))
+slice-aggregate-reconcile-gone-2 c = sym (length-take-le (c .before .before .before .before .before .before .before .release-all .result .gone) _ (omega (arith, c .before .before .before .before .before .before .before .release-all .ensures .0, c .before .before .before .before .before .before .before .release-all .ensures .2)))
 
 array-borrow-prefix-ranks : tie.Need-array-borrow-prefix-ranks
 array-borrow-prefix-ranks c = omega (arith, c .before .before .before .before .before .before .before .release-all .ensures .0)
 
 slice-aggregate-reconcile-gone-3 : tie.Need-slice-aggregate-reconcile-gone-3
-slice-aggregate-reconcile-gone-3 c = sym (length-take-le (c .before .before .before .before .before .before .before .before .release-all .result) _ (omega (arith, c .before .before .before .before .before .before .before .before .release-all .ensures .0)))
+slice-aggregate-reconcile-gone-3 c = sym (length-take-le (c .before .before .before .before .before .before .before .before .release-all .result .gone) _ (omega (arith, c .before .before .before .before .before .before .before .before .release-all .ensures .0)))
 
 reconcile-gone-requires : tie.Need-reconcile-gone-requires
 reconcile-gone-requires c κs = (c .before .before .before .before .before .before .before .before .before .before .before .before .before .before .before .before .before .before .before .before .before .before .before .before .before .pre .0, c .before .before .before .before .before .before .before .before .before .before .before .before .before .before .before .before .before .before .before .before .before .before .before .before .before .pre .1, record { all = c .before .before .before .before .before .before .before .before .before .before .before .before .before .before .before .before .judge .ensures }, c .before .before .before .before .before .before .before .before .before .release-all .ensures .1, c .before .before .before .before .before .before .before .before .before .before .before .before .before .before .before .before .before .before .before .before .before .before .before .before .before .pre .2)

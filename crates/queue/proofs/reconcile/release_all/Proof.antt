@@ -11,7 +11,7 @@ use Rattle.queue.proofs.PutLaws.{kept}
 use Rattle.queue.specs.SelectAs.{Even}
 use Rattle.queue.proofs.SelectLaws.{even-self, even-to}
 use Rattle.queue.proofs.AdmitLaws.{tally-asks}
-use Rattle.queue.proofs.ReconcileLaws.{verdicts-fit, few-mined, mined-even, mined-few, mined-stands, gone-are, gathered-to}
+use Rattle.queue.proofs.ReconcileLaws.{verdicts-fit, few-mined, mined-even, mined-few, mined-stands, gone-are, decided-are, gathered-to}
 use borrow.Author.Needs.{needs}
 use Rattle.queue.proofs.reconcile.release_all.Statement.{statement}
 use Rattle.queue.proofs.reconcile.release_all.Tie as tie
@@ -57,7 +57,7 @@ same-length-4 : tie.Need-same-length-4
 same-length-4 c = search needs
 
 returns : tie.Need-returns
-returns c = let e = gone-are (c .before .before .before .before .before .before .before .before .before .before .before .before .before .before .before .before .before .before .before .before .before .before .before .before .before .before .before .before .before .before .before .before .before .pre .0) (c .before .before .before .before .before .before .before .before .before .before .before .before .before .before .before .before .before .before .before .before .before .before .before .before .before .before .before .before .before .before .before .before .before .pre .1) (c .before .before .before .before .before .before .before .before .before .before .before .before .before .before .before .before .before .before .before .before .before .before .before .before .before .before .before .before .before .before .before .before .before .pre .2) (gathered-to (c .before .before .before .before .before .before .before .before .before .before .before .before .before .before .before .before .before .before .before .before .before .before .before .before .before .before .before .before .before .before .before .before .before .pre .3 .ranks) (c .before .before .before .before .before .before .before .before .before .before .before .before .before .before .before .before .before .before .before .gather-mined .ensures)) _ _ (c .before .before .before .before .before .before .before .before .release-rows .ensures .0) (c .before .before .before .before .before .before .before .before .release-rows .ensures .1) in (e .0, e .1, c .before .before .before .before .before .before .before .before .release-rows .ensures .2 ∙ c .before .before .before .before .before .before .before .before .before .before .before .before .before .before .before .before .before .before .before .before .before .before .before .before .before .before .before .before .before .before .before .before .before .pre .4)
+returns c = let e = gone-are (c .before .before .before .before .before .before .before .before .before .before .before .before .before .before .before .before .before .before .before .before .before .before .before .before .before .before .before .before .before .before .before .before .before .pre .0) (c .before .before .before .before .before .before .before .before .before .before .before .before .before .before .before .before .before .before .before .before .before .before .before .before .before .before .before .before .before .before .before .before .before .pre .1) (c .before .before .before .before .before .before .before .before .before .before .before .before .before .before .before .before .before .before .before .before .before .before .before .before .before .before .before .before .before .before .before .before .before .pre .2) (gathered-to (c .before .before .before .before .before .before .before .before .before .before .before .before .before .before .before .before .before .before .before .before .before .before .before .before .before .before .before .before .before .before .before .before .before .pre .3 .ranks) (c .before .before .before .before .before .before .before .before .before .before .before .before .before .before .before .before .before .before .before .gather-mined .ensures)) _ _ (c .before .before .before .before .before .before .before .before .release-rows .ensures .0) (c .before .before .before .before .before .before .before .before .release-rows .ensures .1) in (e .0, e .1, c .before .before .before .before .before .before .before .before .release-rows .ensures .2 ∙ c .before .before .before .before .before .before .before .before .before .before .before .before .before .before .before .before .before .before .before .before .before .before .before .before .before .before .before .before .before .before .before .before .before .pre .4, decided-are (c .before .before .before .before .before .before .before .before .before .before .before .before .before .before .before .before .before .before .before .before .before .before .before .before .before .before .before .before .before .before .before .before .before .pre .0) (c .before .before .before .before .before .before .before .before .before .before .before .before .before .before .before .before .before .before .before .before .before .before .before .before .before .before .before .before .before .before .before .before .before .pre .1) (c .before .before .before .before .before .before .before .before .before .before .before .before .before .before .before .before .before .before .before .before .before .before .before .before .before .before .before .before .before .before .before .before .before .pre .2) (gathered-to (c .before .before .before .before .before .before .before .before .before .before .before .before .before .before .before .before .before .before .before .before .before .before .before .before .before .before .before .before .before .before .before .before .before .pre .3 .ranks) (c .before .before .before .before .before .before .before .before .before .before .before .before .before .before .before .before .before .before .before .gather-mined .ensures)) (c .before .before .before .before .before .before .before .before .release-rows .ensures .3))
 
 pub release-all-spec : {M : Type 1} → statement M
 release-all-spec =
