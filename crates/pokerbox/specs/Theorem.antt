@@ -21,9 +21,10 @@ use Rattle.queue.specs.Lists.{Pairwise, sub-pairwise, sub-trans}
 use Rattle.queue.specs.ListLaws.{filter-sub, sort-apart}
 use Rattle.queue.specs.ReadLaws.{false-true}
 use Rattle.queue.specs.Areas.{readArea}
-use Rattle.queue.specs.Sounds.{Fit, Apart, apart-sym, of-apart}
+use Rattle.queue.specs.Sounds.{Fit, Apart, apart-sym, of-apart, of-sound}
 use Rattle.queue.specs.Bound.{fit-stands}
 use Rattle.queue.specs.Reconciles.{Diff, diff-sym}
+use Rattle.queue.specs.Decided.{one-pass}
 use Rattle.queue.specs.paper.Records.{Bytes, Limits, Rec, Queue}
 use Rattle.queue.specs.paper.Lists.{filter, map}
 use Rattle.queue.specs.paper.Sound.{inRange, need, among?, different?}
@@ -37,7 +38,7 @@ use Rattle.queue.specs.paper.Parents.{parentsFirstAt, parentsFirstOf, waitsFor?
 use Rattle.queue.specs.parents.Laws.{inside-pairwise}
 use Rattle.queue.specs.parents.Claims.{selected-differ, selected-once, such, parents-first}
 use Rattle.pokerbox.specs.paper.Machine.{Step, call, cut, Told, run, Plain, restart, plainStep, World, worldStep, starts}
-use Rattle.pokerbox.specs.paper.Claim.{CallOk, StepOk, StepsOk, mover, movedBy, movedLast, Holds, Claim, Template, Templates, BestSet, BestSets, Ordered, OrderedLists}
+use Rattle.pokerbox.specs.paper.Claim.{CallOk, StepOk, StepsOk, mover, movedBy, movedLast, Holds, Claim, Template, Templates, BestSet, BestSets, Ordered, OrderedLists, OnePasses}
 use Rattle.pokerbox.specs.Answers.{Good, work-good}
 use Rattle.pokerbox.specs.Runs.{image-room, fresh-is, starts-is, Inv, Same, restart-inv, step-same, run-same, images, TextOk}
 
@@ -155,6 +156,12 @@ unfolding OrderedLists
 parents-first-in-a-template m first second xs range room ok now height =
     let s = in-area m first second xs range room ok in
     ordered (run (worldStep m) (world m first second) xs .1 .area) (run (plainStep m) (restart m none) xs .1 .queue) now height (s .0) (s .1)
+
+pub decided-once : OnePasses
+unfolding OnePasses
+decided-once m first second xs range room ok c =
+    let q = run (plainStep m) (restart m none) xs .1 .queue in
+    one-pass c q (of-sound q (in-area m first second xs range room ok .1 .sound))
 
 -- ---- the same for a node that always lends the image writer as much as any image takes
 

@@ -15,6 +15,8 @@ use Rattle.queue.specs.paper.Records.{Bytes, Limits, Queue}
 use Rattle.queue.specs.paper.Lists.{maybe, isEmpty?, map}
 use Rattle.queue.specs.paper.Sound.{inRange, need, holders, holderBytes, tombstones, apart?, different?}
 use Rattle.queue.specs.paper.Area.{areaBytes, imageBytes}
+use Rattle.queue.specs.paper.Changing.{Reconciling}
+use Rattle.queue.specs.paper.Decisions.{OnePass}
 use Rattle.queue.specs.paper.Reading.{selectedAt}
 use Rattle.queue.specs.paper.Calls.{idsBytes, Call, admitting, cancelling, expiring, reconciling, reopening, settingCursor, work, byKind, freshOf, toldOut, selectionAtOf}
 use Rattle.queue.specs.paper.Fees.{bestFees, candidates, sizeOf, feeOf, searchOf, budget?, bestFeesOf}
@@ -148,3 +150,7 @@ pub record Ordered (area : Bytes) (q : Queue) (now height : ℕ) : Type 0 where
 
 unfoldable pub OrderedLists : Type 0
 OrderedLists = Always λ m xs v p. (now height : ℕ) → Ordered (v .1 .area) (p .1 .queue) now height
+
+-- Document 02, P5: whatever came before, each reconciliation of the queue in the area decides every Mined holder exactly once.
+unfoldable pub OnePasses : Type 0
+OnePasses = Always λ m xs v p. (c : Reconciling) → OnePass c (p .1 .queue)
