@@ -250,16 +250,16 @@ fn queue(limits: Limits, records: usize, tombstones: usize) -> Queue {
     queue
 }
 
-/// The queue with this record Mined.
-fn with_mined(queue: &Queue, id: &Id) -> Queue {
+/// The queue with these records Mined.
+fn with_mined(queue: &Queue, which: impl Fn(&Record) -> bool) -> Queue {
     let mut queue = queue.clone();
-    let mut records = queue.records.iter_mut();
-    let record = records.find(|record| record.id == *id).expect("a record");
-    record.state = State::Mined;
-    record.mined = Some(Confirmation {
-        height: Height(99),
-        block: nth_id(0),
-    });
+    for record in queue.records.iter_mut().filter(|record| which(record)) {
+        record.state = State::Mined;
+        record.mined = Some(Confirmation {
+            height: Height(99),
+            block: nth_id(0),
+        });
+    }
     queue
 }
 
@@ -300,7 +300,7 @@ impl<'a> Bench<'a> {
         let oracle = PrivateTransactionQueue::default();
         inspect::set_whole_store(&oracle, store.clone());
         let id = nth_id(2);
-        let mined = with_mined(&queue, &id);
+        let mined = with_mined(&queue, |record| record.id == id);
         Bench {
             area: area::encode(&queue),
             next: vec![0; limits.need()],
@@ -338,6 +338,7 @@ impl<'a> Bench<'a> {
         rows.push(self.reconciliation());
         rows.push(self.commit());
         rows.extend(self.parts());
+        rows.extend(self.walks());
         rows.extend(self.readings());
         for row in rows {
             let number = |value: f64| match value {
@@ -608,6 +609,47 @@ impl<'a> Bench<'a> {
             });
         }
         rows
+    }
+
+    /// The walk over the confirmations: all records are Mined; none is released, or all are.
+    fn walks(&mut self) -> [Row; 2] {
+        let mined = with_mined(&self.queue, |record| record.holder.is_some());
+        let (area, store) = (area::encode(&mined), whole_store(&mined));
+        let (block, height) = (nth_id(0), 101);
+        let (tip, found) = (hex(&block), BTreeMap::new());
+        [
+            (720, 0, 101, "none released"),
+            (0, mined.holders().count(), 102, "all released"),
+        ]
+        .map(|(window, released, number, work)| {
+            let args = ReconcileArgs {
+                height,
+                tip: &block,
+                applied: &[],
+                caught_up: 1,
+                available: &[],
+                window,
+            };
+            Row {
+                work: format!("part: reconcile alone, all Mined, {work}"),
+                oracle: Some(time(
+                    || inspect::set_whole_store(&self.oracle, store.clone()),
+                    || {
+                        let (queue, tip) = (&self.oracle, tip.clone());
+                        let done = queue.reconcile(height, tip, &found, true, |_| false, window);
+                        assert_eq!(done.expect("reconciled").released.len(), released);
+                    },
+                )),
+                library: Some(time(
+                    || (),
+                    || {
+                        let out = &mut self.out;
+                        let given = Library.reconcile(&area, &mut self.next, &args, out);
+                        assert_eq!(given, number);
+                    },
+                )),
+            }
+        })
     }
 
     fn readings(&mut self) -> Vec<Row> {

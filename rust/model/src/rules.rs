@@ -190,10 +190,12 @@ pub struct Reconciled {
 }
 
 pub fn reconcile(queue: &Queue, given: &Reconciliation) -> Result<Change<Reconciled>, Refusal> {
+    let decisions = decisions(queue, given);
+    let released = decisions.iter().filter(|decision| decision.released);
+    let released: Vec<Id> = released.map(|decision| decision.id).collect();
+    check_counter(queue, released.len())?;
     let mut next = queue.clone();
     next.records = reconciled_records(queue, given);
-    let released = settled(&next, given.height, given.window);
-    check_counter(queue, released.len())?;
     let changed = next.records != queue.records || !released.is_empty();
     for id in &released {
         finish(&mut next, id);
@@ -227,14 +229,21 @@ fn reconciled_records(queue: &Queue, given: &Reconciliation) -> Vec<Record> {
         .flat_map(|holder| holder.outputs.iter().copied())
         .collect();
     let is_available = |id: &Id| given.available.contains(id) || queued_outputs.contains(id);
-    queue
-        .records
-        .iter()
+    let mut records = entered(queue, given);
+    for record in &mut records {
+        if given.caught_up && record.state.is_pending() {
+            *record = classified(record, record.inputs().iter().all(is_available));
+        }
+    }
+    records
+}
+
+/// The records after `applied` was entered.
+fn entered(queue: &Queue, given: &Reconciliation) -> Vec<Record> {
+    let records = queue.records.iter();
+    records
         .map(|record| match given.applied.get(&record.id) {
             Some(found) => confirmed(record, found),
-            None if given.caught_up && record.state.is_pending() => {
-                classified(record, record.inputs().iter().all(is_available))
-            }
             None => record.clone(),
         })
         .collect()
@@ -269,26 +278,34 @@ fn classified(record: &Record, available: bool) -> Record {
     }
 }
 
-/// Mined holders by (mined height, id), highest first, counting all seen: those whose depth is at
-/// least the window, or before which P were seen, or with which the bytes so far exceed B.
-fn settled(queue: &Queue, height: Height, window: u32) -> Vec<Id> {
-    let mut mined: Vec<(Height, Id, usize)> = queue
-        .records
+/// What a reconciliation decides of a Mined holder: document 02, P5.
+#[derive(Debug, Clone, Copy, PartialEq, Eq)]
+pub struct Decision {
+    pub id: Id,
+    /// Else it is kept.
+    pub released: bool,
+}
+
+/// "Every Mined holder, kept or released, exactly once", after `applied` was entered: by (mined
+/// height, id), highest first, counting all seen. Released are those whose depth is at least the
+/// window, or before which P were seen, or with which the bytes so far exceed B.
+pub fn decisions(queue: &Queue, given: &Reconciliation) -> Vec<Decision> {
+    let entered = entered(queue, given);
+    let mut mined: Vec<(Height, Id, usize)> = entered
         .iter()
-        .filter(|record| record.holder.is_some())
+        .filter(|record| record.is_mined_holder())
         .filter_map(|record| Some((record.mined?.height, record.id, record.byte_count())))
         .collect();
     mined.sort_by(|a, b| b.cmp(a));
+    let limits = &queue.limits;
     let mut bytes = 0;
-    let mut released = Vec::new();
-    for (seen, (mined_height, id, count)) in mined.into_iter().enumerate() {
+    let decide = |(seen, (height, id, count)): (usize, (Height, Id, usize))| {
         bytes += count;
-        let deep = height.0.saturating_sub(mined_height.0) >= window;
-        if deep || seen >= queue.limits.pending as usize || bytes > queue.limits.bytes as usize {
-            released.push(id);
-        }
-    }
-    released
+        let deep = given.height.0.saturating_sub(height.0) >= given.window;
+        let released = deep || seen >= limits.pending as usize || bytes > limits.bytes as usize;
+        Decision { id, released }
+    };
+    mined.into_iter().enumerate().map(decide).collect()
 }
 
 /// Reopening: each Mined record of these loses height and block. None is Mined: kind 0.

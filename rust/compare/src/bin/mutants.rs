@@ -1,6 +1,7 @@
 //! Builds the comparison with each wrong edit in `mutants.txt`, of the oracle's text or the model's,
-//! and looks whether the library is then found to differ. The edits are made in a copy of the
-//! sources. Of an edit of the model's best fees or parents first, its own tests are run as well.
+//! and looks whether the library is then found to differ, or of an edit of the model's `rules.rs`
+//! the model. The edits are made in a copy of the sources. Of an edit of the model's best fees,
+//! parents first or decisions, its own tests are run as well.
 
 use std::collections::BTreeSet;
 use std::fs;
@@ -20,6 +21,9 @@ usage: mutants [--seconds N] [--seed N] [--only N] [--jobs N] [--dir DIR] [--wri
   --jobs     for cargo (1)
   --dir      as for compare
   --write    writes the table to docs/tables/noticing.md, too; not with --only";
+
+/// Document 01's calls in the model, which are compared with the oracle.
+const RULES: &str = "model/src/rules.rs";
 
 struct Settings {
     seconds: String,
@@ -41,10 +45,22 @@ struct Edit {
     call: String,
     /// No answer can differ.
     same: bool,
+    /// The comparison cannot notice; the model's tests have to.
+    tests: bool,
     /// A withdrawn id is selected, and nothing else is looked at.
     withdrawn: bool,
     old: String,
     new: String,
+}
+
+impl Edit {
+    /// What is compared with the oracle.
+    fn side(&self) -> &'static str {
+        match self.file.as_str() {
+            RULES => "model",
+            _ => "library",
+        }
+    }
 }
 
 /// What a comparison said.
@@ -164,7 +180,8 @@ fn run(settings: &Settings) -> Result<bool, String> {
                 ("a stop".into(), format!("{seconds:.2}"), what.clone())
             }
             Seen::Nothing(events) => {
-                let note = if edit.same { ", as it must be" } else { "" };
+                let silent = edit.same || edit.tests;
+                let note = if silent { ", as it must be" } else { "" };
                 (
                     format!("NOT in {events} events{note}"),
                     "-".into(),
@@ -172,17 +189,21 @@ fn run(settings: &Settings) -> Result<bool, String> {
                 )
             }
         };
+        let failed = tests.is_some_and(|count| count > 0);
         let by = match tests {
-            None | Some(0) => by,
-            Some(count) => format!("{by}; {count} of the model's tests"),
+            Some(count) if failed => format!("{by}; {count} of the model's tests"),
+            _ => by,
         };
-        let (what, call) = (&edit.what, &edit.call);
+        let (what, call, side) = (&edit.what, &edit.call, edit.side());
         tables.line(format_args!(
-            "| {number} | {what} | {call} | library | {after} | {seconds} | {by} |"
+            "| {number} | {what} | {call} | {side} | {after} | {seconds} | {by} |"
         ));
         let is_noticed = !matches!(seen, Seen::Nothing(_));
-        noticed += usize::from(is_noticed);
-        right += usize::from(is_noticed != edit.same);
+        noticed += usize::from(is_noticed || (edit.tests && failed));
+        right += usize::from(match edit.tests {
+            true => !is_noticed && failed,
+            false => is_noticed != edit.same,
+        });
     }
     tables.line(format_args!(
         "\n{tried} edits, {noticed} noticed, {right} as they must be."
@@ -204,10 +225,12 @@ fn seen(settings: &Settings, copy: &Copy, edit: &Edit) -> Result<Built, String> 
         return Ok(Err(error));
     }
     let look = if edit.withdrawn { "withdrawn" } else { "all" };
-    let seen = compare(settings, &copy.target.join("debug/compare"), look)?;
+    let program = copy.target.join("debug/compare");
+    let seen = compare(settings, &program, edit.side(), look)?;
     let tests = match edit.call.as_str() {
         "best_fees" => "fees",
         "selection_parents_first" => "parents",
+        _ if edit.file == RULES => "decisions",
         _ => return Ok(Ok((seen, None))),
     };
     let said = copy.cargo(settings, &["test", "--package", "model", "--test", tests])?;
@@ -314,7 +337,7 @@ fn read(text: &str) -> Result<Vec<Edit>, String> {
         let parts: Vec<&str> = head.split(" | ").collect();
         let (what, call, mark) = match parts[..] {
             [what, call] => (what, call, ""),
-            [what, call, mark @ ("same" | "withdrawn")] => (what, call, mark),
+            [what, call, mark @ ("same" | "tests" | "withdrawn")] => (what, call, mark),
             _ => return Err(format!("not the head of an edit: {head}")),
         };
         if lines.next() != Some("<<<") {
@@ -327,6 +350,7 @@ fn read(text: &str) -> Result<Vec<Edit>, String> {
             what: what.into(),
             call: call.into(),
             same: mark == "same",
+            tests: mark == "tests",
             withdrawn: mark == "withdrawn",
             old: old.join("\n"),
             new: new.join("\n"),
@@ -335,10 +359,10 @@ fn read(text: &str) -> Result<Vec<Edit>, String> {
     Ok(edits)
 }
 
-fn compare(settings: &Settings, program: &Path, look: &str) -> Result<Seen, String> {
+fn compare(settings: &Settings, program: &Path, side: &str, look: &str) -> Result<Seen, String> {
     let mut command = Command::new(program);
     command.args(["--seconds", &settings.seconds, "--seed", &settings.seed]);
-    command.args(["--look", look]);
+    command.args(["--side", side, "--look", look]);
     command.stderr(Stdio::piped());
     if let Some(folder) = &settings.folder {
         command.args(["--dir", folder]);
