@@ -5,10 +5,11 @@ use mathlib.Core.List.{List, [], _∷_, _++_}
 use Prim.Native.Nat.{ℕ, zero, suc, _+_, _-_, _*_, _≤_, _<_}
 use native.Mathlib.Omega.{arith}
 use native.Mathlib.Numerals.{add-one}
+use lib.Bits.{bitOr, or-add-and, and-le-l, and-le-r}
 use lib.Dec.{eqb}
 use lib.ListN.{length, drop, take, getD}
 use lib.Seq.{drop-cons}
-use borrow.Author.Tests.{eq-eqb, ne-eqb}
+use borrow.Author.Tests.{eq-eqb, ne-eqb, eqb-true, eqb-false}
 use Rattle.queue.specs.Codec.{Codec, cases}
 use Rattle.queue.specs.Frames.{recC, idC}
 use Rattle.queue.specs.Forms.{formC, afterIn, endsLine, Framed, framed}
@@ -89,6 +90,23 @@ module _ (z : Id) {v : Bytes} {n at i left : ℕ} (x : Scan idC (amongF z) v n a
   among-end e = end x e
 
 -- ---- zeros
+-- bits of two numbers together: none exactly where neither has any
+pub or-zero : (a b : ℕ) → eqb (bitOr a b) 0 ≡ (eqb a 0 && eqb b 0)
+or-zero a b =
+    let s = or-add-and a b in
+    let l = and-le-l a b in
+    let r = and-le-r a b in
+    cases (eqb (bitOr a b) 0)
+    (λ t. let z = eqb-true (bitOr a b) 0 t in
+    let a₀ : a ≡ 0 = omega arith in
+    let b₀ : b ≡ 0 = omega arith in
+    rw (t, eq-eqb a 0 a₀, eq-eqb b 0 b₀) refl)
+    (λ t. let z = eqb-false (bitOr a b) 0 t in cases (eqb a 0)
+    (λ u. let x = eqb-true a 0 u in cases (eqb b 0)
+    (λ v. let y = eqb-true b 0 v in absurd (z (omega arith)))
+    (λ v. rw (t, u, v) refl))
+    (λ u. rw (t, u) refl))
+
 zero-cut : (s : Bytes) (i to : ℕ) → i < to → to ≤ length s → zero? (take (to - i) (drop i s)) ≡ cond (eqb (getD s i 0) 0) (zero? (take (to - (i + 1)) (drop (i + 1) s))) false
 unfolding zero?
 zero-cut s i to h k = let e : to - i ≡ suc (to - (i + 1)) = omega arith in rw (drop-cons s i 0 (omega arith), e, add-one)

@@ -301,11 +301,11 @@ pub fn zeros(s: &[u8], from: usize, to: usize) -> bool
     requires { ⌜ (from ≤ to) × (to ≤ length (now s)) ⌝ }
     ensures { λ r. ⌜ r ≡ zero? (take (to - from) (drop from (now (s .entry)))) ⌝ }
 {
-    let mut ok = true;
+    let mut bits: u8 = 0;
     let mut i = from;
     while i < to {
-        ok = both(ok, s[i] == 0);
+        bits = bits | s[i];
         i += 1;
     }
-    ok
+    bits == 0
 }
