@@ -1,8 +1,8 @@
 -- Filled from its answers by tools/proofkit.py: change those, and fill it again.
-use mathlib.Core.Path.{sym, _∙_}
-use borrow.Author.Tests.{not-true, not-false}
 use Rattle.image.proofs.ImageLaws.{need-1, need-100}
 use borrow.Author.Needs.{needs}
+use borrow.Author.Tests.{not-false, not-true}
+use mathlib.Core.Path.{_∙_, sym}
 use Rattle.image.proofs.area_need.Statement.{statement}
 use Rattle.image.proofs.area_need.Tie as tie
 use Rattle.image.proofs.area_need.Reads as reads

@@ -1,7 +1,7 @@
 -- Filled from its answers by tools/proofkit.py: change those, and fill it again.
-use native.Mathlib.Omega.{arith}
-use Rattle.image.proofs.ImageLaws.{start-four, image-length}
+use Rattle.image.proofs.ImageLaws.{image-length, start-four}
 use borrow.Author.Needs.{needs}
+use native.Mathlib.Omega.{arith}
 use Rattle.image.proofs.image_len.Statement.{statement}
 use Rattle.image.proofs.image_len.Tie as tie
 use Rattle.image.proofs.image_len.Reads as reads

@@ -1,7 +1,7 @@
 -- Filled from its answers by tools/proofkit.py: change those, and fill it again.
-use borrow.Author.Tests.{not-true, not-false}
-use Rattle.image.proofs.ImageLaws.{limits-16, limits-100}
+use Rattle.image.proofs.ImageLaws.{limits-100, limits-16}
 use borrow.Author.Needs.{needs}
+use borrow.Author.Tests.{not-false, not-true}
 use Rattle.image.proofs.image_limits.Statement.{statement}
 use Rattle.image.proofs.image_limits.Tie as tie
 use Rattle.image.proofs.image_limits.Reads as reads

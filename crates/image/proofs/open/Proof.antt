@@ -1,7 +1,7 @@
 -- Filled from its answers by tools/proofkit.py: change those, and fill it again.
-use borrow.Author.Tests.{not-true, not-false}
-use Rattle.image.proofs.ImageLaws.{open-none, open-short, open-room, open-done}
+use Rattle.image.proofs.ImageLaws.{open-done, open-none, open-room, open-short}
 use borrow.Author.Needs.{needs}
+use borrow.Author.Tests.{not-false, not-true}
 use Rattle.image.proofs.open.Statement.{statement}
 use Rattle.image.proofs.open.Tie as tie
 use Rattle.image.proofs.open.Reads as reads

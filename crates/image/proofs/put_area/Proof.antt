@@ -1,5 +1,5 @@
 -- Filled from its answers by tools/proofkit.py: change those, and fill it again.
-use Rattle.image.proofs.ImageLaws.{four-room, frames-room, zeros-room, area-put}
+use Rattle.image.proofs.ImageLaws.{area-put, four-room, frames-room, zeros-room}
 use borrow.Author.Needs.{needs}
 use Rattle.image.proofs.put_area.Statement.{statement}
 use Rattle.image.proofs.put_area.Tie as tie

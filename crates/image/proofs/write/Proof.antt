@@ -1,7 +1,7 @@
 -- Filled from its answers by tools/proofkit.py: change those, and fill it again.
-use borrow.Author.Tests.{not-true, not-false}
-use Rattle.image.proofs.ImageLaws.{write-unsound, write-held, write-short, write-room, write-done}
+use Rattle.image.proofs.ImageLaws.{write-done, write-held, write-room, write-short, write-unsound}
 use borrow.Author.Needs.{needs}
+use borrow.Author.Tests.{not-false, not-true}
 use Rattle.image.proofs.write.Statement.{statement}
 use Rattle.image.proofs.write.Tie as tie
 use Rattle.image.proofs.write.Reads as reads

@@ -1,7 +1,7 @@
 -- Filled from its answers by tools/proofkit.py: change those, and fill it again.
-use mathlib.Core.Path.{_≡_, refl, sym, ap, _∙_}
-use Prim.Native.Nat.{ℕ, _+_}
+use Prim.Native.Nat.{_+_, ℕ}
 use borrow.Author.Needs.{needs}
+use mathlib.Core.Path.{ap}
 use Rattle.pokerbox.proofs.number.Statement.{statement}
 use Rattle.pokerbox.proofs.number.Tie as tie
 use Rattle.pokerbox.proofs.number.Reads as reads

@@ -1,7 +1,7 @@
 -- Filled from its answers by tools/proofkit.py: change those, and fill it again.
-use mathlib.Core.Path.{_≡_, refl, sym, ap, _∙_}
 use Rattle.queue.specs.paper.Calls.{gives}
 use borrow.Author.Needs.{needs}
+use mathlib.Core.Path.{ap}
 use Rattle.pokerbox.proofs.pokerbox_image.Statement.{statement}
 use Rattle.pokerbox.proofs.pokerbox_image.Tie as tie
 use Rattle.pokerbox.proofs.pokerbox_image.Reads as reads

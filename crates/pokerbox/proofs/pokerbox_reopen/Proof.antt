@@ -1,8 +1,8 @@
 -- Filled from its answers by tools/proofkit.py: change those, and fill it again.
-use mathlib.Core.Path.{_≡_, refl, sym, ap, _∙_}
 use Rattle.queue.specs.Checked.{reopen-is}
 use Rattle.queue.specs.paper.Calls.{gives}
 use borrow.Author.Needs.{needs}
+use mathlib.Core.Path.{_∙_, ap}
 use Rattle.pokerbox.proofs.pokerbox_reopen.Statement.{statement}
 use Rattle.pokerbox.proofs.pokerbox_reopen.Tie as tie
 use Rattle.pokerbox.proofs.pokerbox_reopen.Reads as reads

@@ -1,6 +1,5 @@
 -- Filled from its answers by tools/proofkit.py: change those, and fill it again.
-use mathlib.Core.Path.{_≡_, refl, sym, ap, _∙_}
-use Rattle.pokerbox.proofs.ExportLaws.{place-refused, place-done}
+use Rattle.pokerbox.proofs.ExportLaws.{place-done, place-refused}
 use borrow.Author.Needs.{needs}
 use Rattle.pokerbox.proofs.pokerbox_signed_bytes.Statement.{statement}
 use Rattle.pokerbox.proofs.pokerbox_signed_bytes.Tie as tie

@@ -1,6 +1,5 @@
 -- Filled from its answers by tools/proofkit.py: change those, and fill it again.
-use mathlib.Core.Path.{_≡_, refl, sym, ap, _∙_}
-use Rattle.pokerbox.proofs.ExportLaws.{sound-yes, sound-no}
+use Rattle.pokerbox.proofs.ExportLaws.{sound-no, sound-yes}
 use borrow.Author.Needs.{needs}
 use Rattle.pokerbox.proofs.sound.Statement.{statement}
 use Rattle.pokerbox.proofs.sound.Tie as tie

@@ -1,9 +1,9 @@
 -- Filled from its answers by tools/proofkit.py: change those, and fill it again.
-use native.Mathlib.Omega.{arith}
-use Rattle.queue.specs.View.{view-raw}
+use Rattle.image.proofs.ImageLaws.{room-copy, room-line, turned-copy, turned-line}
 use Rattle.queue.proofs.PutLaws.{kept}
-use Rattle.image.proofs.ImageLaws.{turned-copy, turned-line, room-copy, room-line}
+use Rattle.queue.specs.View.{view-raw}
 use borrow.Author.Needs.{needs}
+use native.Mathlib.Omega.{arith}
 use Rattle.image.proofs.frames.put_frame.Statement.{statement}
 use Rattle.image.proofs.frames.put_frame.Tie as tie
 use Rattle.image.proofs.frames.put_frame.Reads as reads

@@ -1,7 +1,7 @@
 -- Filled from its answers by tools/proofkit.py: change those, and fill it again.
-use native.Mathlib.Omega.{arith}
-use Rattle.image.proofs.ImageLaws.{Turning, turning, turn-within, turn-room, turn-on, turn-end}
+use Rattle.image.proofs.ImageLaws.{Turning, turn-end, turn-on, turn-room, turn-within, turning}
 use borrow.Author.Needs.{needs}
+use native.Mathlib.Omega.{arith}
 use Rattle.image.proofs.frames.put_frames.Statement.{statement}
 use Rattle.image.proofs.frames.put_frames.Tie as tie
 use Rattle.image.proofs.frames.put_frames.Reads as reads

@@ -1,7 +1,7 @@
 -- Filled from its answers by tools/proofkit.py: change those, and fill it again.
-use native.Mathlib.Omega.{arith}
 use Rattle.image.proofs.ImageLaws.{head-room, recs-room, store-put}
 use borrow.Author.Needs.{needs}
+use native.Mathlib.Omega.{arith}
 use Rattle.image.proofs.frames.put_store.Statement.{statement}
 use Rattle.image.proofs.frames.put_store.Tie as tie
 use Rattle.image.proofs.frames.put_store.Reads as reads

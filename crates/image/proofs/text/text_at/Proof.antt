@@ -1,10 +1,10 @@
 -- Filled from its answers by tools/proofkit.py: change those, and fill it again.
-use mathlib.Core.Path.{refl, sym, _∙_}
-use native.Mathlib.Omega.{arith}
-use borrow.Author.Tests.{not-true, not-false}
-use Rattle.image.proofs.ImageLaws.{text-facts, text-none, text-long, text-unsound, text-good}
+use Rattle.image.proofs.ImageLaws.{text-facts, text-good, text-long, text-none, text-unsound}
 use Rattle.queue.proofs.OpenLaws.{sound-range}
 use borrow.Author.Needs.{needs}
+use borrow.Author.Tests.{not-false, not-true}
+use mathlib.Core.Path.{_∙_, refl, sym}
+use native.Mathlib.Omega.{arith}
 use Rattle.image.proofs.text.text_at.Statement.{statement}
 use Rattle.image.proofs.text.text_at.Tie as tie
 use Rattle.image.proofs.text.text_at.Reads as reads

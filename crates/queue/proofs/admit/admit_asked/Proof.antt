@@ -1,14 +1,10 @@
 -- Filled from its answers by tools/proofkit.py: change those, and fill it again.
-use mathlib.Core.Path.{_≡_, refl, sym, ap, _∙_}
-use native.Mathlib.Omega.{arith}
-use mathlib.Core.Bool.{Bool, true, false, _&&_, _||_}
-use Prim.Native.Nat.{ℕ, _≤_, _+_, _-_, _*_, _/_, _<_}
-use lib.Dec.{eqb}
-use borrow.Author.Tests.{not-true, not-false}
+use Rattle.queue.proofs.AdmissionLaws.{admit-2, admit-3, admit-5, admit-6, admit-rest, id-whole, lent-in}
 use Rattle.queue.proofs.CallLaws.{view-long}
 use Rattle.queue.proofs.ExpireLaws.{area-in}
-use Rattle.queue.proofs.AdmissionLaws.{admit-3, admit-2, admit-5, admit-6, id-whole, lent-in, admit-rest}
 use borrow.Author.Needs.{needs}
+use borrow.Author.Tests.{not-false, not-true}
+use native.Mathlib.Omega.{arith}
 use Rattle.queue.proofs.admit.admit_asked.Statement.{statement}
 use Rattle.queue.proofs.admit.admit_asked.Tie as tie
 use Rattle.queue.proofs.admit.admit_asked.Reads as reads

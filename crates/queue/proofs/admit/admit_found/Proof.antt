@@ -1,14 +1,12 @@
 -- Filled from its answers by tools/proofkit.py: change those, and fill it again.
-use mathlib.Core.Path.{_≡_, refl, sym, ap, _∙_}
-use native.Mathlib.Omega.{arith}
-use mathlib.Core.Bool.{Bool, true, false, _&&_, _||_}
-use Prim.Native.Nat.{ℕ, _≤_, _+_, _-_, _*_, _/_, _<_}
-use lib.Dec.{eqb}
-use borrow.Author.Tests.{not-true, not-false}
-use Rattle.queue.specs.Admitting.{argsOf}
+use Rattle.queue.proofs.AdmissionLaws.{area-of, known-100, known-4, known-not}
 use Rattle.queue.proofs.CancelLaws.{entry-asks, put-asks}
-use Rattle.queue.proofs.AdmissionLaws.{area-of, known-4, known-100, known-not}
+use Rattle.queue.specs.Admitting.{argsOf}
 use borrow.Author.Needs.{needs}
+use lib.Dec.{eqb}
+use mathlib.Core.Bool.{Bool, _||_}
+use mathlib.Core.Path.{_∙_, ap, refl}
+use native.Mathlib.Omega.{arith}
 use Rattle.queue.proofs.admit.admit_found.Statement.{statement}
 use Rattle.queue.proofs.admit.admit_found.Tie as tie
 use Rattle.queue.proofs.admit.admit_found.Reads as reads

@@ -1,13 +1,8 @@
 -- Filled from its answers by tools/proofkit.py: change those, and fill it again.
-use mathlib.Core.Path.{_≡_, refl, sym, ap, _∙_}
-use native.Mathlib.Omega.{arith}
-use mathlib.Core.Bool.{Bool, true, false, _&&_, _||_}
-use Prim.Native.Nat.{ℕ, _≤_, _+_, _-_, _*_, _/_, _<_}
-use lib.Dec.{eqb}
-use borrow.Author.Tests.{not-true, not-false}
+use Rattle.queue.proofs.AdmissionLaws.{few-bytes, held-fit, new-102, new-4, short-label, terms-fit, tip-32, with-from}
 use Rattle.queue.proofs.WriteLaws.{head-in}
-use Rattle.queue.proofs.AdmissionLaws.{short-label, few-bytes, tip-32, terms-fit, held-fit, with-from, new-4, new-102}
 use borrow.Author.Needs.{needs}
+use native.Mathlib.Omega.{arith}
 use Rattle.queue.proofs.admit.admit_free.Statement.{statement}
 use Rattle.queue.proofs.admit.admit_free.Tie as tie
 use Rattle.queue.proofs.admit.admit_free.Reads as reads

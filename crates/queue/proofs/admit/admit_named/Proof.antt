@@ -1,14 +1,9 @@
 -- Filled from its answers by tools/proofkit.py: change those, and fill it again.
-use mathlib.Core.Path.{_≡_, refl, sym, ap, _∙_}
-use native.Mathlib.Omega.{arith}
-use mathlib.Core.Bool.{Bool, true, false, _&&_, _||_}
-use Prim.Native.Nat.{ℕ, _≤_, _+_, _-_, _*_, _/_, _<_}
-use lib.Dec.{eqb}
-use borrow.Author.Tests.{not-true, not-false}
-use Rattle.queue.specs.Admitting.{argsOf}
-use Rattle.queue.proofs.AdmitLaws.{tally-asks}
 use Rattle.queue.proofs.AdmissionLaws.{id-found, id-new}
+use Rattle.queue.proofs.AdmitLaws.{tally-asks}
+use Rattle.queue.specs.Admitting.{argsOf}
 use borrow.Author.Needs.{needs}
+use mathlib.Core.Path.{refl}
 use Rattle.queue.proofs.admit.admit_named.Statement.{statement}
 use Rattle.queue.proofs.admit.admit_named.Tie as tie
 use Rattle.queue.proofs.admit.admit_named.Reads as reads

@@ -1,12 +1,6 @@
 -- Filled from its answers by tools/proofkit.py: change those, and fill it again.
-use mathlib.Core.Path.{_≡_, refl, sym, ap, _∙_}
-use native.Mathlib.Omega.{arith}
-use mathlib.Core.Bool.{Bool, true, false, _&&_, _||_}
-use Prim.Native.Nat.{ℕ, _≤_, _+_, _-_, _*_, _/_, _<_}
-use lib.Dec.{eqb}
-use borrow.Author.Tests.{not-true, not-false}
+use Rattle.queue.proofs.AdmissionLaws.{few-bytes, few-ids, free-of, ids-lent, new-12, new-room, no-refusal}
 use Rattle.queue.proofs.AdmitLaws.{tally-asks}
-use Rattle.queue.proofs.AdmissionLaws.{ids-lent, few-ids, few-bytes, new-room, new-12, free-of, no-refusal}
 use borrow.Author.Needs.{needs}
 use Rattle.queue.proofs.admit.admit_new.Statement.{statement}
 use Rattle.queue.proofs.admit.admit_new.Tie as tie

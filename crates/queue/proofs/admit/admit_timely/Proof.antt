@@ -1,11 +1,5 @@
 -- Filled from its answers by tools/proofkit.py: change those, and fill it again.
-use mathlib.Core.Path.{_≡_, refl, sym, ap, _∙_}
-use native.Mathlib.Omega.{arith}
-use mathlib.Core.Bool.{Bool, true, false, _&&_, _||_}
-use Prim.Native.Nat.{ℕ, _≤_, _+_, _-_, _*_, _/_, _<_}
-use lib.Dec.{eqb}
-use borrow.Author.Tests.{not-true, not-false}
-use Rattle.queue.proofs.AdmissionLaws.{timely-7, timely-8, timely-9, timely, asked-in}
+use Rattle.queue.proofs.AdmissionLaws.{asked-in, timely, timely-7, timely-8, timely-9}
 use borrow.Author.Needs.{needs}
 use Rattle.queue.proofs.admit.admit_timely.Statement.{statement}
 use Rattle.queue.proofs.admit.admit_timely.Tie as tie

@@ -1,14 +1,11 @@
 -- Filled from its answers by tools/proofkit.py: change those, and fill it again.
-use mathlib.Core.Path.{_≡_, refl, sym, ap, _∙_}
-use native.Mathlib.Omega.{arith}
-use mathlib.Core.Bool.{Bool, true, false, _&&_}
-use Prim.Native.Nat.{ℕ, _≤_, _+_, _-_, _*_, _/_, _<_}
-use lib.ListN.{length}
+use Rattle.queue.proofs.AdmitLaws.{Placing, last-room, new-id, place-end, place-go, place-in, place-room, place-room-2, placing}
+use Rattle.queue.proofs.PutLaws.{kept}
 use Rattle.queue.specs.Admitting.{newOf}
 use Rattle.queue.specs.paper.Ids.{cmpL}
-use Rattle.queue.proofs.PutLaws.{kept}
-use Rattle.queue.proofs.AdmitLaws.{new-id, Placing, placing, place-in, place-room, place-room-2, place-go, last-room, place-end}
 use borrow.Author.Needs.{needs}
+use mathlib.Core.Path.{_∙_, ap, sym}
+use native.Mathlib.Omega.{arith}
 use Rattle.queue.proofs.admit.put_among.Statement.{statement}
 use Rattle.queue.proofs.admit.put_among.Tie as tie
 use Rattle.queue.proofs.admit.put_among.Reads as reads

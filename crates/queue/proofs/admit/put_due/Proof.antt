@@ -1,13 +1,9 @@
 -- Filled from its answers by tools/proofkit.py: change those, and fill it again.
-use mathlib.Core.Path.{_≡_, refl, sym, ap, _∙_}
-use native.Mathlib.Omega.{arith}
-use mathlib.Core.Bool.{Bool, true, false, _&&_}
-use Prim.Native.Nat.{ℕ, _≤_, _+_, _-_, _*_, _/_, _<_}
-use lib.ListN.{length}
-use Rattle.queue.specs.Admitting.{newOf}
+use Rattle.queue.proofs.AdmitLaws.{due-none, due-room, due-yes, new-long}
 use Rattle.queue.proofs.PutLaws.{sized}
-use Rattle.queue.proofs.AdmitLaws.{new-long, due-yes, due-room, due-none}
+use Rattle.queue.specs.Admitting.{newOf}
 use borrow.Author.Needs.{needs}
+use native.Mathlib.Omega.{arith}
 use Rattle.queue.proofs.admit.put_due.Statement.{statement}
 use Rattle.queue.proofs.admit.put_due.Tie as tie
 use Rattle.queue.proofs.admit.put_due.Reads as reads

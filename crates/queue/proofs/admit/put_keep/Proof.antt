@@ -1,11 +1,6 @@
 -- Filled from its answers by tools/proofkit.py: change those, and fill it again.
-use mathlib.Core.Path.{_≡_, refl, sym, ap, _∙_}
-use native.Mathlib.Omega.{arith}
-use mathlib.Core.Bool.{Bool, true, false, _&&_}
-use Prim.Native.Nat.{ℕ, _≤_, _+_, _-_, _*_, _/_, _<_}
-use lib.ListN.{length}
+use Rattle.queue.proofs.AdmitLaws.{keep-none, keep-room, keep-yes}
 use Rattle.queue.proofs.PutLaws.{sized}
-use Rattle.queue.proofs.AdmitLaws.{keep-yes, keep-room, keep-none}
 use borrow.Author.Needs.{needs}
 use Rattle.queue.proofs.admit.put_keep.Statement.{statement}
 use Rattle.queue.proofs.admit.put_keep.Tie as tie

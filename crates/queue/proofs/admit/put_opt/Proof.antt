@@ -1,12 +1,9 @@
 -- Filled from its answers by tools/proofkit.py: change those, and fill it again.
-use mathlib.Core.Path.{_≡_, refl, sym, ap, _∙_}
-use native.Mathlib.Omega.{arith}
-use mathlib.Core.Bool.{Bool, true, false, _&&_}
-use Prim.Native.Nat.{ℕ, _≤_, _+_, _-_, _*_, _/_, _<_}
-use lib.ListN.{length}
+use Rattle.queue.proofs.AdmitLaws.{opt-long, opt-none, opt-put, opt-short}
 use Rattle.queue.proofs.PutLaws.{kept}
-use Rattle.queue.proofs.AdmitLaws.{opt-put, opt-none, opt-long, opt-short}
 use borrow.Author.Needs.{needs}
+use lib.ListN.{length}
+use native.Mathlib.Omega.{arith}
 use Rattle.queue.proofs.admit.put_opt.Statement.{statement}
 use Rattle.queue.proofs.admit.put_opt.Tie as tie
 use Rattle.queue.proofs.admit.put_opt.Reads as reads

@@ -1,12 +1,8 @@
 -- Filled from its answers by tools/proofkit.py: change those, and fill it again.
-use mathlib.Core.Path.{_≡_, refl, sym, ap, _∙_}
-use native.Mathlib.Omega.{arith}
-use mathlib.Core.Bool.{Bool, true, false, _&&_}
-use Prim.Native.Nat.{ℕ, _≤_, _+_, _-_, _*_, _/_, _<_}
-use lib.ListN.{length}
-use Rattle.queue.proofs.PutLaws.{kept}
 use Rattle.queue.proofs.AdmitLaws.{entry-put}
+use Rattle.queue.proofs.PutLaws.{kept}
 use borrow.Author.Needs.{needs}
+use native.Mathlib.Omega.{arith}
 use Rattle.queue.proofs.admit.put_told.Statement.{statement}
 use Rattle.queue.proofs.admit.put_told.Tie as tie
 use Rattle.queue.proofs.admit.put_told.Reads as reads

@@ -1,14 +1,12 @@
 -- Filled from its answers by tools/proofkit.py: change those, and fill it again.
-use mathlib.Core.Path.{_≡_, refl, sym, ap, _∙_}
-use native.Mathlib.Omega.{arith}
-use mathlib.Core.Bool.{Bool, true, false, _&&_}
-use Prim.Native.Nat.{ℕ, _≤_, _+_, _-_, _*_, _/_, _<_}
-use lib.ListN.{length}
-use native.Mathlib.Nat.{mod-lt}
+use Prim.Native.Nat.{_+_, ℕ}
+use Rattle.queue.proofs.AdmitLaws.{new-id, with-asks, with-done, with-few, with-room}
 use Rattle.queue.proofs.PutLaws.{kept}
 use Rattle.queue.proofs.WriteLaws.{long-need}
-use Rattle.queue.proofs.AdmitLaws.{new-id, with-asks, with-few, with-room, with-done}
 use borrow.Author.Needs.{needs}
+use mathlib.Core.Path.{ap, refl}
+use native.Mathlib.Nat.{mod-lt}
+use native.Mathlib.Omega.{arith}
 use Rattle.queue.proofs.admit.put_with.Statement.{statement}
 use Rattle.queue.proofs.admit.put_with.Tie as tie
 use Rattle.queue.proofs.admit.put_with.Reads as reads

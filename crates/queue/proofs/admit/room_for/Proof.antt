@@ -1,11 +1,7 @@
 -- Filled from its answers by tools/proofkit.py: change those, and fill it again.
-use mathlib.Core.Path.{_≡_, refl, sym, ap, _∙_}
-use native.Mathlib.Omega.{arith}
-use mathlib.Core.Bool.{Bool, true, false, _&&_}
-use Prim.Native.Nat.{ℕ, _≤_, _+_, _-_, _*_, _/_, _<_}
-use lib.ListN.{length}
-use Rattle.queue.proofs.AdmitLaws.{many-is, bytes-is, room-10, room-11, room-11′, room-0}
+use Rattle.queue.proofs.AdmitLaws.{bytes-is, many-is, room-0, room-10, room-11, room-11′}
 use borrow.Author.Needs.{needs}
+use native.Mathlib.Omega.{arith}
 use Rattle.queue.proofs.admit.room_for.Statement.{statement}
 use Rattle.queue.proofs.admit.room_for.Tie as tie
 use Rattle.queue.proofs.admit.room_for.Reads as reads

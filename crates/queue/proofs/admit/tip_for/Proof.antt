@@ -1,13 +1,8 @@
 -- Filled from its answers by tools/proofkit.py: change those, and fill it again.
-use mathlib.Core.Path.{_≡_, refl, sym, ap, _∙_}
-use native.Mathlib.Omega.{arith}
-use mathlib.Core.Bool.{Bool, true, false, _&&_, _||_}
-use Prim.Native.Nat.{ℕ, _≤_, _+_, _-_, _*_, _/_, _<_}
-use lib.Dec.{eqb}
-use borrow.Author.Tests.{not-true, not-false}
+use Rattle.queue.proofs.AdmissionLaws.{tip-asked, tip-none, tip-own}
 use Rattle.queue.proofs.CallLaws.{view-long}
-use Rattle.queue.proofs.AdmissionLaws.{tip-own, tip-asked, tip-none}
 use borrow.Author.Needs.{needs}
+use native.Mathlib.Omega.{arith}
 use Rattle.queue.proofs.admit.tip_for.Statement.{statement}
 use Rattle.queue.proofs.admit.tip_for.Tie as tie
 use Rattle.queue.proofs.admit.tip_for.Reads as reads

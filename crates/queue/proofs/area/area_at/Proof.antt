@@ -1,11 +1,9 @@
 -- Filled from its answers by tools/proofkit.py: change those, and fill it again.
-use mathlib.Core.Path.{_≡_, refl, sym, ap, _∙_}
-use native.Mathlib.Omega.{arith}
-use mathlib.Core.Bool.{Bool, true, false, _&&_}
-use Prim.Native.Nat.{ℕ, _≤_, _+_, _-_, _*_, _<_}
-use borrow.Author.Tests.{not-true, not-false}
-use Rattle.queue.proofs.OpenLaws.{four, area-short, area-bad, store-facts, area-good}
+use Rattle.queue.proofs.OpenLaws.{area-bad, area-good, area-short, four, store-facts}
 use borrow.Author.Needs.{needs}
+use borrow.Author.Tests.{not-false, not-true}
+use mathlib.Core.Path.{refl}
+use native.Mathlib.Omega.{arith}
 use Rattle.queue.proofs.area.area_at.Statement.{statement}
 use Rattle.queue.proofs.area.area_at.Tie as tie
 use Rattle.queue.proofs.area.area_at.Reads as reads

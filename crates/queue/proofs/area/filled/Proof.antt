@@ -1,11 +1,8 @@
 -- Filled from its answers by tools/proofkit.py: change those, and fill it again.
-use mathlib.Core.Path.{_≡_, refl, sym, ap, _∙_}
-use native.Mathlib.Omega.{arith}
-use mathlib.Core.Bool.{Bool, true, false, _&&_}
-use Prim.Native.Nat.{ℕ, _≤_, _+_, _-_, _*_, _<_}
-use borrow.Author.Tests.{not-true, not-false}
-use Rattle.queue.proofs.OpenLaws.{sound-range, filled-unsound, filled-short, filled-over, filled-all}
+use Rattle.queue.proofs.OpenLaws.{filled-all, filled-over, filled-short, filled-unsound, sound-range}
 use borrow.Author.Needs.{needs}
+use borrow.Author.Tests.{not-false, not-true}
+use mathlib.Core.Path.{_∙_, sym}
 use Rattle.queue.proofs.area.filled.Statement.{statement}
 use Rattle.queue.proofs.area.filled.Tie as tie
 use Rattle.queue.proofs.area.filled.Reads as reads

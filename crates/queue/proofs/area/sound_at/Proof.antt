@@ -1,15 +1,12 @@
 -- Filled from its answers by tools/proofkit.py: change those, and fill it again.
-use mathlib.Core.Path.{_≡_, refl, sym, ap, _∙_}
-use native.Mathlib.Omega.{arith}
-use mathlib.Core.Bool.{Bool, true, false, _&&_, _||_}
-use Prim.Native.Nat.{ℕ, _≤_, _+_, _-_, _*_, _<_}
-use lib.ListN.{length}
-use borrow.Author.Tests.{not-true, not-false}
-use Rattle.queue.specs.Frames.{recC}
+use Rattle.queue.proofs.OpenLaws.{few-tombs, held-few, list-length, ranged, sound-in, sound-many, sound-out, sound-wrong, tombs-are}
 use Rattle.queue.specs.Forms.{formC}
+use Rattle.queue.specs.Frames.{recC}
 use Rattle.queue.specs.Reads.{listAt}
-use Rattle.queue.proofs.OpenLaws.{ranged, list-length, held-few, tombs-are, sound-out, sound-many, few-tombs, sound-wrong, sound-in}
 use borrow.Author.Needs.{needs}
+use borrow.Author.Tests.{not-false, not-true}
+use lib.ListN.{length}
+use mathlib.Core.Path.{_∙_, _≡_, sym}
 use Rattle.queue.proofs.area.sound_at.Statement.{statement}
 use Rattle.queue.proofs.area.sound_at.Tie as tie
 use Rattle.queue.proofs.area.sound_at.Reads as reads

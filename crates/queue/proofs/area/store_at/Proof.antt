@@ -1,11 +1,7 @@
 -- Filled from its answers by tools/proofkit.py: change those, and fill it again.
-use mathlib.Core.Path.{_≡_, refl, sym, ap, _∙_}
-use native.Mathlib.Omega.{arith}
-use mathlib.Core.Bool.{Bool, true, false, _&&_}
-use Prim.Native.Nat.{ℕ, _≤_, _+_, _-_, _*_, _<_}
-use borrow.Author.Tests.{not-true, not-false}
-use Rattle.queue.proofs.OpenLaws.{head-within, head-start, head-count, store-short, store-line, store-good}
+use Rattle.queue.proofs.OpenLaws.{head-count, head-start, head-within, store-good, store-line, store-short}
 use borrow.Author.Needs.{needs}
+use borrow.Author.Tests.{not-false, not-true}
 use Rattle.queue.proofs.area.store_at.Statement.{statement}
 use Rattle.queue.proofs.area.store_at.Tie as tie
 use Rattle.queue.proofs.area.store_at.Reads as reads

@@ -1,12 +1,9 @@
 -- Filled from its answers by tools/proofkit.py: change those, and fill it again.
-use mathlib.Core.Path.{_≡_, refl, sym, ap, _∙_}
-use native.Mathlib.Omega.{arith}
-use mathlib.Core.Bool.{Bool, true, false, _&&_}
-use Prim.Native.Nat.{ℕ, _≤_, _+_, _-_, _*_, _<_}
-use borrow.Author.Tests.{not-true, not-false}
-use Rattle.queue.proofs.CancelLaws.{cancel-3, cancel-2, cancel-5, find-asks, cancel-13, found-in, cancel-rest}
 use Rattle.queue.proofs.CallLaws.{view-long}
+use Rattle.queue.proofs.CancelLaws.{cancel-13, cancel-2, cancel-3, cancel-5, cancel-rest, find-asks, found-in}
 use borrow.Author.Needs.{needs}
+use borrow.Author.Tests.{not-false, not-true}
+use native.Mathlib.Omega.{arith}
 use Rattle.queue.proofs.calls.cancel.Statement.{statement}
 use Rattle.queue.proofs.calls.cancel.Tie as tie
 use Rattle.queue.proofs.calls.cancel.Reads as reads

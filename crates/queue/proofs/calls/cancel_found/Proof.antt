@@ -1,11 +1,8 @@
 -- Filled from its answers by tools/proofkit.py: change those, and fill it again.
-use mathlib.Core.Path.{_≡_, refl, sym, ap, _∙_}
-use native.Mathlib.Omega.{arith}
-use mathlib.Core.Bool.{Bool, true, false, _&&_}
-use Prim.Native.Nat.{ℕ, _≤_, _+_, _-_, _*_, _<_}
-use borrow.Author.Tests.{not-true, not-false}
-use Rattle.queue.proofs.CancelLaws.{found-14, found-4, found-100, held-in, entry-asks, put-asks}
+use Rattle.queue.proofs.CancelLaws.{entry-asks, found-100, found-14, found-4, held-in, put-asks}
 use borrow.Author.Needs.{needs}
+use borrow.Author.Tests.{not-false, not-true}
+use native.Mathlib.Omega.{arith}
 use Rattle.queue.proofs.calls.cancel_found.Statement.{statement}
 use Rattle.queue.proofs.calls.cancel_found.Tie as tie
 use Rattle.queue.proofs.calls.cancel_found.Reads as reads

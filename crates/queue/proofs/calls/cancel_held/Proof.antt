@@ -1,11 +1,7 @@
 -- Filled from its answers by tools/proofkit.py: change those, and fill it again.
-use mathlib.Core.Path.{_≡_, refl, sym, ap, _∙_}
-use native.Mathlib.Omega.{arith}
-use mathlib.Core.Bool.{Bool, true, false, _&&_}
-use Prim.Native.Nat.{ℕ, _≤_, _+_, _-_, _*_, _<_}
-use borrow.Author.Tests.{not-true, not-false}
-use Rattle.queue.proofs.CancelLaws.{held-asks, held-15, held-from, held-4, held-102, one-hit}
+use Rattle.queue.proofs.CancelLaws.{held-102, held-15, held-4, held-asks, held-from, one-hit}
 use borrow.Author.Needs.{needs}
+use native.Mathlib.Omega.{arith}
 use Rattle.queue.proofs.calls.cancel_held.Statement.{statement}
 use Rattle.queue.proofs.calls.cancel_held.Tie as tie
 use Rattle.queue.proofs.calls.cancel_held.Reads as reads

@@ -1,11 +1,7 @@
 -- Filled from its answers by tools/proofkit.py: change those, and fill it again.
-use mathlib.Core.Path.{_≡_, refl, sym, ap, _∙_}
-use native.Mathlib.Omega.{arith}
-use mathlib.Core.Bool.{Bool, true, false, _&&_}
-use Prim.Native.Nat.{ℕ, _≤_, _+_, _-_, _*_, _<_}
-use borrow.Author.Tests.{not-true, not-false}
-use Rattle.queue.proofs.ExpireLaws.{expire-3, expire-2, expire-rest, area-in}
+use Rattle.queue.proofs.ExpireLaws.{area-in, expire-2, expire-3, expire-rest}
 use borrow.Author.Needs.{needs}
+use borrow.Author.Tests.{not-false, not-true}
 use Rattle.queue.proofs.calls.expire.Statement.{statement}
 use Rattle.queue.proofs.calls.expire.Tie as tie
 use Rattle.queue.proofs.calls.expire.Reads as reads

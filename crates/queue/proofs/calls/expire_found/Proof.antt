@@ -1,11 +1,7 @@
 -- Filled from its answers by tools/proofkit.py: change those, and fill it again.
-use mathlib.Core.Path.{_≡_, refl, sym, ap, _∙_}
-use native.Mathlib.Omega.{arith}
-use mathlib.Core.Bool.{Bool, true, false, _&&_}
-use Prim.Native.Nat.{ℕ, _≤_, _+_, _-_, _*_, _<_}
-use borrow.Author.Tests.{not-true, not-false}
-use Rattle.queue.proofs.ExpireLaws.{hits-asks, due-15, due-room, due-4, due-none, due-from, due-ids, due-102, some-due}
+use Rattle.queue.proofs.ExpireLaws.{due-102, due-15, due-4, due-from, due-ids, due-none, hits-asks, some-due}
 use borrow.Author.Needs.{needs}
+use native.Mathlib.Omega.{arith}
 use Rattle.queue.proofs.calls.expire_found.Statement.{statement}
 use Rattle.queue.proofs.calls.expire_found.Tie as tie
 use Rattle.queue.proofs.calls.expire_found.Reads as reads

@@ -1,13 +1,12 @@
 -- Filled from its answers by tools/proofkit.py: change those, and fill it again.
-use mathlib.Core.Path.{_≡_, refl, sym, ap, _∙_}
-use native.Mathlib.Omega.{arith}
-use mathlib.Core.Bool.{Bool, true, false, _&&_}
-use Prim.Native.Nat.{ℕ, _≤_, _+_, _-_, _*_, _<_}
-use borrow.Author.Tests.{not-true, not-false}
-use lib.ListN.{length}
-use Rattle.queue.specs.CallsAs.{idIf}
+use Prim.Native.Nat.{_+_, _≤_}
 use Rattle.queue.proofs.PutLaws.{nothing, sized}
+use Rattle.queue.specs.CallsAs.{idIf}
 use borrow.Author.Needs.{needs}
+use lib.ListN.{length}
+use mathlib.Core.Bool.{true}
+use mathlib.Core.Path.{refl}
+use native.Mathlib.Omega.{arith}
 use Rattle.queue.proofs.calls.put_id_if.Statement.{statement}
 use Rattle.queue.proofs.calls.put_id_if.Tie as tie
 use Rattle.queue.proofs.calls.put_id_if.Reads as reads

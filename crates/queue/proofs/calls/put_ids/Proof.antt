@@ -1,11 +1,7 @@
 -- Filled from its answers by tools/proofkit.py: change those, and fill it again.
-use mathlib.Core.Path.{_≡_, refl, sym, ap, _∙_}
-use native.Mathlib.Omega.{arith}
-use mathlib.Core.Bool.{Bool, true, false, _&&_}
-use Prim.Native.Nat.{ℕ, _≤_, _+_, _-_, _*_, _<_}
-use borrow.Author.Tests.{not-true, not-false}
-use Rattle.queue.proofs.ExpireLaws.{Listing, listing, list-next, list-room, list-go, list-end}
+use Rattle.queue.proofs.ExpireLaws.{Listing, list-end, list-go, list-next, list-room, listing}
 use borrow.Author.Needs.{needs}
+use native.Mathlib.Omega.{arith}
 use Rattle.queue.proofs.calls.put_ids.Statement.{statement}
 use Rattle.queue.proofs.calls.put_ids.Tie as tie
 use Rattle.queue.proofs.calls.put_ids.Reads as reads

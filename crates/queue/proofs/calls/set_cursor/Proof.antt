@@ -1,13 +1,10 @@
 -- Filled from its answers by tools/proofkit.py: change those, and fill it again.
-use mathlib.Core.Path.{_≡_, refl, sym, ap, _∙_}
-use native.Mathlib.Omega.{arith}
-use mathlib.Core.Bool.{Bool, true, false, _&&_}
-use Prim.Native.Nat.{ℕ, _≤_, _+_, _-_, _*_, _<_}
-use borrow.Author.Tests.{not-true, not-false}
-use Rattle.queue.specs.View.{view}
+use Rattle.queue.proofs.CallLaws.{cursor-2, cursor-3, cursor-5, cursor-5′, cursor-none, cursor-some, move-none, move-some, told-none, told-some, view-long}
 use Rattle.queue.proofs.ReadingLaws.{key}
-use Rattle.queue.proofs.CallLaws.{cursor-3, cursor-2, cursor-5, cursor-5′, cursor-none, cursor-some, move-none, move-some, view-long, told-none, told-some}
 use borrow.Author.Needs.{needs}
+use borrow.Author.Tests.{not-false, not-true}
+use mathlib.Core.Path.{_∙_, sym}
+use native.Mathlib.Omega.{arith}
 use Rattle.queue.proofs.calls.set_cursor.Statement.{statement}
 use Rattle.queue.proofs.calls.set_cursor.Tie as tie
 use Rattle.queue.proofs.calls.set_cursor.Reads as reads

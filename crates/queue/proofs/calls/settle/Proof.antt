@@ -1,11 +1,8 @@
 -- Filled from its answers by tools/proofkit.py: change those, and fill it again.
-use mathlib.Core.Path.{_≡_, refl, sym, ap, _∙_}
-use native.Mathlib.Omega.{arith}
-use mathlib.Core.Bool.{Bool, true, false, _&&_}
-use Prim.Native.Nat.{ℕ, _≤_, _+_, _-_, _*_, _<_}
-use borrow.Author.Tests.{not-true, not-false}
-use Rattle.queue.proofs.CallLaws.{settle-3, settle-2, settle-17, settle-3′, settle-5, settle-100, settle-17′, four-in, be-four}
+use Rattle.queue.proofs.CallLaws.{be-four, four-in, settle-100, settle-17, settle-17′, settle-2, settle-3, settle-3′, settle-5}
 use borrow.Author.Needs.{needs}
+use borrow.Author.Tests.{not-false, not-true}
+use native.Mathlib.Omega.{arith}
 use Rattle.queue.proofs.calls.settle.Statement.{statement}
 use Rattle.queue.proofs.calls.settle.Tie as tie
 use Rattle.queue.proofs.calls.settle.Reads as reads

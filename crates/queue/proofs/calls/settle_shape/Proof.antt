@@ -1,10 +1,6 @@
 -- Filled from its answers by tools/proofkit.py: change those, and fill it again.
-use mathlib.Core.Path.{_≡_, refl, sym, ap, _∙_}
-use native.Mathlib.Omega.{arith}
-use mathlib.Core.Bool.{Bool, true, false, _&&_}
-use Prim.Native.Nat.{ℕ, _≤_, _+_, _-_, _*_, _<_}
-use borrow.Author.Tests.{not-true, not-false}
 use borrow.Author.Needs.{needs}
+use mathlib.Core.Path.{_∙_}
 use Rattle.queue.proofs.calls.settle_shape.Statement.{statement}
 use Rattle.queue.proofs.calls.settle_shape.Tie as tie
 use Rattle.queue.proofs.calls.settle_shape.Reads as reads

@@ -1,15 +1,12 @@
 -- Filled from its answers by tools/proofkit.py: change those, and fill it again.
-use mathlib.Core.Path.{_≡_, refl, sym, ap, _∙_}
-use native.Mathlib.Omega.{arith}
-use mathlib.Core.Bool.{Bool, true, false, _&&_, _||_}
-use Prim.Native.Nat.{ℕ, _≤_, _+_, _-_, _*_, _/_, _%_, _<_}
-use lib.ListN.{length, take, drop, getD}
-use Rattle.queue.specs.Frames.{recC}
+use Rattle.queue.proofs.ClashLaws.{meet-end, meet-go, meet-stop, meetF}
+use Rattle.queue.proofs.Turns.{Scan, seen, start}
 use Rattle.queue.specs.Forms.{formC}
+use Rattle.queue.specs.Frames.{recC}
 use Rattle.queue.specs.Reopens.{idsAt}
-use Rattle.queue.proofs.Turns.{Scan, start, seen}
-use Rattle.queue.proofs.ClashLaws.{meetF, meet-go, meet-stop, meet-end}
 use borrow.Author.Needs.{needs}
+use mathlib.Core.Bool.{false}
+use native.Mathlib.Omega.{arith}
 use Rattle.queue.proofs.clash.any_input.Statement.{statement}
 use Rattle.queue.proofs.clash.any_input.Tie as tie
 use Rattle.queue.proofs.clash.any_input.Reads as reads

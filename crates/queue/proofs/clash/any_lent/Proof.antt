@@ -1,15 +1,12 @@
 -- Filled from its answers by tools/proofkit.py: change those, and fill it again.
-use mathlib.Core.Path.{_≡_, refl, sym, ap, _∙_}
-use native.Mathlib.Omega.{arith}
-use mathlib.Core.Bool.{Bool, true, false, _&&_, _||_}
-use Prim.Native.Nat.{ℕ, _≤_, _+_, _-_, _*_, _/_, _%_, _<_}
-use lib.ListN.{length, take, drop, getD}
-use Rattle.queue.specs.Frames.{idC}
-use Rattle.queue.specs.View.{view}
-use Rattle.queue.specs.Reopens.{idsAt}
+use Rattle.queue.proofs.ClashLaws.{any-end, any-go, any-stop, anyF}
 use Rattle.queue.proofs.Turns.{Scan, start}
-use Rattle.queue.proofs.ClashLaws.{anyF, any-go, any-stop, any-end}
+use Rattle.queue.specs.Frames.{idC}
+use Rattle.queue.specs.Reopens.{idsAt}
+use Rattle.queue.specs.View.{view}
 use borrow.Author.Needs.{needs}
+use mathlib.Core.Bool.{false}
+use native.Mathlib.Omega.{arith}
 use Rattle.queue.proofs.clash.any_lent.Statement.{statement}
 use Rattle.queue.proofs.clash.any_lent.Tie as tie
 use Rattle.queue.proofs.clash.any_lent.Reads as reads

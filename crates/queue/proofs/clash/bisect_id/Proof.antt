@@ -1,12 +1,9 @@
 -- Filled from its answers by tools/proofkit.py: change those, and fill it again.
-use mathlib.Core.Path.{_≡_, refl, sym, ap, _∙_}
-use native.Mathlib.Omega.{arith}
-use mathlib.Core.Bool.{Bool, true, false, _&&_, _||_}
-use Prim.Native.Nat.{ℕ, _≤_, _+_, _-_, _*_, _/_, _%_, _<_}
-use lib.ListN.{length, take, drop, getD}
+use Prim.Native.Nat.{_-_}
+use Rattle.queue.proofs.ClashLaws.{id-end, id-high, id-low, id-start}
 use Rattle.queue.specs.Clash.{CutId}
-use Rattle.queue.proofs.ClashLaws.{id-start, id-low, id-high, id-end}
 use borrow.Author.Needs.{needs}
+use native.Mathlib.Omega.{arith}
 use Rattle.queue.proofs.clash.bisect_id.Statement.{statement}
 use Rattle.queue.proofs.clash.bisect_id.Tie as tie
 use Rattle.queue.proofs.clash.bisect_id.Reads as reads

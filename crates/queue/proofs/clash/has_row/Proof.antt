@@ -1,11 +1,7 @@
 -- Filled from its answers by tools/proofkit.py: change those, and fill it again.
-use mathlib.Core.Path.{_≡_, refl, sym, ap, _∙_}
-use native.Mathlib.Omega.{arith}
-use mathlib.Core.Bool.{Bool, true, false, _&&_, _||_}
-use Prim.Native.Nat.{ℕ, _≤_, _+_, _-_, _*_, _/_, _%_, _<_}
-use lib.ListN.{length, take, drop, getD}
-use Rattle.queue.proofs.ClashLaws.{has-none, has-here}
+use Rattle.queue.proofs.ClashLaws.{has-here, has-none}
 use borrow.Author.Needs.{needs}
+use native.Mathlib.Omega.{arith}
 use Rattle.queue.proofs.clash.has_row.Statement.{statement}
 use Rattle.queue.proofs.clash.has_row.Tie as tie
 use Rattle.queue.proofs.clash.has_row.Reads as reads

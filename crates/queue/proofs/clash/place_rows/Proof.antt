@@ -1,17 +1,17 @@
 -- Filled from its answers by tools/proofkit.py: change those, and fill it again.
-use mathlib.Core.Path.{_≡_, refl, sym, ap, _∙_}
-use native.Mathlib.Omega.{arith}
-use mathlib.Core.Bool.{Bool, true, false, _&&_, _||_}
-use Prim.Native.Nat.{ℕ, _≤_, _+_, _-_, _*_, _/_, _%_, _<_}
-use lib.ListN.{length, take, drop, getD, length-set}
-use mathlib.Core.List.{List, []}
+use Prim.Native.Nat.{_+_}
+use Rattle.queue.proofs.ClashLaws.{rows-end, rows-go, rows-take, rowsF}
+use Rattle.queue.proofs.SuspectLaws.{id-bytes}
+use Rattle.queue.proofs.Turns.{Scan, here, start}
 use Rattle.queue.specs.Frames.{idC}
 use Rattle.queue.specs.View.{view}
 use Rattle.queue.specs.paper.Records.{Id}
-use Rattle.queue.proofs.Turns.{Scan, start, here}
-use Rattle.queue.proofs.SuspectLaws.{id-bytes}
-use Rattle.queue.proofs.ClashLaws.{rowsF, rows-go, rows-end, rows-take}
 use borrow.Author.Needs.{needs}
+use lib.ListN.{length, length-set, take}
+use mathlib.Core.Bool.{false}
+use mathlib.Core.List.{[]}
+use mathlib.Core.Path.{_∙_, _≡_, refl}
+use native.Mathlib.Omega.{arith}
 use Rattle.queue.proofs.clash.place_rows.Statement.{statement}
 use Rattle.queue.proofs.clash.place_rows.Tie as tie
 use Rattle.queue.proofs.clash.place_rows.Reads as reads

@@ -1,9 +1,9 @@
 -- Filled from its answers by tools/proofkit.py: change those, and fill it again.
 -- The proof of the cycle of calls {walk}. The measure is the number of undecided candidates. Assumes nothing.
-use native.Mathlib.Omega.{arith}
-use native.Mathlib.Nat.{pos-of-ne-zero}
+use Rattle.queue.proofs.FeeWalkLaws.{bit-small, end, fee-fits, fee-next, fit-given, leave, over, shape-leave, shape-take, take-it}
 use borrow.Author.Needs.{needs}
-use Rattle.queue.proofs.FeeWalkLaws.{fit-given, fee-fits, fee-next, bit-small, shape-leave, shape-take, over, end, leave, take-it}
+use native.Mathlib.Nat.{pos-of-ne-zero}
+use native.Mathlib.Omega.{arith}
 use Prim.Native.Nat.{ℕ, _<_}
 use borrow.Fn.Kinds.{In}
 use borrow.Fn.PlainCycle.{Measures, is, falls, and}

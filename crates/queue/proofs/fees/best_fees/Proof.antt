@@ -1,12 +1,10 @@
 -- Filled from its answers by tools/proofkit.py: change those, and fill it again.
-use mathlib.Core.Path.{_≡_, refl, sym, ap, _∙_}
-use native.Mathlib.Omega.{arith}
-use Prim.Native.Nat.{ℕ, _≤_, _+_, _-_, _*_, _<_}
-use lib.ListN.{length, take, drop}
-use borrow.Author.Tests.{not-true, not-false}
+use Rattle.queue.proofs.FeeLaws.{fees-100, fees-3, fees-high, fees-low}
 use Rattle.queue.proofs.SelectLaws.{chosen-few, chosen-rising}
-use Rattle.queue.proofs.FeeLaws.{fees-3, fees-low, fees-high, fees-100}
 use borrow.Author.Needs.{needs}
+use borrow.Author.Tests.{not-false, not-true}
+use mathlib.Core.Path.{refl}
+use native.Mathlib.Omega.{arith}
 use Rattle.queue.proofs.fees.best_fees.Statement.{statement}
 use Rattle.queue.proofs.fees.best_fees.Tie as tie
 use Rattle.queue.proofs.fees.best_fees.Reads as reads

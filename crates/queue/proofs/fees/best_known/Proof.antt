@@ -1,11 +1,9 @@
 -- Filled from its answers by tools/proofkit.py: change those, and fill it again.
-use mathlib.Core.Path.{_≡_, refl, sym, ap, _∙_}
-use native.Mathlib.Omega.{arith}
-use Prim.Native.Nat.{ℕ, _≤_, _+_, _-_, _*_, _<_}
-use lib.ListN.{length, take, drop}
-use Rattle.queue.proofs.FeeLaws.{even, few-sizes, sum-known, best-21, nodes-small, picked-within, best-told, few-picked}
-use lib.Seq.{length-take-le}
+use Rattle.queue.proofs.FeeLaws.{best-21, best-told, even, few-picked, few-sizes, nodes-small, picked-within, sum-known}
 use borrow.Author.Needs.{needs}
+use lib.Seq.{length-take-le}
+use mathlib.Core.Path.{refl, sym}
+use native.Mathlib.Omega.{arith}
 use Rattle.queue.proofs.fees.best_known.Statement.{statement}
 use Rattle.queue.proofs.fees.best_known.Tie as tie
 use Rattle.queue.proofs.fees.best_known.Reads as reads

@@ -1,11 +1,9 @@
 -- Filled from its answers by tools/proofkit.py: change those, and fill it again.
-use mathlib.Core.Path.{_≡_, refl, sym, ap, _∙_}
-use native.Mathlib.Omega.{arith}
-use Prim.Native.Nat.{ℕ, _≤_, _+_, _-_, _*_, _<_}
-use lib.ListN.{length, take, drop}
-use Rattle.queue.proofs.SelectLaws.{gathered-few, gathered-even, even-self}
 use Rattle.queue.proofs.FeeLaws.{gathered-known, select-told}
+use Rattle.queue.proofs.SelectLaws.{even-self, gathered-even, gathered-few}
 use borrow.Author.Needs.{needs}
+use mathlib.Core.Path.{sym}
+use native.Mathlib.Omega.{arith}
 use Rattle.queue.proofs.fees.best_select.Statement.{statement}
 use Rattle.queue.proofs.fees.best_select.Tie as tie
 use Rattle.queue.proofs.fees.best_select.Reads as reads

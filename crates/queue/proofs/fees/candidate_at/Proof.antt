@@ -1,9 +1,5 @@
 -- Filled from its answers by tools/proofkit.py: change those, and fill it again.
-use mathlib.Core.Path.{_≡_, refl, sym, ap, _∙_}
-use native.Mathlib.Omega.{arith}
-use Prim.Native.Nat.{ℕ, _≤_, _+_, _-_, _*_, _<_}
-use lib.ListN.{length, take, drop}
-use Rattle.queue.proofs.FeeLaws.{terms-after, candidate-is}
+use Rattle.queue.proofs.FeeLaws.{candidate-is, terms-after}
 use borrow.Author.Needs.{needs}
 use Rattle.queue.proofs.fees.candidate_at.Statement.{statement}
 use Rattle.queue.proofs.fees.candidate_at.Tie as tie

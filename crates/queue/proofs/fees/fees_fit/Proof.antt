@@ -1,7 +1,7 @@
 -- Filled from its answers by tools/proofkit.py: change those, and fill it again.
-use native.Mathlib.Omega.{arith}
-use Rattle.queue.proofs.FeeSearchLaws.{Room, room-start, room-turn, room-out, room-end}
+use Rattle.queue.proofs.FeeSearchLaws.{Room, room-end, room-out, room-start, room-turn}
 use borrow.Author.Needs.{needs}
+use native.Mathlib.Omega.{arith}
 use Rattle.queue.proofs.fees.fees_fit.Statement.{statement}
 use Rattle.queue.proofs.fees.fees_fit.Tie as tie
 use Rattle.queue.proofs.fees.fees_fit.Reads as reads

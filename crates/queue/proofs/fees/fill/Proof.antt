@@ -1,12 +1,12 @@
 -- Filled from its answers by tools/proofkit.py: change those, and fill it again.
-use mathlib.Core.Path.{_≡_, refl, sym, ap, _∙_}
-use native.Mathlib.Omega.{arith}
-use Prim.Native.Nat.{ℕ, _≤_, _+_, _-_, _*_, _<_}
-use lib.ListN.{length, take, drop}
+use Prim.Native.Nat.{_-_, _≤_}
+use Rattle.queue.proofs.FeeLaws.{Filled, filled-end, filled-go, known-at}
 use Rattle.queue.specs.fees.Told.{recAt}
-use Rattle.queue.specs.paper.Fees.{sizeOf, feeOf}
-use Rattle.queue.proofs.FeeLaws.{Filled, filled-go, filled-end, known-at}
+use Rattle.queue.specs.paper.Fees.{feeOf, sizeOf}
 use borrow.Author.Needs.{needs}
+use lib.ListN.{length}
+use mathlib.Core.Path.{refl}
+use native.Mathlib.Omega.{arith}
 use Rattle.queue.proofs.fees.fill.Statement.{statement}
 use Rattle.queue.proofs.fees.fill.Tie as tie
 use Rattle.queue.proofs.fees.fill.Reads as reads

@@ -1,9 +1,8 @@
 -- Filled from its answers by tools/proofkit.py: change those, and fill it again.
+use Rattle.queue.proofs.FeeWalkLaws.{Sums, sums-end, sums-small, sums-start, turn-fits, turn-not}
+use borrow.Author.Needs.{needs}
 use mathlib.Core.Logic.{⊎-elim}
 use native.Mathlib.Omega.{arith}
-use lib.ListN.{length}
-use Rattle.queue.proofs.FeeWalkLaws.{Sums, sums-start, turn-fits, turn-not, sums-small, sums-end}
-use borrow.Author.Needs.{needs}
 use Rattle.queue.proofs.fees.fit.Statement.{statement}
 use Rattle.queue.proofs.fees.fit.Tie as tie
 use Rattle.queue.proofs.fees.fit.Reads as reads

@@ -1,5 +1,5 @@
 -- Filled from its answers by tools/proofkit.py: change those, and fill it again.
-use Rattle.queue.proofs.FeeWalkLaws.{pass-more, pass-less}
+use Rattle.queue.proofs.FeeWalkLaws.{pass-less, pass-more}
 use borrow.Author.Needs.{needs}
 use Rattle.queue.proofs.fees.pass.Statement.{statement}
 use Rattle.queue.proofs.fees.pass.Tie as tie

@@ -1,10 +1,9 @@
 -- Filled from its answers by tools/proofkit.py: change those, and fill it again.
-use mathlib.Core.Path.{_≡_, refl, sym, ap, _∙_}
-use native.Mathlib.Omega.{arith}
-use Prim.Native.Nat.{ℕ, _≤_, _+_, _-_, _*_, _<_}
-use lib.ListN.{length, take, drop}
-use Rattle.queue.proofs.FeeLaws.{Picking, picking-start, picking-go, picking-end}
+use Prim.Native.Nat.{_-_}
+use Rattle.queue.proofs.FeeLaws.{Picking, picking-end, picking-go, picking-start}
 use borrow.Author.Needs.{needs}
+use lib.ListN.{length}
+use native.Mathlib.Omega.{arith}
 use Rattle.queue.proofs.fees.pick.Statement.{statement}
 use Rattle.queue.proofs.fees.pick.Tie as tie
 use Rattle.queue.proofs.fees.pick.Reads as reads

@@ -1,11 +1,8 @@
 -- Filled from its answers by tools/proofkit.py: change those, and fill it again.
-use mathlib.Core.Path.{_≡_, refl, sym, ap, _∙_}
-use native.Mathlib.Omega.{arith}
-use Prim.Native.Nat.{ℕ, _≤_, _+_, _-_, _*_, _<_}
-use lib.ListN.{length, take, drop}
+use Rattle.queue.proofs.FeeLaws.{best-100, best-4}
 use Rattle.queue.proofs.PutLaws.{kept}
-use Rattle.queue.proofs.FeeLaws.{best-4, best-100}
 use borrow.Author.Needs.{needs}
+use native.Mathlib.Omega.{arith}
 use Rattle.queue.proofs.fees.put_best.Statement.{statement}
 use Rattle.queue.proofs.fees.put_best.Tie as tie
 use Rattle.queue.proofs.fees.put_best.Reads as reads

@@ -1,5 +1,5 @@
 -- Filled from its answers by tools/proofkit.py: change those, and fill it again.
-use Rattle.queue.proofs.FeeWalkLaws.{visit-more, visit-less}
+use Rattle.queue.proofs.FeeWalkLaws.{visit-less, visit-more}
 use borrow.Author.Needs.{needs}
 use Rattle.queue.proofs.fees.visit.Statement.{statement}
 use Rattle.queue.proofs.fees.visit.Tie as tie

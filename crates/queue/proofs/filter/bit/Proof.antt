@@ -1,9 +1,9 @@
 -- Filled from its answers by tools/proofkit.py: change those, and fill it again.
-use native.Mathlib.Omega.{arith}
-use mathlib.Core.Path.{_≡_, refl, sym, ap, _∙_}
-use native.Mathlib.Nat.{one-mul}
-use lib.Pow.{shl-exact}
 use borrow.Author.Needs.{needs}
+use lib.Pow.{shl-exact}
+use mathlib.Core.Path.{_∙_}
+use native.Mathlib.Nat.{one-mul}
+use native.Mathlib.Omega.{arith}
 use Rattle.queue.proofs.filter.bit.Statement.{statement}
 use Rattle.queue.proofs.filter.bit.Tie as tie
 use Rattle.queue.proofs.filter.bit.Reads as reads

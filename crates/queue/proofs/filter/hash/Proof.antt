@@ -1,10 +1,8 @@
 -- Filled from its answers by tools/proofkit.py: change those, and fill it again.
-use mathlib.Core.Path.{_≡_, refl, sym, ap, _∙_}
-use native.Mathlib.Omega.{arith}
-use Rattle.queue.specs.View.{view}
-use Rattle.queue.specs.Filter.{hashL}
 use Rattle.queue.proofs.FilterLaws.{id-room}
+use Rattle.queue.specs.Filter.{hashL}
 use borrow.Author.Needs.{needs}
+use native.Mathlib.Omega.{arith}
 use Rattle.queue.proofs.filter.hash.Statement.{statement}
 use Rattle.queue.proofs.filter.hash.Tie as tie
 use Rattle.queue.proofs.filter.hash.Reads as reads

@@ -1,8 +1,8 @@
 -- Filled from its answers by tools/proofkit.py: change those, and fill it again.
-use native.Mathlib.Omega.{arith}
-use Rattle.queue.specs.parents.Links.{hashAll}
 use Rattle.queue.proofs.FilterLaws.{id-room}
+use Rattle.queue.specs.parents.Links.{hashAll}
 use borrow.Author.Needs.{needs}
+use native.Mathlib.Omega.{arith}
 use Rattle.queue.proofs.filter.hash_all.Statement.{statement}
 use Rattle.queue.proofs.filter.hash_all.Tie as tie
 use Rattle.queue.proofs.filter.hash_all.Reads as reads

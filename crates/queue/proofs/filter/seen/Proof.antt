@@ -1,5 +1,4 @@
 -- Filled from its answers by tools/proofkit.py: change those, and fill it again.
-use mathlib.Core.Path.{_≡_, refl, sym, ap, _∙_}
 use Rattle.queue.specs.Filter.{marked}
 use borrow.Author.Needs.{needs}
 use Rattle.queue.proofs.filter.seen.Statement.{statement}

@@ -1,8 +1,8 @@
 -- Filled from its answers by tools/proofkit.py: change those, and fill it again.
-use mathlib.Core.Path.{_≡_, refl, sym, ap, _∙_}
-use native.Mathlib.Nat.{mod-lt}
 use Rattle.queue.specs.Filter.{slotL}
 use borrow.Author.Needs.{needs}
+use mathlib.Core.Path.{refl}
+use native.Mathlib.Nat.{mod-lt}
 use Rattle.queue.proofs.filter.slot.Statement.{statement}
 use Rattle.queue.proofs.filter.slot.Tie as tie
 use Rattle.queue.proofs.filter.slot.Reads as reads

@@ -1,11 +1,8 @@
 -- Filled from its answers by tools/proofkit.py: change those, and fill it again.
-use mathlib.Core.Path.{_≡_, refl, sym, ap, _∙_}
-use native.Mathlib.Omega.{arith}
-use mathlib.Core.Bool.{Bool, true, false, _&&_}
-use Prim.Native.Nat.{ℕ, _≤_, _+_, _-_, _*_, _<_}
-use borrow.Author.Tests.{le-leb, lt-leb}
 use Rattle.queue.specs.Finishing.{fateOf}
 use borrow.Author.Needs.{needs}
+use borrow.Author.Tests.{le-leb, lt-leb}
+use native.Mathlib.Omega.{arith}
 use Rattle.queue.proofs.finish.decide.Statement.{statement}
 use Rattle.queue.proofs.finish.decide.Tie as tie
 use Rattle.queue.proofs.finish.decide.Reads as reads

@@ -1,12 +1,9 @@
 -- Filled from its answers by tools/proofkit.py: change those, and fill it again.
-use mathlib.Core.Path.{_≡_, refl, sym, ap, _∙_}
-use native.Mathlib.Omega.{arith}
-use mathlib.Core.Bool.{Bool, true, false, _&&_, _||_}
-use Prim.Native.Nat.{ℕ, _≤_, _+_, _-_, _*_, _/_, _%_, _<_}
-use lib.ListN.{length, take, drop, getD}
-use lib.Seq.{length-take-le}
-use Rattle.queue.proofs.NumberLaws.{numbers-low, floor-zero, floor-found}
+use Rattle.queue.proofs.NumberLaws.{floor-found, floor-zero, numbers-low}
 use borrow.Author.Needs.{needs}
+use lib.Seq.{length-take-le}
+use mathlib.Core.Path.{refl, sym}
+use native.Mathlib.Omega.{arith}
 use Rattle.queue.proofs.finish.floor.Statement.{statement}
 use Rattle.queue.proofs.finish.floor.Tie as tie
 use Rattle.queue.proofs.finish.floor.Reads as reads

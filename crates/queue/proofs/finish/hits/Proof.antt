@@ -1,13 +1,12 @@
 -- Filled from its answers by tools/proofkit.py: change those, and fill it again.
-use mathlib.Core.Path.{_≡_, refl, sym, ap, _∙_}
-use native.Mathlib.Omega.{arith}
-use mathlib.Core.Bool.{Bool, true, false, _&&_}
-use Prim.Native.Nat.{ℕ, _≤_, _+_, _-_, _*_, _<_}
-use Rattle.queue.specs.Frames.{recC}
-use Rattle.queue.specs.Forms.{formC}
+use Prim.Native.Nat.{_+_, _≤_}
+use Rattle.queue.proofs.FinishLaws.{hits-end, hits-go, hits-next, hitsFrom}
 use Rattle.queue.proofs.Turns.{Scan, start}
-use Rattle.queue.proofs.FinishLaws.{hitsFrom, hits-next, hits-go, hits-end}
+use Rattle.queue.specs.Forms.{formC}
+use Rattle.queue.specs.Frames.{recC}
 use borrow.Author.Needs.{needs}
+use mathlib.Core.Bool.{false}
+use native.Mathlib.Omega.{arith}
 use Rattle.queue.proofs.finish.hits.Statement.{statement}
 use Rattle.queue.proofs.finish.hits.Tie as tie
 use Rattle.queue.proofs.finish.hits.Reads as reads

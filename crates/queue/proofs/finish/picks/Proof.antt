@@ -1,8 +1,4 @@
 -- Filled from its answers by tools/proofkit.py: change those, and fill it again.
-use mathlib.Core.Path.{_≡_, refl, sym, ap, _∙_}
-use native.Mathlib.Omega.{arith}
-use mathlib.Core.Bool.{Bool, true, false, _&&_}
-use Prim.Native.Nat.{ℕ, _≤_, _+_, _-_, _*_, _<_}
 use Rattle.queue.specs.Finishing.{pickedS}
 use borrow.Author.Needs.{needs}
 use Rattle.queue.proofs.finish.picks.Statement.{statement}

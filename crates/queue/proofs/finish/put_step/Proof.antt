@@ -1,13 +1,10 @@
 -- Filled from its answers by tools/proofkit.py: change those, and fill it again.
-use mathlib.Core.Path.{_≡_, refl, sym, ap, _∙_}
-use native.Mathlib.Omega.{arith}
-use mathlib.Core.Bool.{Bool, true, false, _&&_}
-use Prim.Native.Nat.{ℕ, _≤_, _+_, _-_, _*_, _<_}
-use lib.ListN.{length}
-use Rattle.queue.specs.Finishing.{stepBytes}
+use Rattle.queue.proofs.FinishLaws.{end-room, keep-room}
 use Rattle.queue.proofs.PutLaws.{nothing, sized}
-use Rattle.queue.proofs.FinishLaws.{keep-room, end-room}
+use Rattle.queue.specs.Finishing.{stepBytes}
 use borrow.Author.Needs.{needs}
+use mathlib.Core.Path.{refl}
+use native.Mathlib.Omega.{arith}
 use Rattle.queue.proofs.finish.put_step.Statement.{statement}
 use Rattle.queue.proofs.finish.put_step.Tie as tie
 use Rattle.queue.proofs.finish.put_step.Reads as reads

@@ -1,10 +1,7 @@
 -- Filled from its answers by tools/proofkit.py: change those, and fill it again.
-use mathlib.Core.Path.{_≡_, refl, sym, ap, _∙_}
-use native.Mathlib.Omega.{arith}
-use mathlib.Core.Bool.{Bool, true, false, _&&_}
-use Prim.Native.Nat.{ℕ, _≤_, _+_, _-_, _*_, _<_}
-use Rattle.queue.proofs.FinishLaws.{Going, going, this, few-given, room, below, go-on, gone, id-long, raw-within}
+use Rattle.queue.proofs.FinishLaws.{Going, below, few-given, go-on, going, gone, id-long, raw-within, room, this}
 use borrow.Author.Needs.{needs}
+use native.Mathlib.Omega.{arith}
 use Rattle.queue.proofs.finish.rewrite.Statement.{statement}
 use Rattle.queue.proofs.finish.rewrite.Tie as tie
 use Rattle.queue.proofs.finish.rewrite.Reads as reads

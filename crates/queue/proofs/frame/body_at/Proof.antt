@@ -1,8 +1,7 @@
 -- Filled from its answers by tools/proofkit.py: change those, and fill it again.
-use mathlib.Core.Path.{_≡_, refl, sym, ap, _∙_}
-use native.Mathlib.Omega.{arith}
-use Rattle.queue.proofs.FrameLaws.{body-some, body-none}
+use Rattle.queue.proofs.FrameLaws.{body-none, body-some}
 use borrow.Author.Needs.{needs}
+use mathlib.Core.Path.{refl}
 use Rattle.queue.proofs.frame.body_at.Statement.{statement}
 use Rattle.queue.proofs.frame.body_at.Tie as tie
 use Rattle.queue.proofs.frame.body_at.Reads as reads

@@ -1,8 +1,7 @@
 -- Filled from its answers by tools/proofkit.py: change those, and fill it again.
-use mathlib.Core.Path.{_≡_, refl, sym, ap, _∙_}
-use native.Mathlib.Omega.{arith}
-use Rattle.queue.proofs.FrameLaws.{flag-none, flag-zero, flag-one, flag-other}
+use Rattle.queue.proofs.FrameLaws.{flag-none, flag-one, flag-other, flag-zero}
 use borrow.Author.Needs.{needs}
+use native.Mathlib.Omega.{arith}
 use Rattle.queue.proofs.frame.flag_at.Statement.{statement}
 use Rattle.queue.proofs.frame.flag_at.Tie as tie
 use Rattle.queue.proofs.frame.flag_at.Reads as reads

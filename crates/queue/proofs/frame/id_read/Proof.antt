@@ -1,8 +1,6 @@
 -- Filled from its answers by tools/proofkit.py: change those, and fill it again.
-use mathlib.Core.Path.{_≡_, refl, sym, ap, _∙_}
-use native.Mathlib.Omega.{arith}
-use Rattle.queue.specs.ReadLaws.{spans-id}
 use Rattle.queue.proofs.FrameLaws.{id-good, span-bad}
+use Rattle.queue.specs.ReadLaws.{spans-id}
 use borrow.Author.Needs.{needs}
 use Rattle.queue.proofs.frame.id_read.Statement.{statement}
 use Rattle.queue.proofs.frame.id_read.Tie as tie

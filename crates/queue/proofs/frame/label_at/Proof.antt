@@ -1,7 +1,5 @@
 -- Filled from its answers by tools/proofkit.py: change those, and fill it again.
-use mathlib.Core.Path.{_≡_, refl, sym, ap, _∙_}
-use native.Mathlib.Omega.{arith}
-use Rattle.queue.proofs.FrameLaws.{label-some, label-none}
+use Rattle.queue.proofs.FrameLaws.{label-none, label-some}
 use borrow.Author.Needs.{needs}
 use Rattle.queue.proofs.frame.label_at.Statement.{statement}
 use Rattle.queue.proofs.frame.label_at.Tie as tie

@@ -1,7 +1,5 @@
 -- Filled from its answers by tools/proofkit.py: change those, and fill it again.
-use mathlib.Core.Path.{_≡_, refl, sym, ap, _∙_}
-use native.Mathlib.Omega.{arith}
-use Rattle.queue.proofs.FrameLaws.{opt-num-some, opt-num-none}
+use Rattle.queue.proofs.FrameLaws.{opt-num-none, opt-num-some}
 use borrow.Author.Needs.{needs}
 use Rattle.queue.proofs.frame.opt_num.Statement.{statement}
 use Rattle.queue.proofs.frame.opt_num.Tie as tie

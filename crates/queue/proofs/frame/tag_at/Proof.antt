@@ -1,8 +1,7 @@
 -- Filled from its answers by tools/proofkit.py: change those, and fill it again.
-use mathlib.Core.Path.{_≡_, refl, sym, ap, _∙_}
-use native.Mathlib.Omega.{arith}
-use Rattle.queue.proofs.FrameLaws.{tag-none, tag-good, tag-other}
+use Rattle.queue.proofs.FrameLaws.{tag-good, tag-none, tag-other}
 use borrow.Author.Needs.{needs}
+use native.Mathlib.Omega.{arith}
 use Rattle.queue.proofs.frame.tag_at.Statement.{statement}
 use Rattle.queue.proofs.frame.tag_at.Tie as tie
 use Rattle.queue.proofs.frame.tag_at.Reads as reads

@@ -1,6 +1,4 @@
 -- Filled from its answers by tools/proofkit.py: change those, and fill it again.
-use mathlib.Core.Path.{_≡_, refl, sym, ap, _∙_}
-use native.Mathlib.Omega.{arith}
 use Rattle.queue.proofs.FrameLaws.{terms-read}
 use borrow.Author.Needs.{needs}
 use Rattle.queue.proofs.frame.terms_at.Statement.{statement}

@@ -1,10 +1,6 @@
 -- Filled from its answers by tools/proofkit.py: change those, and fill it again.
-use mathlib.Core.Path.{_≡_, refl, sym, ap, _∙_}
-use native.Mathlib.Omega.{arith}
-use mathlib.Core.Bool.{Bool, true, false, _&&_}
-use Prim.Native.Nat.{ℕ, _≤_, _+_, _-_, _*_, _<_}
-use Rattle.queue.specs.Fronts.{startBytes}
 use Rattle.queue.proofs.PutLaws.{then}
+use Rattle.queue.specs.Fronts.{startBytes}
 use borrow.Author.Needs.{needs}
 use Rattle.queue.proofs.head.put_start.Statement.{statement}
 use Rattle.queue.proofs.head.put_start.Tie as tie

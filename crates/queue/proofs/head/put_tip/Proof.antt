@@ -1,13 +1,12 @@
 -- Filled from its answers by tools/proofkit.py: change those, and fill it again.
-use mathlib.Core.Path.{_≡_, refl, sym, ap, _∙_}
-use native.Mathlib.Omega.{arith}
-use mathlib.Core.Bool.{Bool, true, false, _&&_}
-use Prim.Native.Nat.{ℕ, _≤_, _+_, _-_, _*_, _<_}
-use Rattle.queue.proofs.FrontLaws.{tip-put, tip-none}
+use Prim.Native.Nat.{_+_, _≤_}
+use Rattle.queue.proofs.FrontLaws.{tip-none, tip-put}
 use Rattle.queue.proofs.PutLaws.{kept}
 use Rattle.queue.specs.Fronts.{tipSize}
-use lib.ListN.{length}
 use borrow.Author.Needs.{needs}
+use lib.ListN.{length}
+use mathlib.Core.Bool.{false, true}
+use native.Mathlib.Omega.{arith}
 use Rattle.queue.proofs.head.put_tip.Statement.{statement}
 use Rattle.queue.proofs.head.put_tip.Tie as tie
 use Rattle.queue.proofs.head.put_tip.Reads as reads

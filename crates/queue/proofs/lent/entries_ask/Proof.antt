@@ -1,5 +1,5 @@
 -- Filled from its answers by tools/proofkit.py: change those, and fill it again.
-use Rattle.queue.proofs.LentLaws.{entries-no, entries-long, entries-are}
+use Rattle.queue.proofs.LentLaws.{entries-are, entries-long, entries-no}
 use borrow.Author.Needs.{needs}
 use Rattle.queue.proofs.lent.entries_ask.Statement.{statement}
 use Rattle.queue.proofs.lent.entries_ask.Tie as tie

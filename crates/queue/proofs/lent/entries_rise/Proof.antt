@@ -1,9 +1,9 @@
 -- Filled from its answers by tools/proofkit.py: change those, and fill it again.
-use mathlib.Core.Path.{sym, _∙_}
-use native.Mathlib.Omega.{arith}
 use Rattle.queue.proofs.CallLaws.{view-long}
-use Rattle.queue.proofs.LentLaws.{Rising, rise-start, rise-go, rise-stop, rise-end}
+use Rattle.queue.proofs.LentLaws.{Rising, rise-end, rise-go, rise-start, rise-stop}
 use borrow.Author.Needs.{needs}
+use mathlib.Core.Path.{_∙_, sym}
+use native.Mathlib.Omega.{arith}
 use Rattle.queue.proofs.lent.entries_rise.Statement.{statement}
 use Rattle.queue.proofs.lent.entries_rise.Tie as tie
 use Rattle.queue.proofs.lent.entries_rise.Reads as reads

@@ -1,6 +1,6 @@
 -- Filled from its answers by tools/proofkit.py: change those, and fill it again.
-use Rattle.queue.proofs.ReopenLaws.{lent-in}
 use Rattle.queue.proofs.LentLaws.{ids-no, ids-rise}
+use Rattle.queue.proofs.ReopenLaws.{lent-in}
 use borrow.Author.Needs.{needs}
 use Rattle.queue.proofs.lent.ids_ask.Statement.{statement}
 use Rattle.queue.proofs.lent.ids_ask.Tie as tie

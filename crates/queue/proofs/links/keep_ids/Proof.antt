@@ -1,15 +1,15 @@
 -- Filled from its answers by tools/proofkit.py: change those, and fill it again.
-use mathlib.Core.Path.{_≡_, refl, _∙_}
-use native.Mathlib.Omega.{arith}
-use mathlib.Core.Bool.{false}
-use Prim.Native.Nat.{_≤_, _+_, _-_}
-use lib.ListN.{length, take}
-use native.Mathlib.Numerals.{add-one}
-use Rattle.queue.specs.View.{view}
-use Rattle.queue.proofs.Turns.{here}
+use Prim.Native.Nat.{_+_, _≤_}
+use Rattle.queue.proofs.LinkLaws.{Rowing, kept-sizes, rowing, rowing-end, rowing-go}
 use Rattle.queue.proofs.SuspectLaws.{id-bytes}
-use Rattle.queue.proofs.LinkLaws.{Rowing, rowing, rowing-go, rowing-end, kept-sizes}
+use Rattle.queue.proofs.Turns.{here}
+use Rattle.queue.specs.View.{view}
 use borrow.Author.Needs.{needs}
+use lib.ListN.{length, take}
+use mathlib.Core.Bool.{false}
+use mathlib.Core.Path.{_∙_, _≡_, refl}
+use native.Mathlib.Numerals.{add-one}
+use native.Mathlib.Omega.{arith}
 use Rattle.queue.proofs.links.keep_ids.Statement.{statement}
 use Rattle.queue.proofs.links.keep_ids.Tie as tie
 use Rattle.queue.proofs.links.keep_ids.Reads as reads

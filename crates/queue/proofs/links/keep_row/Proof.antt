@@ -1,5 +1,4 @@
 -- Filled from its answers by tools/proofkit.py: change those, and fill it again.
-use Prim.Native.Nat.{_-_}
 use Rattle.queue.proofs.LinkLaws.{kept-free, kept-taken}
 use borrow.Author.Needs.{needs}
 use Rattle.queue.proofs.links.keep_row.Statement.{statement}

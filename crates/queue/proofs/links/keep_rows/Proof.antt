@@ -1,11 +1,11 @@
 -- Filled from its answers by tools/proofkit.py: change those, and fill it again.
-use mathlib.Core.Path.{_≡_, refl, _∙_}
-use native.Mathlib.Omega.{arith}
-use Prim.Native.Nat.{_≤_, _-_}
-use lib.ListN.{length, take}
+use Prim.Native.Nat.{_-_, _≤_}
+use Rattle.queue.proofs.LinkLaws.{grew, ins-are, ins-few, ins-here, records-go, records-start, wantedIn}
 use Rattle.queue.specs.parents.Links.{Held}
-use Rattle.queue.proofs.LinkLaws.{wantedIn, records-start, records-go, ins-here, ins-are, ins-few, grew}
 use borrow.Author.Needs.{needs}
+use lib.ListN.{length, take}
+use mathlib.Core.Path.{_∙_, _≡_, refl}
+use native.Mathlib.Omega.{arith}
 use Rattle.queue.proofs.links.keep_rows.Statement.{statement}
 use Rattle.queue.proofs.links.keep_rows.Tie as tie
 use Rattle.queue.proofs.links.keep_rows.Reads as reads

@@ -1,13 +1,13 @@
 -- Filled from its answers by tools/proofkit.py: change those, and fill it again.
-use mathlib.Core.Path.{_≡_, refl, sym}
-use native.Mathlib.Omega.{arith}
-use Prim.Native.Nat.{_≤_, _-_, _*_}
-use lib.ListN.{length}
-use native.Mathlib.Nat.{zero-mul}
-use Rattle.queue.specs.parents.Links.{Linked}
+use Prim.Native.Nat.{_*_, _-_, _≤_}
 use Rattle.queue.proofs.BitLaws.{line-in, line-next}
-use Rattle.queue.proofs.LinkLaws.{linesTo, lines-start, lines-go, lines-end, outs-here, outs-are}
+use Rattle.queue.proofs.LinkLaws.{lines-end, lines-go, lines-start, linesTo, outs-are, outs-here}
+use Rattle.queue.specs.parents.Links.{Linked}
 use borrow.Author.Needs.{needs}
+use lib.ListN.{length}
+use mathlib.Core.Path.{_≡_, refl, sym}
+use native.Mathlib.Nat.{zero-mul}
+use native.Mathlib.Omega.{arith}
 use Rattle.queue.proofs.links.link_all.Statement.{statement}
 use Rattle.queue.proofs.links.link_all.Tie as tie
 use Rattle.queue.proofs.links.link_all.Reads as reads

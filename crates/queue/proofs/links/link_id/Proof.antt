@@ -1,11 +1,11 @@
 -- Filled from its answers by tools/proofkit.py: change those, and fill it again.
+use Prim.Native.Nat.{ℕ}
+use Rattle.queue.proofs.LinkLaws.{id-seen, id-unseen}
+use borrow.Author.Needs.{needs}
+use borrow.Author.Tests.{not-true}
+use lib.ListN.{getD}
 use mathlib.Core.Path.{ap}
 use native.Mathlib.Omega.{arith}
-use Prim.Native.Nat.{ℕ, _-_}
-use lib.ListN.{getD}
-use borrow.Author.Tests.{not-true}
-use Rattle.queue.proofs.LinkLaws.{id-unseen, id-seen}
-use borrow.Author.Needs.{needs}
 use Rattle.queue.proofs.links.link_id.Statement.{statement}
 use Rattle.queue.proofs.links.link_id.Tie as tie
 use Rattle.queue.proofs.links.link_id.Reads as reads

@@ -1,14 +1,13 @@
 -- Filled from its answers by tools/proofkit.py: change those, and fill it again.
-use mathlib.Core.Path.{sym, ap, _∙_}
-use native.Mathlib.Omega.{arith}
-use mathlib.Core.Bool.{false}
-use Prim.Native.Nat.{_-_}
+use Rattle.queue.proofs.LinkLaws.{Linking, linking, linking-end, linking-go}
+use Rattle.queue.proofs.SuspectLaws.{id-bytes}
+use Rattle.queue.proofs.Turns.{here}
 use Rattle.queue.specs.View.{view}
 use Rattle.queue.specs.parents.Links.{hashAll}
-use Rattle.queue.proofs.Turns.{here}
-use Rattle.queue.proofs.SuspectLaws.{id-bytes}
-use Rattle.queue.proofs.LinkLaws.{Linking, linking, linking-go, linking-end}
 use borrow.Author.Needs.{needs}
+use mathlib.Core.Bool.{false}
+use mathlib.Core.Path.{_∙_, ap, sym}
+use native.Mathlib.Omega.{arith}
 use Rattle.queue.proofs.links.link_ids.Statement.{statement}
 use Rattle.queue.proofs.links.link_ids.Tie as tie
 use Rattle.queue.proofs.links.link_ids.Reads as reads

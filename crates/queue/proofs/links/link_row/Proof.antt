@@ -1,10 +1,9 @@
 -- Filled from its answers by tools/proofkit.py: change those, and fill it again.
-use mathlib.Core.Path.{refl, sym, _∙_}
-use native.Mathlib.Omega.{arith}
-use Prim.Native.Nat.{_-_}
-use borrow.Author.Tests.{not-true, not-false}
-use Rattle.queue.proofs.BitLaws.{no-is, pos-of, row-off, row-zero, row-own, row-wide, row-set}
+use Rattle.queue.proofs.BitLaws.{no-is, pos-of, row-off, row-own, row-set, row-wide, row-zero}
 use borrow.Author.Needs.{needs}
+use borrow.Author.Tests.{not-false, not-true}
+use mathlib.Core.Path.{_∙_, refl, sym}
+use native.Mathlib.Omega.{arith}
 use Rattle.queue.proofs.links.link_row.Statement.{statement}
 use Rattle.queue.proofs.links.link_row.Tie as tie
 use Rattle.queue.proofs.links.link_row.Reads as reads

@@ -1,6 +1,5 @@
 -- Filled from its answers by tools/proofkit.py: change those, and fill it again.
-use Prim.Native.Nat.{_-_}
-use Rattle.queue.proofs.LinkLaws.{begins-yes, begins-no}
+use Rattle.queue.proofs.LinkLaws.{begins-no, begins-yes}
 use borrow.Author.Needs.{needs}
 use Rattle.queue.proofs.links.link_rows.Statement.{statement}
 use Rattle.queue.proofs.links.link_rows.Tie as tie

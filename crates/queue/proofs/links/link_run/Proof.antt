@@ -1,10 +1,10 @@
 -- Filled from its answers by tools/proofkit.py: change those, and fill it again.
-use mathlib.Core.Path.{_≡_, refl, _∙_}
-use native.Mathlib.Omega.{arith}
-use Prim.Native.Nat.{_≤_, _-_}
-use lib.ListN.{length}
-use Rattle.queue.proofs.LinkLaws.{Running, run-start, run-stop, run-go, run-end}
+use Prim.Native.Nat.{_-_, _≤_}
+use Rattle.queue.proofs.LinkLaws.{Running, run-end, run-go, run-start, run-stop}
 use borrow.Author.Needs.{needs}
+use lib.ListN.{length}
+use mathlib.Core.Path.{_∙_, _≡_, refl}
+use native.Mathlib.Omega.{arith}
 use Rattle.queue.proofs.links.link_run.Statement.{statement}
 use Rattle.queue.proofs.links.link_run.Tie as tie
 use Rattle.queue.proofs.links.link_run.Reads as reads

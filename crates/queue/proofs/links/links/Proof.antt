@@ -1,12 +1,12 @@
 -- Filled from its answers by tools/proofkit.py: change those, and fill it again.
-use mathlib.Core.Path.{_≡_, refl, sym}
-use native.Mathlib.Omega.{arith}
-use Prim.Native.Nat.{_≤_, _-_}
+use Prim.Native.Nat.{_-_, _≤_}
+use Rattle.queue.proofs.LinkLaws.{blocks-end, blocks-go, blocks-start, wantedTo, zero-now}
+use Rattle.queue.specs.parents.Links.{Joined, Zero, outputsLinked}
+use borrow.Author.Needs.{needs}
 use lib.ListN.{length}
 use lib.Seq.{length-take-le}
-use Rattle.queue.specs.parents.Links.{Joined, Zero, outputsLinked}
-use Rattle.queue.proofs.LinkLaws.{wantedTo, blocks-start, blocks-go, blocks-end, zero-now}
-use borrow.Author.Needs.{needs}
+use mathlib.Core.Path.{_≡_, refl, sym}
+use native.Mathlib.Omega.{arith}
 use Rattle.queue.proofs.links.links.Statement.{statement}
 use Rattle.queue.proofs.links.links.Tie as tie
 use Rattle.queue.proofs.links.links.Reads as reads

@@ -1,6 +1,5 @@
 -- Filled from its answers by tools/proofkit.py: change those, and fill it again.
-use Prim.Native.Nat.{_-_}
-use Rattle.queue.proofs.LinkLaws.{meets-none, meets-is, meets-same}
+use Rattle.queue.proofs.LinkLaws.{meets-is, meets-none, meets-same}
 use borrow.Author.Needs.{needs}
 use Rattle.queue.proofs.links.meets.Statement.{statement}
 use Rattle.queue.proofs.links.meets.Tie as tie

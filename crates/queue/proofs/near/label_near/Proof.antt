@@ -1,11 +1,8 @@
 -- Filled from its answers by tools/proofkit.py: change those, and fill it again.
-use mathlib.Core.Path.{_≡_, refl, sym, ap, _∙_}
-use native.Mathlib.Omega.{arith}
-use mathlib.Core.Bool.{Bool, true, false, _&&_}
-use Prim.Native.Nat.{ℕ, _≤_, _+_, _-_, _*_, _<_}
-use Rattle.queue.proofs.FrameLaws.{label-some, label-none}
+use Rattle.queue.proofs.FrameLaws.{label-none, label-some}
 use Rattle.queue.proofs.NearLaws.{counted-near}
 use borrow.Author.Needs.{needs}
+use native.Mathlib.Omega.{arith}
 use Rattle.queue.proofs.near.label_near.Statement.{statement}
 use Rattle.queue.proofs.near.label_near.Tie as tie
 use Rattle.queue.proofs.near.label_near.Reads as reads

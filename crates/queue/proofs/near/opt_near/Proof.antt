@@ -1,10 +1,7 @@
 -- Filled from its answers by tools/proofkit.py: change those, and fill it again.
-use mathlib.Core.Path.{_≡_, refl, sym, ap, _∙_}
-use native.Mathlib.Omega.{arith}
-use mathlib.Core.Bool.{Bool, true, false, _&&_}
-use Prim.Native.Nat.{ℕ, _≤_, _+_, _-_, _*_, _<_}
-use Rattle.queue.proofs.FrameLaws.{opt-num-some, opt-num-none}
+use Rattle.queue.proofs.FrameLaws.{opt-num-none, opt-num-some}
 use borrow.Author.Needs.{needs}
+use native.Mathlib.Omega.{arith}
 use Rattle.queue.proofs.near.opt_near.Statement.{statement}
 use Rattle.queue.proofs.near.opt_near.Tie as tie
 use Rattle.queue.proofs.near.opt_near.Reads as reads

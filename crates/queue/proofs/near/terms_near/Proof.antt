@@ -1,11 +1,8 @@
 -- Filled from its answers by tools/proofkit.py: change those, and fill it again.
-use mathlib.Core.Path.{_≡_, refl, sym, ap, _∙_}
-use native.Mathlib.Omega.{arith}
-use mathlib.Core.Bool.{Bool, true, false, _&&_}
-use Prim.Native.Nat.{ℕ, _≤_, _+_, _-_, _*_, _<_}
 use Rattle.queue.proofs.FrameLaws.{terms-read}
 use Rattle.queue.proofs.NearLaws.{span-near}
 use borrow.Author.Needs.{needs}
+use native.Mathlib.Omega.{arith}
 use Rattle.queue.proofs.near.terms_near.Statement.{statement}
 use Rattle.queue.proofs.near.terms_near.Tie as tie
 use Rattle.queue.proofs.near.terms_near.Reads as reads

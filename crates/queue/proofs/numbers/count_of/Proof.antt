@@ -1,13 +1,12 @@
 -- Filled from its answers by tools/proofkit.py: change those, and fill it again.
-use mathlib.Core.Path.{_≡_, refl, sym, ap, _∙_}
-use native.Mathlib.Omega.{arith}
-use mathlib.Core.Bool.{Bool, true, false, _&&_, _||_}
-use Prim.Native.Nat.{ℕ, _≤_, _+_, _-_, _*_, _/_, _%_, _<_}
-use lib.ListN.{length, take, drop, getD}
-use lib.Dec.{ltb, eqb}
+use Prim.Native.Nat.{_+_, _-_, _≤_, ℕ}
+use Rattle.queue.proofs.NumberLaws.{count-end, count-go}
 use Rattle.queue.specs.paper.Lists.{count}
-use Rattle.queue.proofs.NumberLaws.{count-go, count-end}
 use borrow.Author.Needs.{needs}
+use lib.Dec.{eqb}
+use lib.ListN.{drop, length}
+use mathlib.Core.Path.{_≡_, refl}
+use native.Mathlib.Omega.{arith}
 use Rattle.queue.proofs.numbers.count_of.Statement.{statement}
 use Rattle.queue.proofs.numbers.count_of.Tie as tie
 use Rattle.queue.proofs.numbers.count_of.Reads as reads

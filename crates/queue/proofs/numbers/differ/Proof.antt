@@ -1,12 +1,7 @@
 -- Filled from its answers by tools/proofkit.py: change those, and fill it again.
-use mathlib.Core.Path.{_≡_, refl, sym, ap, _∙_}
-use native.Mathlib.Omega.{arith}
-use mathlib.Core.Bool.{Bool, true, false, _&&_, _||_}
-use Prim.Native.Nat.{ℕ, _≤_, _+_, _-_, _*_, _/_, _%_, _<_}
-use lib.ListN.{length, take, drop, getD}
-use native.Mathlib.Nat.{zero-lt-suc}
 use Rattle.queue.proofs.NumberLaws.{differ-before}
 use borrow.Author.Needs.{needs}
+use native.Mathlib.Nat.{zero-lt-suc}
 use Rattle.queue.proofs.numbers.differ.Statement.{statement}
 use Rattle.queue.proofs.numbers.differ.Tie as tie
 use Rattle.queue.proofs.numbers.differ.Reads as reads

@@ -1,12 +1,10 @@
 -- Filled from its answers by tools/proofkit.py: change those, and fill it again.
-use mathlib.Core.Path.{_≡_, refl, sym, ap, _∙_}
-use native.Mathlib.Omega.{arith}
-use mathlib.Core.Bool.{Bool, true, false, _&&_, _||_}
-use Prim.Native.Nat.{ℕ, _≤_, _+_, _-_, _*_, _/_, _%_, _<_}
-use lib.ListN.{length, take, drop, getD}
+use Prim.Native.Nat.{_-_, _<_, _≤_, ℕ}
+use Rattle.queue.proofs.NumberLaws.{differ-end, differ-go, differ-stop}
 use Rattle.queue.specs.Numbers.{timesIn}
-use Rattle.queue.proofs.NumberLaws.{differ-go, differ-stop, differ-end}
 use borrow.Author.Needs.{needs}
+use lib.ListN.{getD, length}
+use native.Mathlib.Omega.{arith}
 use Rattle.queue.proofs.numbers.differ_all.Statement.{statement}
 use Rattle.queue.proofs.numbers.differ_all.Tie as tie
 use Rattle.queue.proofs.numbers.differ_all.Reads as reads

@@ -1,11 +1,8 @@
 -- Filled from its answers by tools/proofkit.py: change those, and fill it again.
-use mathlib.Core.Path.{_≡_, refl, sym, ap, _∙_}
-use native.Mathlib.Omega.{arith}
-use mathlib.Core.Bool.{Bool, true, false, _&&_, _||_}
-use Prim.Native.Nat.{ℕ, _≤_, _+_, _-_, _*_, _/_, _%_, _<_}
-use lib.ListN.{length, take, drop, getD}
-use Rattle.queue.proofs.NumberLaws.{Between, search-start, search-high, search-low, search-end}
+use Prim.Native.Nat.{_-_}
+use Rattle.queue.proofs.NumberLaws.{Between, search-end, search-high, search-low, search-start}
 use borrow.Author.Needs.{needs}
+use native.Mathlib.Omega.{arith}
 use Rattle.queue.proofs.numbers.floor_in.Statement.{statement}
 use Rattle.queue.proofs.numbers.floor_in.Tie as tie
 use Rattle.queue.proofs.numbers.floor_in.Reads as reads

@@ -1,12 +1,11 @@
 -- Filled from its answers by tools/proofkit.py: change those, and fill it again.
-use mathlib.Core.Path.{_≡_, refl, sym, ap, _∙_}
-use native.Mathlib.Omega.{arith}
-use mathlib.Core.Bool.{Bool, true, false, _&&_, _||_}
-use Prim.Native.Nat.{ℕ, _≤_, _+_, _-_, _*_, _/_, _%_, _<_}
-use lib.ListN.{length, take, drop, getD}
+use Prim.Native.Nat.{_-_}
+use Rattle.queue.proofs.NumberLaws.{Fresh, fresh-end, fresh-go, fresh-start}
 use Rattle.queue.specs.ReadLaws.{false-true}
-use Rattle.queue.proofs.NumberLaws.{Fresh, fresh-start, fresh-go, fresh-end}
 use borrow.Author.Needs.{needs}
+use lib.ListN.{length}
+use mathlib.Core.Path.{_≡_, refl}
+use native.Mathlib.Omega.{arith}
 use Rattle.queue.proofs.numbers.fresh.Statement.{statement}
 use Rattle.queue.proofs.numbers.fresh.Tie as tie
 use Rattle.queue.proofs.numbers.fresh.Reads as reads

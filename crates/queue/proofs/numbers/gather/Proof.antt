@@ -1,15 +1,14 @@
 -- Filled from its answers by tools/proofkit.py: change those, and fill it again.
-use mathlib.Core.Path.{_≡_, refl, sym, ap, _∙_}
-use native.Mathlib.Omega.{arith}
-use mathlib.Core.Bool.{Bool, true, false, _&&_, _||_}
-use Prim.Native.Nat.{ℕ, _≤_, _+_, _-_, _*_, _/_, _%_, _<_}
-use lib.ListN.{length, take, drop, getD}
-use mathlib.Core.List.{List, []}
-use Rattle.queue.specs.Frames.{recC}
+use Prim.Native.Nat.{_≤_}
+use Rattle.queue.proofs.NumberLaws.{filled-long, gather-end, gather-go, gather-room, numbersFrom}
+use Rattle.queue.proofs.Turns.{Scan, seen, start}
 use Rattle.queue.specs.Forms.{formC}
-use Rattle.queue.proofs.Turns.{Scan, start, seen}
-use Rattle.queue.proofs.NumberLaws.{numbersFrom, gather-go, gather-room, gather-end, filled-long}
+use Rattle.queue.specs.Frames.{recC}
 use borrow.Author.Needs.{needs}
+use lib.ListN.{length, take}
+use mathlib.Core.List.{[]}
+use mathlib.Core.Path.{_≡_, refl}
+use native.Mathlib.Omega.{arith}
 use Rattle.queue.proofs.numbers.gather.Statement.{statement}
 use Rattle.queue.proofs.numbers.gather.Tie as tie
 use Rattle.queue.proofs.numbers.gather.Reads as reads

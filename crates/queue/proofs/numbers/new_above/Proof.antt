@@ -1,11 +1,8 @@
 -- Filled from its answers by tools/proofkit.py: change those, and fill it again.
-use mathlib.Core.Path.{_≡_, refl, sym, ap, _∙_}
-use native.Mathlib.Omega.{arith}
-use mathlib.Core.Bool.{Bool, true, false, _&&_}
-use Prim.Native.Nat.{ℕ, _≤_, _+_, _-_, _*_, _<_}
-use borrow.Author.Tests.{lt-ltb, le-ltb}
 use Rattle.queue.specs.Finishing.{newAbove}
 use borrow.Author.Needs.{needs}
+use borrow.Author.Tests.{le-ltb, lt-ltb}
+use native.Mathlib.Omega.{arith}
 use Rattle.queue.proofs.numbers.new_above.Statement.{statement}
 use Rattle.queue.proofs.numbers.new_above.Tie as tie
 use Rattle.queue.proofs.numbers.new_above.Reads as reads

@@ -1,11 +1,9 @@
 -- Filled from its answers by tools/proofkit.py: change those, and fill it again.
-use mathlib.Core.Path.{_≡_, refl, sym, ap, _∙_}
-use native.Mathlib.Omega.{arith}
-use mathlib.Core.Bool.{Bool, true, false, _&&_, _||_}
-use Prim.Native.Nat.{ℕ, _≤_, _+_, _-_, _*_, _/_, _%_, _<_}
-use lib.ListN.{length, take, drop, getD}
-use Rattle.queue.proofs.NumberLaws.{steps-go, steps-same, steps-out, steps-up}
+use Prim.Native.Nat.{_+_, _-_, _<_, _≤_, ℕ}
+use Rattle.queue.proofs.NumberLaws.{steps-go, steps-out, steps-same, steps-up}
 use borrow.Author.Needs.{needs}
+use lib.ListN.{getD, length}
+use native.Mathlib.Omega.{arith}
 use Rattle.queue.proofs.numbers.steps.Statement.{statement}
 use Rattle.queue.proofs.numbers.steps.Tie as tie
 use Rattle.queue.proofs.numbers.steps.Reads as reads

@@ -1,19 +1,18 @@
 -- Filled from its answers by tools/proofkit.py: change those, and fill it again.
-use mathlib.Core.Path.{_≡_, refl, sym, ap, _∙_}
-use native.Mathlib.Omega.{arith}
-use mathlib.Core.Bool.{Bool, true, false, _&&_, _||_}
-use Prim.Native.Nat.{ℕ, _≤_, _+_, _-_, _*_, _/_, _<_}
-use lib.ListN.{length, take, drop, getD}
-use Rattle.queue.specs.Frames.{recC, idC}
-use Rattle.queue.specs.Forms.{formC}
-use Rattle.queue.specs.View.{view}
-use Rattle.queue.specs.Reads.{listAt}
-use Rattle.queue.specs.Reopens.{idsAt}
-use Rattle.queue.specs.Reserving.{inputsOf}
-use Rattle.queue.proofs.Turns.{here}
+use Prim.Native.Nat.{_≤_}
+use Rattle.queue.proofs.OwnLaws.{Adding, add-end, add-go, adding}
 use Rattle.queue.proofs.SuspectLaws.{id-bytes}
-use Rattle.queue.proofs.OwnLaws.{Adding, adding, add-go, add-end}
+use Rattle.queue.proofs.Turns.{here}
+use Rattle.queue.specs.Forms.{formC}
+use Rattle.queue.specs.Frames.{recC}
+use Rattle.queue.specs.Reads.{listAt}
+use Rattle.queue.specs.Reserving.{inputsOf}
+use Rattle.queue.specs.View.{view}
 use borrow.Author.Needs.{needs}
+use lib.ListN.{length, take}
+use mathlib.Core.Bool.{false}
+use mathlib.Core.Path.{_≡_, refl}
+use native.Mathlib.Omega.{arith}
 use Rattle.queue.proofs.own.add_rows.Statement.{statement}
 use Rattle.queue.proofs.own.add_rows.Tie as tie
 use Rattle.queue.proofs.own.add_rows.Reads as reads

@@ -1,19 +1,12 @@
 -- Filled from its answers by tools/proofkit.py: change those, and fill it again.
-use mathlib.Core.Path.{_≡_, refl, sym, ap, _∙_}
-use native.Mathlib.Omega.{arith}
-use mathlib.Core.Bool.{Bool, true, false, _&&_, _||_}
-use Prim.Native.Nat.{ℕ, _≤_, _+_, _-_, _*_, _/_, _<_}
-use lib.ListN.{length, take, drop, getD}
-use Rattle.queue.specs.Frames.{recC, idC}
-use Rattle.queue.specs.Forms.{formC}
-use Rattle.queue.specs.View.{view}
-use Rattle.queue.specs.Reads.{listAt}
-use Rattle.queue.specs.Reopens.{idsAt}
-use Rattle.queue.specs.Reserving.{inputsOf}
+use Prim.Native.Nat.{_+_}
+use Rattle.queue.proofs.OwnLaws.{set-end, set-go, set-stop}
 use Rattle.queue.specs.Owning.{set?}
 use Rattle.queue.specs.paper.Lists.{all?}
-use Rattle.queue.proofs.OwnLaws.{set-go, set-stop, set-end}
 use borrow.Author.Needs.{needs}
+use lib.ListN.{drop, take}
+use mathlib.Core.Path.{_≡_, refl}
+use native.Mathlib.Omega.{arith}
 use Rattle.queue.proofs.own.all_set.Statement.{statement}
 use Rattle.queue.proofs.own.all_set.Tie as tie
 use Rattle.queue.proofs.own.all_set.Reads as reads

@@ -1,19 +1,18 @@
 -- Filled from its answers by tools/proofkit.py: change those, and fill it again.
-use mathlib.Core.Path.{_≡_, refl, sym, ap, _∙_}
-use native.Mathlib.Omega.{arith}
-use mathlib.Core.Bool.{Bool, true, false, _&&_, _||_}
-use Prim.Native.Nat.{ℕ, _≤_, _+_, _-_, _*_, _/_, _<_}
-use lib.ListN.{length, take, drop, getD}
-use Rattle.queue.specs.Frames.{recC, idC}
+use Prim.Native.Nat.{_+_, _≤_}
+use Rattle.queue.proofs.OwnLaws.{markR, marks-end, marks-go, marks-room}
+use Rattle.queue.proofs.Turns.{Scan, seen, start}
 use Rattle.queue.specs.Forms.{formC}
-use Rattle.queue.specs.View.{view}
+use Rattle.queue.specs.Frames.{recC}
+use Rattle.queue.specs.Owning.{ownF}
 use Rattle.queue.specs.Reads.{listAt}
 use Rattle.queue.specs.Reopens.{idsAt}
 use Rattle.queue.specs.Reserving.{inputsOf}
-use Rattle.queue.specs.Owning.{ownF}
-use Rattle.queue.proofs.Turns.{Scan, start, seen}
-use Rattle.queue.proofs.OwnLaws.{markR, marks-room, marks-go, marks-end}
 use borrow.Author.Needs.{needs}
+use lib.ListN.{length}
+use mathlib.Core.Bool.{false}
+use mathlib.Core.Path.{_≡_, refl}
+use native.Mathlib.Omega.{arith}
 use Rattle.queue.proofs.own.mark_all.Statement.{statement}
 use Rattle.queue.proofs.own.mark_all.Tie as tie
 use Rattle.queue.proofs.own.mark_all.Reads as reads

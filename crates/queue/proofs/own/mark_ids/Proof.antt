@@ -1,20 +1,17 @@
 -- Filled from its answers by tools/proofkit.py: change those, and fill it again.
-use mathlib.Core.Path.{_≡_, refl, sym, ap, _∙_}
-use native.Mathlib.Omega.{arith}
-use mathlib.Core.Bool.{Bool, true, false, _&&_, _||_}
-use Prim.Native.Nat.{ℕ, _≤_, _+_, _-_, _*_, _/_, _<_}
-use lib.ListN.{length, take, drop, getD, length-set}
-use Rattle.queue.specs.Frames.{recC, idC}
-use Rattle.queue.specs.Forms.{formC}
-use Rattle.queue.specs.View.{view}
-use Rattle.queue.specs.Reads.{listAt}
-use Rattle.queue.specs.Reopens.{idsAt}
-use Rattle.queue.specs.Reserving.{inputsOf}
-use Rattle.queue.specs.Owning.{ownF}
-use Rattle.queue.proofs.Turns.{Scan, start, here}
+use Prim.Native.Nat.{_+_, _≤_}
+use Rattle.queue.proofs.OwnLaws.{mark-end, mark-go, markF}
 use Rattle.queue.proofs.SuspectLaws.{id-bytes}
-use Rattle.queue.proofs.OwnLaws.{markF, mark-go, mark-end}
+use Rattle.queue.proofs.Turns.{Scan, here, start}
+use Rattle.queue.specs.Frames.{idC}
+use Rattle.queue.specs.Owning.{ownF}
+use Rattle.queue.specs.Reopens.{idsAt}
+use Rattle.queue.specs.View.{view}
 use borrow.Author.Needs.{needs}
+use lib.ListN.{length, length-set}
+use mathlib.Core.Bool.{false}
+use mathlib.Core.Path.{_≡_, refl}
+use native.Mathlib.Omega.{arith}
 use Rattle.queue.proofs.own.mark_ids.Statement.{statement}
 use Rattle.queue.proofs.own.mark_ids.Tie as tie
 use Rattle.queue.proofs.own.mark_ids.Reads as reads

@@ -1,19 +1,11 @@
 -- Filled from its answers by tools/proofkit.py: change those, and fill it again.
-use mathlib.Core.Path.{_≡_, refl, sym, ap, _∙_}
-use native.Mathlib.Omega.{arith}
-use mathlib.Core.Bool.{Bool, true, false, _&&_, _||_}
-use Prim.Native.Nat.{ℕ, _≤_, _+_, _-_, _*_, _/_, _<_}
-use lib.ListN.{length, take, drop, getD}
-use Rattle.queue.specs.Frames.{recC, idC}
-use Rattle.queue.specs.Forms.{formC}
-use Rattle.queue.specs.View.{view}
-use Rattle.queue.specs.Reads.{listAt}
-use Rattle.queue.specs.Reopens.{idsAt}
-use Rattle.queue.specs.Reserving.{inputsOf}
-use lib.Seq.{length-take-le}
-use Rattle.queue.specs.ReadLaws.{false-true}
 use Rattle.queue.proofs.OwnLaws.{first-flags, owned-all, owned-in}
+use Rattle.queue.specs.ReadLaws.{false-true}
+use Rattle.queue.specs.Reopens.{idsAt}
 use borrow.Author.Needs.{needs}
+use lib.Seq.{length-take-le}
+use mathlib.Core.Path.{sym}
+use native.Mathlib.Omega.{arith}
 use Rattle.queue.proofs.own.own_flags.Statement.{statement}
 use Rattle.queue.proofs.own.own_flags.Tie as tie
 use Rattle.queue.proofs.own.own_flags.Reads as reads

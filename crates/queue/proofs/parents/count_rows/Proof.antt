@@ -1,8 +1,8 @@
 -- Filled from its answers by tools/proofkit.py: change those, and fill it again.
-use native.Mathlib.Omega.{arith}
 use Prim.Native.Nat.{_-_}
-use Rattle.queue.proofs.ParentLaws.{Counting, counting, counting-room, counting-top, counting-go, counting-end}
+use Rattle.queue.proofs.ParentLaws.{Counting, counting, counting-end, counting-go, counting-room, counting-top}
 use borrow.Author.Needs.{needs}
+use native.Mathlib.Omega.{arith}
 use Rattle.queue.proofs.parents.count_rows.Statement.{statement}
 use Rattle.queue.proofs.parents.count_rows.Tie as tie
 use Rattle.queue.proofs.parents.count_rows.Reads as reads

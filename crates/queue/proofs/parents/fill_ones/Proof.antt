@@ -1,11 +1,10 @@
 -- Filled from its answers by tools/proofkit.py: change those, and fill it again.
-use mathlib.Core.Path.{_≡_, refl, _∙_}
-use native.Mathlib.Omega.{arith}
-use Prim.Native.Nat.{ℕ, _-_, _<_}
-use lib.ListN.{length, getD}
-use lib.ListN.{length-set}
-use Rattle.queue.proofs.ParentLaws.{one-go, one-end}
+use Prim.Native.Nat.{_-_, _<_, ℕ}
+use Rattle.queue.proofs.ParentLaws.{one-end, one-go}
 use borrow.Author.Needs.{needs}
+use lib.ListN.{getD, length, length-set}
+use mathlib.Core.Path.{_∙_, _≡_, refl}
+use native.Mathlib.Omega.{arith}
 use Rattle.queue.proofs.parents.fill_ones.Statement.{statement}
 use Rattle.queue.proofs.parents.fill_ones.Tie as tie
 use Rattle.queue.proofs.parents.fill_ones.Reads as reads

@@ -1,9 +1,9 @@
 -- Filled from its answers by tools/proofkit.py: change those, and fill it again.
-use native.Mathlib.Omega.{arith}
 use Prim.Native.Nat.{_-_}
+use Rattle.queue.proofs.ParentLaws.{first-end, first-here, first-on}
 use Rattle.queue.specs.parents.Links.{Clear}
-use Rattle.queue.proofs.ParentLaws.{first-here, first-on, first-end}
 use borrow.Author.Needs.{needs}
+use native.Mathlib.Omega.{arith}
 use Rattle.queue.proofs.parents.first_from.Statement.{statement}
 use Rattle.queue.proofs.parents.first_from.Tie as tie
 use Rattle.queue.proofs.parents.first_from.Reads as reads

@@ -1,11 +1,11 @@
 -- Filled from its answers by tools/proofkit.py: change those, and fill it again.
+use Prim.Native.Nat.{_-_}
+use Rattle.queue.proofs.BitLaws.{line-in}
+use Rattle.queue.proofs.ParentLaws.{Listing, listing, listing-end, listing-go, listing-stop}
+use borrow.Author.Needs.{needs}
+use lib.ListN.{length}
 use mathlib.Core.Path.{refl}
 use native.Mathlib.Omega.{arith}
-use Prim.Native.Nat.{_-_}
-use lib.ListN.{length}
-use Rattle.queue.proofs.BitLaws.{line-in}
-use Rattle.queue.proofs.ParentLaws.{Listing, listing, listing-stop, listing-go, listing-end}
-use borrow.Author.Needs.{needs}
 use Rattle.queue.proofs.parents.list_rows.Statement.{statement}
 use Rattle.queue.proofs.parents.list_rows.Tie as tie
 use Rattle.queue.proofs.parents.list_rows.Reads as reads

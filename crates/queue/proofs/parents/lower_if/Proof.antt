@@ -1,8 +1,7 @@
 -- Filled from its answers by tools/proofkit.py: change those, and fill it again.
-use native.Mathlib.Omega.{arith}
-use Prim.Native.Nat.{_-_}
-use Rattle.queue.proofs.ParentLaws.{lower-off, lower-out, lower-idle, lower-first, lower-later}
+use Rattle.queue.proofs.ParentLaws.{lower-first, lower-idle, lower-later, lower-off, lower-out}
 use borrow.Author.Needs.{needs}
+use native.Mathlib.Omega.{arith}
 use Rattle.queue.proofs.parents.lower_if.Statement.{statement}
 use Rattle.queue.proofs.parents.lower_if.Tie as tie
 use Rattle.queue.proofs.parents.lower_if.Reads as reads

@@ -1,12 +1,12 @@
 -- Filled from its answers by tools/proofkit.py: change those, and fill it again.
-use mathlib.Core.Path.{_≡_, refl}
-use native.Mathlib.Omega.{arith}
 use Prim.Native.Nat.{_-_}
-use lib.ListN.{length}
+use Rattle.queue.proofs.ParentLaws.{Words, down, lower-cons, lower-nil, words-end, words-go, words-start}
 use Rattle.queue.specs.parents.Counters.{lower}
 use Rattle.queue.specs.parents.Links.{Clear}
-use Rattle.queue.proofs.ParentLaws.{down, lower-nil, lower-cons, Words, words-start, words-go, words-end}
 use borrow.Author.Needs.{needs}
+use lib.ListN.{length}
+use mathlib.Core.Path.{_≡_, refl}
+use native.Mathlib.Omega.{arith}
 use Rattle.queue.proofs.parents.lower_line.Statement.{statement}
 use Rattle.queue.proofs.parents.lower_line.Tie as tie
 use Rattle.queue.proofs.parents.lower_line.Reads as reads

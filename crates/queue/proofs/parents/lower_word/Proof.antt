@@ -1,12 +1,12 @@
 -- Filled from its answers by tools/proofkit.py: change those, and fill it again.
-use mathlib.Core.Path.{_≡_, refl}
-use native.Mathlib.Omega.{arith}
 use Prim.Native.Nat.{_+_, _-_}
-use lib.ListN.{length}
+use Rattle.queue.proofs.ParentLaws.{Sweep, down, lower-cons, lower-nil, sweep-end, sweep-go, sweep-room, sweep-start}
 use Rattle.queue.specs.parents.Counters.{lower}
 use Rattle.queue.specs.parents.Links.{Clear}
-use Rattle.queue.proofs.ParentLaws.{down, lower-nil, lower-cons, Sweep, sweep-start, sweep-room, sweep-go, sweep-end}
 use borrow.Author.Needs.{needs}
+use lib.ListN.{length}
+use mathlib.Core.Path.{_≡_, refl}
+use native.Mathlib.Omega.{arith}
 use Rattle.queue.proofs.parents.lower_word.Statement.{statement}
 use Rattle.queue.proofs.parents.lower_word.Tie as tie
 use Rattle.queue.proofs.parents.lower_word.Reads as reads

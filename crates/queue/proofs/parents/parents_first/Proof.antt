@@ -1,10 +1,9 @@
 -- Filled from its answers by tools/proofkit.py: change those, and fill it again.
+use Rattle.queue.proofs.ParentLaws.{long-told, short-part}
+use borrow.Author.Needs.{needs}
+use lib.Seq.{length-take-le}
 use mathlib.Core.Path.{sym}
 use native.Mathlib.Omega.{arith}
-use Prim.Native.Nat.{_-_}
-use lib.Seq.{length-take-le}
-use Rattle.queue.proofs.ParentLaws.{short-part, long-told}
-use borrow.Author.Needs.{needs}
 use Rattle.queue.proofs.parents.parents_first.Statement.{statement}
 use Rattle.queue.proofs.parents.parents_first.Tie as tie
 use Rattle.queue.proofs.parents.parents_first.Reads as reads

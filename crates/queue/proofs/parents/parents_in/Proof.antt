@@ -1,11 +1,10 @@
 -- Filled from its answers by tools/proofkit.py: change those, and fill it again.
+use Rattle.queue.proofs.ParentLaws.{chosen-modest, parents-100, parents-3}
+use Rattle.queue.proofs.SelectLaws.{chosen-few, chosen-rising}
+use borrow.Author.Needs.{needs}
+use borrow.Author.Tests.{not-false, not-true}
 use mathlib.Core.Path.{refl}
 use native.Mathlib.Omega.{arith}
-use Prim.Native.Nat.{_-_}
-use borrow.Author.Tests.{not-true, not-false}
-use Rattle.queue.proofs.SelectLaws.{chosen-few, chosen-rising}
-use Rattle.queue.proofs.ParentLaws.{chosen-modest, parents-3, parents-100}
-use borrow.Author.Needs.{needs}
 use Rattle.queue.proofs.parents.parents_in.Statement.{statement}
 use Rattle.queue.proofs.parents.parents_in.Tie as tie
 use Rattle.queue.proofs.parents.parents_in.Reads as reads

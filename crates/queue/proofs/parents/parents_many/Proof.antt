@@ -1,11 +1,10 @@
 -- Filled from its answers by tools/proofkit.py: change those, and fill it again.
-use mathlib.Core.Path.{sym}
-use native.Mathlib.Omega.{arith}
-use Prim.Native.Nat.{_-_}
+use Rattle.queue.proofs.ParentLaws.{fits-array, square, with-count, with-few, with-list, with-picked, with-room, with-told, with-within, zero-array}
+use borrow.Author.Needs.{needs}
 use lib.ListN.{length}
 use lib.Seq.{length-take-le}
-use Rattle.queue.proofs.ParentLaws.{square, fits-array, zero-array, with-count, with-list, with-room, with-picked, with-within, with-few, with-told}
-use borrow.Author.Needs.{needs}
+use mathlib.Core.Path.{sym}
+use native.Mathlib.Omega.{arith}
 use Rattle.queue.proofs.parents.parents_many.Statement.{statement}
 use Rattle.queue.proofs.parents.parents_many.Tie as tie
 use Rattle.queue.proofs.parents.parents_many.Reads as reads

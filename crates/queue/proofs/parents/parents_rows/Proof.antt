@@ -1,9 +1,8 @@
 -- Filled from its answers by tools/proofkit.py: change those, and fill it again.
-use mathlib.Core.Path.{sym, _∙_}
-use native.Mathlib.Omega.{arith}
-use Prim.Native.Nat.{_-_}
-use Rattle.queue.proofs.ParentLaws.{rows-named, rows-listed}
+use Rattle.queue.proofs.ParentLaws.{rows-listed, rows-named}
 use borrow.Author.Needs.{needs}
+use mathlib.Core.Path.{_∙_, sym}
+use native.Mathlib.Omega.{arith}
 use Rattle.queue.proofs.parents.parents_rows.Statement.{statement}
 use Rattle.queue.proofs.parents.parents_rows.Tie as tie
 use Rattle.queue.proofs.parents.parents_rows.Reads as reads

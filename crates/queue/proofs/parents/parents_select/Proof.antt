@@ -1,10 +1,9 @@
 -- Filled from its answers by tools/proofkit.py: change those, and fill it again.
+use Rattle.queue.proofs.ParentLaws.{gathered-listed, gathered-named}
+use Rattle.queue.proofs.SelectLaws.{even-self, gathered-even, gathered-few}
+use borrow.Author.Needs.{needs}
 use mathlib.Core.Path.{sym}
 use native.Mathlib.Omega.{arith}
-use Prim.Native.Nat.{_-_}
-use Rattle.queue.proofs.SelectLaws.{gathered-few, gathered-even, even-self}
-use Rattle.queue.proofs.ParentLaws.{gathered-named, gathered-listed}
-use borrow.Author.Needs.{needs}
 use Rattle.queue.proofs.parents.parents_select.Statement.{statement}
 use Rattle.queue.proofs.parents.parents_select.Tie as tie
 use Rattle.queue.proofs.parents.parents_select.Reads as reads

@@ -1,9 +1,8 @@
 -- Filled from its answers by tools/proofkit.py: change those, and fill it again.
-use native.Mathlib.Omega.{arith}
-use Prim.Native.Nat.{_-_}
+use Rattle.queue.proofs.ParentLaws.{listed-100, listed-4}
 use Rattle.queue.proofs.PutLaws.{kept}
-use Rattle.queue.proofs.ParentLaws.{listed-4, listed-100}
 use borrow.Author.Needs.{needs}
+use native.Mathlib.Omega.{arith}
 use Rattle.queue.proofs.parents.put_listed.Statement.{statement}
 use Rattle.queue.proofs.parents.put_listed.Tie as tie
 use Rattle.queue.proofs.parents.put_listed.Reads as reads

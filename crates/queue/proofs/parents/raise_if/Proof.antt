@@ -1,6 +1,5 @@
 -- Filled from its answers by tools/proofkit.py: change those, and fill it again.
-use Prim.Native.Nat.{_-_}
-use Rattle.queue.proofs.ParentLaws.{raise-off, raise-out, raise-in}
+use Rattle.queue.proofs.ParentLaws.{raise-in, raise-off, raise-out}
 use borrow.Author.Needs.{needs}
 use Rattle.queue.proofs.parents.raise_if.Statement.{statement}
 use Rattle.queue.proofs.parents.raise_if.Tie as tie

@@ -1,12 +1,12 @@
 -- Filled from its answers by tools/proofkit.py: change those, and fill it again.
-use mathlib.Core.Path.{_≡_, refl}
-use native.Mathlib.Omega.{arith}
 use Prim.Native.Nat.{_+_, _-_}
-use lib.ListN.{length}
+use Rattle.queue.proofs.ParentLaws.{Words, few-to, raise-cons, raise-nil, up, words-end, words-go, words-start}
 use Rattle.queue.specs.parents.Counters.{raise}
 use Rattle.queue.specs.parents.Links.{Few}
-use Rattle.queue.proofs.ParentLaws.{up, raise-nil, raise-cons, Words, words-start, words-go, words-end, few-to}
 use borrow.Author.Needs.{needs}
+use lib.ListN.{length}
+use mathlib.Core.Path.{_≡_, refl}
+use native.Mathlib.Omega.{arith}
 use Rattle.queue.proofs.parents.raise_line.Statement.{statement}
 use Rattle.queue.proofs.parents.raise_line.Tie as tie
 use Rattle.queue.proofs.parents.raise_line.Reads as reads

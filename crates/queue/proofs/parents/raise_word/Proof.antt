@@ -1,13 +1,13 @@
 -- Filled from its answers by tools/proofkit.py: change those, and fill it again.
-use mathlib.Core.Path.{_≡_, refl}
-use native.Mathlib.Omega.{arith}
-use Prim.Native.Nat.{_+_, _-_, _%_}
-use lib.ListN.{length}
-use lib.Dec.{eqb}
+use Prim.Native.Nat.{_%_, _+_, _-_}
+use Rattle.queue.proofs.ParentLaws.{Sweep, few-more, few-to, raise-cons, raise-nil, sweep-end, sweep-go, sweep-room, sweep-start, up}
 use Rattle.queue.specs.parents.Counters.{raise}
 use Rattle.queue.specs.parents.Links.{Few}
-use Rattle.queue.proofs.ParentLaws.{up, raise-nil, raise-cons, Sweep, sweep-start, sweep-room, sweep-go, sweep-end, few-more, few-to}
 use borrow.Author.Needs.{needs}
+use lib.Dec.{eqb}
+use lib.ListN.{length}
+use mathlib.Core.Path.{_≡_, refl}
+use native.Mathlib.Omega.{arith}
 use Rattle.queue.proofs.parents.raise_word.Statement.{statement}
 use Rattle.queue.proofs.parents.raise_word.Tie as tie
 use Rattle.queue.proofs.parents.raise_word.Reads as reads

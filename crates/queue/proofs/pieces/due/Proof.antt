@@ -1,11 +1,7 @@
 -- Filled from its answers by tools/proofkit.py: change those, and fill it again.
-use mathlib.Core.Path.{_≡_, refl, sym, ap, _∙_}
-use native.Mathlib.Omega.{arith}
-use mathlib.Core.Bool.{Bool, true, false, cond, _&&_}
-use Prim.Native.Nat.{ℕ, _≤_, _+_, _-_, _*_, _<_}
-use lib.ListN.{length, take, drop}
 use Rattle.queue.proofs.PieceLaws.{due-told}
 use borrow.Author.Needs.{needs}
+use mathlib.Core.Path.{_∙_}
 use Rattle.queue.proofs.pieces.due.Statement.{statement}
 use Rattle.queue.proofs.pieces.due.Tie as tie
 use Rattle.queue.proofs.pieces.due.Reads as reads

@@ -1,11 +1,7 @@
 -- Filled from its answers by tools/proofkit.py: change those, and fill it again.
-use mathlib.Core.Path.{_≡_, refl, sym, ap, _∙_}
-use native.Mathlib.Omega.{arith}
-use mathlib.Core.Bool.{Bool, true, false, cond, _&&_}
-use Prim.Native.Nat.{ℕ, _≤_, _+_, _-_, _*_, _<_}
-use lib.ListN.{length, take, drop}
 use Rattle.queue.specs.PiecesAs.{pieceAt, pieceLen}
 use borrow.Author.Needs.{needs}
+use native.Mathlib.Omega.{arith}
 use Rattle.queue.proofs.pieces.put_piece.Statement.{statement}
 use Rattle.queue.proofs.pieces.put_piece.Tie as tie
 use Rattle.queue.proofs.pieces.put_piece.Reads as reads

@@ -1,11 +1,7 @@
 -- Filled from its answers by tools/proofkit.py: change those, and fill it again.
-use mathlib.Core.Path.{_≡_, refl, sym, ap, _∙_}
-use native.Mathlib.Omega.{arith}
-use mathlib.Core.Bool.{Bool, true, false, cond, _&&_}
-use Prim.Native.Nat.{ℕ, _≤_, _+_, _-_, _*_, _<_}
-use lib.ListN.{length, take, drop}
-use Rattle.queue.proofs.PieceLaws.{Writing, writing-start, writing-in, writing-within, writing-room, writing-go, writing-end}
+use Rattle.queue.proofs.PieceLaws.{Writing, writing-end, writing-go, writing-in, writing-room, writing-start, writing-within}
 use borrow.Author.Needs.{needs}
+use native.Mathlib.Omega.{arith}
 use Rattle.queue.proofs.pieces.put_pieces.Statement.{statement}
 use Rattle.queue.proofs.pieces.put_pieces.Tie as tie
 use Rattle.queue.proofs.pieces.put_pieces.Reads as reads

@@ -1,13 +1,9 @@
 -- Filled from its answers by tools/proofkit.py: change those, and fill it again.
-use mathlib.Core.Path.{_≡_, refl, sym, ap, _∙_}
-use native.Mathlib.Omega.{arith}
-use mathlib.Core.Bool.{Bool, true, false, cond, _&&_}
-use Prim.Native.Nat.{ℕ, _≤_, _+_, _-_, _*_, _<_}
-use lib.ListN.{length, take, drop}
-use borrow.Author.Tests.{not-true, not-false}
+use Rattle.queue.proofs.PieceLaws.{answer-100, answer-4, told-3}
 use Rattle.queue.proofs.PutLaws.{kept}
-use Rattle.queue.proofs.PieceLaws.{told-3, answer-4, answer-100}
 use borrow.Author.Needs.{needs}
+use borrow.Author.Tests.{not-false, not-true}
+use native.Mathlib.Omega.{arith}
 use Rattle.queue.proofs.pieces.told.Statement.{statement}
 use Rattle.queue.proofs.pieces.told.Tie as tie
 use Rattle.queue.proofs.pieces.told.Reads as reads

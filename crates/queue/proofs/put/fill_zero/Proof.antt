@@ -1,11 +1,11 @@
 -- Filled from its answers by tools/proofkit.py: change those, and fill it again.
-use Rattle.queue.proofs.PutLaws.{nothing, recast, fill-turn}
-use Rattle.queue.specs.Splice.{splice, be, Put}
-use mathlib.Core.Path.{_≡_, refl, ap, _∙_}
-use Prim.Native.Nat.{ℕ, _≤_, _+_, _-_}
-use native.Mathlib.Omega.{arith}
-use lib.ListN.{length, replicate, length-set}
+use Prim.Native.Nat.{_+_, _-_, _≤_, ℕ}
+use Rattle.queue.proofs.PutLaws.{fill-turn, nothing, recast}
+use Rattle.queue.specs.Splice.{Put}
 use borrow.Author.Needs.{needs}
+use lib.ListN.{length, length-set, replicate}
+use mathlib.Core.Path.{_≡_, ap, refl}
+use native.Mathlib.Omega.{arith}
 use Rattle.queue.proofs.put.fill_zero.Statement.{statement}
 use Rattle.queue.proofs.put.fill_zero.Tie as tie
 use Rattle.queue.proofs.put.fill_zero.Reads as reads

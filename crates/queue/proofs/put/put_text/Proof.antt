@@ -1,13 +1,13 @@
 -- Filled from its answers by tools/proofkit.py: change those, and fill it again.
-use mathlib.Core.Path.{_≡_, refl, sym, ap, _∙_}
-use Prim.Native.Nat.{ℕ, _+_, _*_, _-_, _≤_, _<_}
-use native.Mathlib.Omega.{arith}
-use lib.ListN.{length, take, drop, length-set}
+use Prim.Native.Nat.{_*_, _+_, _-_, _≤_, ℕ}
+use Rattle.queue.proofs.ByteLaws.{text-turn}
+use Rattle.queue.proofs.PutLaws.{nothing, recast}
 use Rattle.queue.specs.Hex.{textOf}
 use Rattle.queue.specs.Splice.{Put}
-use Rattle.queue.proofs.PutLaws.{nothing, recast}
-use Rattle.queue.proofs.ByteLaws.{text-turn}
 use borrow.Author.Needs.{needs}
+use lib.ListN.{drop, length, length-set, take}
+use mathlib.Core.Path.{_≡_, ap, refl}
+use native.Mathlib.Omega.{arith}
 use Rattle.queue.proofs.put.put_text.Statement.{statement}
 use Rattle.queue.proofs.put.put_text.Tie as tie
 use Rattle.queue.proofs.put.put_text.Reads as reads

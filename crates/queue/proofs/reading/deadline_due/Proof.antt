@@ -1,17 +1,13 @@
 -- Filled from its answers by tools/proofkit.py: change those, and fill it again.
-use mathlib.Core.Path.{_≡_, refl, sym, ap, _∙_}
-use native.Mathlib.Omega.{arith}
-use mathlib.Core.Bool.{Bool, true, false, _&&_}
-use Prim.Native.Nat.{ℕ, _≤_, _+_, _-_, _*_, _<_}
-use lib.ListN.{length, take, drop}
-use borrow.Author.Tests.{not-true, not-false}
-use Rattle.queue.specs.paper.Lists.{one}
-use Rattle.queue.specs.paper.Reading.{deadlineDue?}
-use Rattle.queue.specs.paper.Lists.{any?}
+use Rattle.queue.proofs.ReadingLaws.{due-sum, number-100, number-3}
 use Rattle.queue.specs.paper.Changing.{due?}
-use lib.Dec.{ltb}
-use Rattle.queue.proofs.ReadingLaws.{number-3, number-100, due-sum}
+use Rattle.queue.specs.paper.Lists.{any?, one}
+use Rattle.queue.specs.paper.Reading.{deadlineDue?}
 use borrow.Author.Needs.{needs}
+use borrow.Author.Tests.{not-false, not-true}
+use lib.Dec.{ltb}
+use mathlib.Core.Path.{_∙_, ap}
+use native.Mathlib.Omega.{arith}
 use Rattle.queue.proofs.reading.deadline_due.Statement.{statement}
 use Rattle.queue.proofs.reading.deadline_due.Tie as tie
 use Rattle.queue.proofs.reading.deadline_due.Reads as reads

@@ -1,11 +1,7 @@
 -- Filled from its answers by tools/proofkit.py: change those, and fill it again.
-use mathlib.Core.Path.{_≡_, refl, sym, ap, _∙_}
-use native.Mathlib.Omega.{arith}
-use mathlib.Core.Bool.{Bool, true, false, _&&_}
-use Prim.Native.Nat.{ℕ, _≤_, _+_, _-_, _*_, _<_}
-use lib.ListN.{length, take, drop}
-use Rattle.queue.proofs.ReadingLaws.{entry-off, entry-fits, entry-4, entry-100}
+use Rattle.queue.proofs.ReadingLaws.{entry-100, entry-4, entry-fits, entry-off}
 use borrow.Author.Needs.{needs}
+use native.Mathlib.Omega.{arith}
 use Rattle.queue.proofs.reading.entry.Statement.{statement}
 use Rattle.queue.proofs.reading.entry.Tie as tie
 use Rattle.queue.proofs.reading.entry.Reads as reads

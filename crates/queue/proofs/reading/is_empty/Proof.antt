@@ -1,13 +1,9 @@
 -- Filled from its answers by tools/proofkit.py: change those, and fill it again.
-use mathlib.Core.Path.{_≡_, refl, sym, ap, _∙_}
-use native.Mathlib.Omega.{arith}
-use mathlib.Core.Bool.{Bool, true, false, _&&_}
-use Prim.Native.Nat.{ℕ, _≤_, _+_, _-_, _*_, _<_}
-use lib.ListN.{length, take, drop}
-use borrow.Author.Tests.{not-true, not-false}
-use Rattle.queue.specs.paper.Lists.{one, isEmpty?}
-use Rattle.queue.proofs.ReadingLaws.{number-3, number-100, empty-is}
+use Rattle.queue.proofs.ReadingLaws.{empty-is, number-100, number-3}
+use Rattle.queue.specs.paper.Lists.{isEmpty?, one}
 use borrow.Author.Needs.{needs}
+use borrow.Author.Tests.{not-false, not-true}
+use mathlib.Core.Path.{_∙_}
 use Rattle.queue.proofs.reading.is_empty.Statement.{statement}
 use Rattle.queue.proofs.reading.is_empty.Tie as tie
 use Rattle.queue.proofs.reading.is_empty.Reads as reads

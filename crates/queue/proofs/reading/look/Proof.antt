@@ -1,13 +1,11 @@
 -- Filled from its answers by tools/proofkit.py: change those, and fill it again.
-use mathlib.Core.Path.{_≡_, refl, sym, ap, _∙_}
-use native.Mathlib.Omega.{arith}
-use mathlib.Core.Bool.{Bool, true, false, _&&_}
-use Prim.Native.Nat.{ℕ, _≤_, _+_, _-_, _*_, _<_}
-use lib.ListN.{length, take, drop}
-use borrow.Author.Tests.{not-true, not-false}
+use Rattle.queue.proofs.ReadingLaws.{look-0, look-13, look-3, look-5}
 use Rattle.queue.specs.View.{view-raw}
-use Rattle.queue.proofs.ReadingLaws.{look-3, look-5, look-13, look-0}
 use borrow.Author.Needs.{needs}
+use borrow.Author.Tests.{not-false, not-true}
+use mathlib.Core.Bool.{false}
+use mathlib.Core.Path.{refl}
+use native.Mathlib.Omega.{arith}
 use Rattle.queue.proofs.reading.look.Statement.{statement}
 use Rattle.queue.proofs.reading.look.Tie as tie
 use Rattle.queue.proofs.reading.look.Reads as reads

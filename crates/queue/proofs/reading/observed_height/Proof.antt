@@ -1,12 +1,8 @@
 -- Filled from its answers by tools/proofkit.py: change those, and fill it again.
-use mathlib.Core.Path.{_≡_, refl, sym, ap, _∙_}
-use native.Mathlib.Omega.{arith}
-use mathlib.Core.Bool.{Bool, true, false, _&&_}
-use Prim.Native.Nat.{ℕ, _≤_, _+_, _-_, _*_, _<_}
-use lib.ListN.{length, take, drop}
-use borrow.Author.Tests.{not-true, not-false}
-use Rattle.queue.proofs.ReadingLaws.{number-3, number-100}
+use Rattle.queue.proofs.ReadingLaws.{number-100, number-3}
 use borrow.Author.Needs.{needs}
+use borrow.Author.Tests.{not-false, not-true}
+use mathlib.Core.Path.{sym}
 use Rattle.queue.proofs.reading.observed_height.Statement.{statement}
 use Rattle.queue.proofs.reading.observed_height.Tie as tie
 use Rattle.queue.proofs.reading.observed_height.Reads as reads

@@ -1,11 +1,6 @@
 -- Filled from its answers by tools/proofkit.py: change those, and fill it again.
-use mathlib.Core.Path.{_≡_, refl, sym, ap, _∙_}
-use native.Mathlib.Omega.{arith}
-use mathlib.Core.Bool.{Bool, true, false, _&&_}
-use Prim.Native.Nat.{ℕ, _≤_, _+_, _-_, _*_, _<_}
-use lib.ListN.{length, take, drop}
-use borrow.Author.Needs.{needs}
 use Rattle.queue.proofs.ReadingLaws.{place-part}
+use borrow.Author.Needs.{needs}
 use Rattle.queue.proofs.reading.signed_bytes.Statement.{statement}
 use Rattle.queue.proofs.reading.signed_bytes.Tie as tie
 use Rattle.queue.proofs.reading.signed_bytes.Reads as reads

@@ -1,12 +1,9 @@
 -- Filled from its answers by tools/proofkit.py: change those, and fill it again.
-use mathlib.Core.Path.{_≡_, refl, sym, ap, _∙_}
-use native.Mathlib.Omega.{arith}
-use mathlib.Core.Bool.{Bool, true, false, _&&_}
-use Prim.Native.Nat.{ℕ, _≤_, _+_, _-_, _*_, _<_}
-use lib.ListN.{length, take, drop}
-use borrow.Author.Tests.{not-true, not-false}
-use Rattle.queue.proofs.ReadingLaws.{place-off, place-tomb, place-within, place-held}
+use Rattle.queue.proofs.ReadingLaws.{place-held, place-off, place-tomb, place-within}
 use borrow.Author.Needs.{needs}
+use borrow.Author.Tests.{not-false, not-true}
+use mathlib.Core.Path.{refl}
+use native.Mathlib.Omega.{arith}
 use Rattle.queue.proofs.reading.signed_place.Statement.{statement}
 use Rattle.queue.proofs.reading.signed_place.Tie as tie
 use Rattle.queue.proofs.reading.signed_place.Reads as reads

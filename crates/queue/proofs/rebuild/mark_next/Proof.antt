@@ -1,11 +1,4 @@
 -- Filled from its answers by tools/proofkit.py: change those, and fill it again.
-use mathlib.Core.Path.{_≡_, refl, sym, ap, _∙_}
-use native.Mathlib.Omega.{arith}
-use mathlib.Core.Bool.{Bool, true, false, cond, _&&_, _||_}
-use Prim.Native.Nat.{ℕ, _≤_, _+_, _-_, _*_, _/_, _<_}
-use lib.Dec.{leb, ltb, eqb}
-use lib.ListN.{length, take, drop, getD}
-use borrow.Author.Tests.{not-true, not-false, eq-eqb, ne-eqb}
 use Rattle.queue.proofs.RebuildLaws.{mark-new, mark-old}
 use borrow.Author.Needs.{needs}
 use Rattle.queue.proofs.rebuild.mark_next.Statement.{statement}

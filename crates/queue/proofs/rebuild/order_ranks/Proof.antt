@@ -1,7 +1,7 @@
 -- Filled from its answers by tools/proofkit.py: change those, and fill it again.
-use native.Mathlib.Omega.{arith}
 use Rattle.queue.specs.ReadLaws.{false-true}
 use borrow.Author.Needs.{needs}
+use native.Mathlib.Omega.{arith}
 use Rattle.queue.proofs.rebuild.order_ranks.Statement.{statement}
 use Rattle.queue.proofs.rebuild.order_ranks.Tie as tie
 use Rattle.queue.proofs.rebuild.order_ranks.Reads as reads

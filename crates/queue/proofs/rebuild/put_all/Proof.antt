@@ -1,17 +1,12 @@
 -- Filled from its answers by tools/proofkit.py: change those, and fill it again.
-use mathlib.Core.Path.{_≡_, refl, sym, ap, _∙_}
-use native.Mathlib.Omega.{arith}
-use mathlib.Core.Bool.{Bool, true, false, cond, _&&_, _||_}
-use Prim.Native.Nat.{ℕ, _≤_, _+_, _-_, _*_, _/_, _<_}
-use lib.Dec.{leb, ltb, eqb}
-use lib.ListN.{length, take, drop, getD}
-use borrow.Author.Tests.{not-true, not-false, eq-eqb, ne-eqb}
-use Rattle.queue.proofs.PutLaws.{then, recast, kept, sized, nothing}
 use Rattle.queue.proofs.ReadingLaws.{id-here}
-use Rattle.queue.proofs.ReopenLaws.{parts-in}
+use Rattle.queue.proofs.RebuildLaws.{Rebuilding, number-small, rebuild-end, rebuild-go, rebuild-room, rebuild-start, rebuild-turn}
 use Rattle.queue.proofs.ReleaseLaws.{all-at, verdict-within}
-use Rattle.queue.proofs.RebuildLaws.{Rebuilding, rebuild-start, rebuild-turn, rebuild-room, rebuild-go, rebuild-end, number-small}
+use Rattle.queue.proofs.ReopenLaws.{parts-in}
 use borrow.Author.Needs.{needs}
+use lib.ListN.{getD}
+use mathlib.Core.Path.{_∙_, sym}
+use native.Mathlib.Omega.{arith}
 use Rattle.queue.proofs.rebuild.put_all.Statement.{statement}
 use Rattle.queue.proofs.rebuild.put_all.Tie as tie
 use Rattle.queue.proofs.rebuild.put_all.Reads as reads

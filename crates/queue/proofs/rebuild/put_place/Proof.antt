@@ -1,14 +1,9 @@
 -- Filled from its answers by tools/proofkit.py: change those, and fill it again.
-use mathlib.Core.Path.{_≡_, refl, sym, ap, _∙_}
-use native.Mathlib.Omega.{arith}
-use mathlib.Core.Bool.{Bool, true, false, cond, _&&_, _||_}
-use Prim.Native.Nat.{ℕ, _≤_, _+_, _-_, _*_, _/_, _<_}
-use lib.Dec.{leb, ltb, eqb}
-use lib.ListN.{length, take, drop, getD}
-use borrow.Author.Tests.{not-true, not-false, eq-eqb, ne-eqb}
-use Rattle.queue.proofs.PutLaws.{then, recast, kept, sized, nothing}
-use Rattle.queue.proofs.RebuildLaws.{place-new, place-old, new-room, old-room}
+use Rattle.queue.proofs.PutLaws.{kept}
+use Rattle.queue.proofs.RebuildLaws.{new-room, old-room, place-new, place-old}
 use borrow.Author.Needs.{needs}
+use lib.ListN.{length}
+use native.Mathlib.Omega.{arith}
 use Rattle.queue.proofs.rebuild.put_place.Statement.{statement}
 use Rattle.queue.proofs.rebuild.put_place.Tie as tie
 use Rattle.queue.proofs.rebuild.put_place.Reads as reads

@@ -1,14 +1,11 @@
 -- Filled from its answers by tools/proofkit.py: change those, and fill it again.
-use mathlib.Core.Path.{_≡_, refl, sym, ap, _∙_}
-use native.Mathlib.Omega.{arith}
-use mathlib.Core.Bool.{Bool, true, false, cond, _&&_, _||_}
-use Prim.Native.Nat.{ℕ, _≤_, _+_, _-_, _*_, _/_, _<_}
-use lib.Dec.{leb, ltb, eqb}
-use lib.ListN.{length, take, drop, getD}
-use borrow.Author.Tests.{not-true, not-false, eq-eqb, ne-eqb}
+use Prim.Native.Nat.{_-_}
 use Rattle.queue.proofs.CallLaws.{view-long}
-use Rattle.queue.proofs.RebuildLaws.{Ranking, rank-start, rank-room, rank-go, rank-stop, rank-end, rank-few}
+use Rattle.queue.proofs.RebuildLaws.{Ranking, rank-end, rank-few, rank-go, rank-room, rank-start, rank-stop}
 use borrow.Author.Needs.{needs}
+use lib.ListN.{length}
+use mathlib.Core.Path.{_∙_, sym}
+use native.Mathlib.Omega.{arith}
 use Rattle.queue.proofs.rebuild.rank_in.Statement.{statement}
 use Rattle.queue.proofs.rebuild.rank_in.Tie as tie
 use Rattle.queue.proofs.rebuild.rank_in.Reads as reads

@@ -1,15 +1,12 @@
 -- Filled from its answers by tools/proofkit.py: change those, and fill it again.
-use mathlib.Core.Path.{_≡_, refl, sym, ap, _∙_}
-use native.Mathlib.Omega.{arith}
-use mathlib.Core.Bool.{true, false}
-use Prim.Native.Nat.{ℕ, _≤_, _+_, _-_, _*_, _/_, _<_}
-use lib.ListN.{length, getD}
-use borrow.Author.Tests.{not-true, not-false}
-use Rattle.queue.specs.Suspects.{noR}
-use Rattle.queue.proofs.SortLaws.{view-room-1}
+use Rattle.queue.proofs.RankLaws.{id-in, rank-here, rank-none, rank-other}
 use Rattle.queue.proofs.RebuildLaws.{rank-few}
-use Rattle.queue.proofs.RankLaws.{id-in, rank-none, rank-other, rank-here}
+use Rattle.queue.proofs.SortLaws.{view-room-1}
+use Rattle.queue.specs.Suspects.{noR}
 use borrow.Author.Needs.{needs}
+use borrow.Author.Tests.{not-false}
+use mathlib.Core.Path.{_∙_}
+use native.Mathlib.Omega.{arith}
 use Rattle.queue.proofs.rebuild.rank_of.Statement.{statement}
 use Rattle.queue.proofs.rebuild.rank_of.Tie as tie
 use Rattle.queue.proofs.rebuild.rank_of.Reads as reads

@@ -1,13 +1,12 @@
 -- Filled from its answers by tools/proofkit.py: change those, and fill it again.
-use mathlib.Core.Path.{_≡_, refl, sym, ap, _∙_}
-use native.Mathlib.Omega.{arith}
-use mathlib.Core.Bool.{true, false}
-use Prim.Native.Nat.{ℕ, _≤_, _+_, _-_, _*_, _/_, _<_}
-use lib.ListN.{length, getD}
-use Rattle.queue.proofs.SortLaws.{view-room-1}
-use Rattle.queue.proofs.ReleaseLaws.{all-at}
+use Prim.Native.Nat.{_-_, _≤_}
 use Rattle.queue.proofs.RankLaws.{RowsTo, rows-go}
+use Rattle.queue.proofs.ReleaseLaws.{all-at}
+use Rattle.queue.proofs.SortLaws.{view-room-1}
 use borrow.Author.Needs.{needs}
+use lib.ListN.{getD, length}
+use mathlib.Core.Path.{_≡_, refl}
+use native.Mathlib.Omega.{arith}
 use Rattle.queue.proofs.rebuild.rank_rows.Statement.{statement}
 use Rattle.queue.proofs.rebuild.rank_rows.Tie as tie
 use Rattle.queue.proofs.rebuild.rank_rows.Reads as reads

@@ -1,13 +1,7 @@
 -- Filled from its answers by tools/proofkit.py: change those, and fill it again.
-use mathlib.Core.Path.{_≡_, refl, sym, ap, _∙_}
-use native.Mathlib.Omega.{arith}
-use mathlib.Core.Bool.{Bool, true, false, cond, _&&_, _||_}
-use Prim.Native.Nat.{ℕ, _≤_, _+_, _-_, _*_, _/_, _<_}
-use lib.Dec.{leb, ltb, eqb}
-use lib.ListN.{length, take, drop, getD}
-use borrow.Author.Tests.{not-true, not-false, eq-eqb, ne-eqb}
-use Rattle.queue.proofs.RebuildLaws.{state-out, state-0, state-1, state-2, state-3}
+use Rattle.queue.proofs.RebuildLaws.{state-0, state-1, state-2, state-3, state-out}
 use borrow.Author.Needs.{needs}
+use native.Mathlib.Omega.{arith}
 use Rattle.queue.proofs.rebuild.state_next.Statement.{statement}
 use Rattle.queue.proofs.rebuild.state_next.Tie as tie
 use Rattle.queue.proofs.rebuild.state_next.Reads as reads

@@ -1,13 +1,4 @@
 -- Filled from its answers by tools/proofkit.py: change those, and fill it again.
-use mathlib.Core.Path.{_≡_, refl, sym, ap, _∙_}
-use native.Mathlib.Omega.{arith}
-use native.Mathlib.Nat.{mod-lt}
-use mathlib.Core.Bool.{Bool, true, false, cond, _&&_, _||_}
-use Prim.Native.Nat.{ℕ, _≤_, _+_, _-_, _*_, _/_, _<_}
-use lib.Dec.{leb, ltb, eqb}
-use lib.ListN.{length, take, drop}
-use borrow.Author.Tests.{not-true, not-false, eq-eqb, ne-eqb}
-use Rattle.queue.proofs.PutLaws.{kept}
 use Rattle.queue.proofs.ReconcileLaws.{floor-none, floor-some}
 use Rattle.queue.proofs.WriteLaws.{floor-needs}
 use borrow.Author.Needs.{needs}

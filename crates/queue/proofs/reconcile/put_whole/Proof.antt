@@ -1,17 +1,13 @@
 -- Filled from its answers by tools/proofkit.py: change those, and fill it again.
-use mathlib.Core.Path.{_≡_, refl, sym, ap, _∙_}
-use native.Mathlib.Omega.{arith}
-use native.Mathlib.Nat.{mod-lt}
-use mathlib.Core.Bool.{Bool, true, false, cond, _&&_, _||_}
-use Prim.Native.Nat.{ℕ, _≤_, _+_, _-_, _*_, _/_, _<_}
-use lib.Dec.{leb, ltb, eqb}
-use lib.ListN.{length, take, drop}
-use borrow.Author.Tests.{not-true, not-false, eq-eqb, ne-eqb}
-use Rattle.queue.proofs.PutLaws.{kept}
-use Rattle.queue.proofs.WriteLaws.{long-need}
+use Prim.Native.Nat.{_+_, ℕ}
 use Rattle.queue.proofs.AdmitLaws.{tally-asks}
-use Rattle.queue.proofs.ReconcileLaws.{verdicts-fit, gone-count, whole-room, whole-put, whole-few}
+use Rattle.queue.proofs.PutLaws.{kept}
+use Rattle.queue.proofs.ReconcileLaws.{gone-count, verdicts-fit, whole-few, whole-put, whole-room}
+use Rattle.queue.proofs.WriteLaws.{long-need}
 use borrow.Author.Needs.{needs}
+use mathlib.Core.Path.{ap, refl, sym}
+use native.Mathlib.Nat.{mod-lt}
+use native.Mathlib.Omega.{arith}
 use Rattle.queue.proofs.reconcile.put_whole.Statement.{statement}
 use Rattle.queue.proofs.reconcile.put_whole.Tie as tie
 use Rattle.queue.proofs.reconcile.put_whole.Reads as reads

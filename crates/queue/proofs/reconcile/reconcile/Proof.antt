@@ -1,17 +1,10 @@
 -- Filled from its answers by tools/proofkit.py: change those, and fill it again.
-use mathlib.Core.Path.{_≡_, refl, sym, ap, _∙_}
-use native.Mathlib.Omega.{arith}
-use native.Mathlib.Nat.{mod-lt}
-use mathlib.Core.Bool.{Bool, true, false, cond, _&&_, _||_}
-use Prim.Native.Nat.{ℕ, _≤_, _+_, _-_, _*_, _/_, _<_}
-use lib.Dec.{leb, ltb, eqb}
-use lib.ListN.{length, take, drop}
-use borrow.Author.Tests.{not-true, not-false, eq-eqb, ne-eqb}
-use Rattle.queue.proofs.PutLaws.{kept}
 use Rattle.queue.proofs.CallLaws.{view-long}
 use Rattle.queue.proofs.ExpireLaws.{area-in}
-use Rattle.queue.proofs.ReconcileLaws.{reconcile-3, reconcile-2, reconcile-5, lent-to, reconcile-rest}
+use Rattle.queue.proofs.ReconcileLaws.{lent-to, reconcile-2, reconcile-3, reconcile-5, reconcile-rest}
 use borrow.Author.Needs.{needs}
+use borrow.Author.Tests.{not-false, not-true}
+use native.Mathlib.Omega.{arith}
 use Rattle.queue.proofs.reconcile.reconcile.Statement.{statement}
 use Rattle.queue.proofs.reconcile.reconcile.Tie as tie
 use Rattle.queue.proofs.reconcile.reconcile.Reads as reads

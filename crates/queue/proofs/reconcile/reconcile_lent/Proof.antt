@@ -1,17 +1,10 @@
 -- Filled from its answers by tools/proofkit.py: change those, and fill it again.
-use mathlib.Core.Path.{_≡_, refl, sym, ap, _∙_}
-use native.Mathlib.Omega.{arith}
-use native.Mathlib.Nat.{mod-lt}
-use mathlib.Core.Bool.{Bool, true, false, cond, _&&_, _||_}
-use Prim.Native.Nat.{ℕ, _≤_, _+_, _-_, _*_, _/_, _<_}
-use lib.Dec.{leb, ltb, eqb}
-use lib.ListN.{length, take, drop}
-use borrow.Author.Tests.{not-true, not-false, eq-eqb, ne-eqb}
-use Rattle.queue.proofs.PutLaws.{kept}
-use lib.Seq.{length-take-le}
 use Rattle.queue.proofs.AdmitLaws.{tally-asks}
 use Rattle.queue.proofs.ReconcileLaws.{few-records}
 use borrow.Author.Needs.{needs}
+use lib.Seq.{length-take-le}
+use mathlib.Core.Path.{sym}
+use native.Mathlib.Omega.{arith}
 use Rattle.queue.proofs.reconcile.reconcile_lent.Statement.{statement}
 use Rattle.queue.proofs.reconcile.reconcile_lent.Tie as tie
 use Rattle.queue.proofs.reconcile.reconcile_lent.Reads as reads

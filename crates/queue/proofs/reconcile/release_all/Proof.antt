@@ -1,18 +1,10 @@
 -- Filled from its answers by tools/proofkit.py: change those, and fill it again.
-use mathlib.Core.Path.{_≡_, refl, sym, ap, _∙_}
-use native.Mathlib.Omega.{arith}
-use native.Mathlib.Nat.{mod-lt}
-use mathlib.Core.Bool.{Bool, true, false, cond, _&&_, _||_}
-use Prim.Native.Nat.{ℕ, _≤_, _+_, _-_, _*_, _/_, _<_}
-use lib.Dec.{leb, ltb, eqb}
-use lib.ListN.{length, take, drop}
-use borrow.Author.Tests.{not-true, not-false, eq-eqb, ne-eqb}
-use Rattle.queue.proofs.PutLaws.{kept}
-use Rattle.queue.specs.SelectAs.{Even}
-use Rattle.queue.proofs.SelectLaws.{even-self, even-to}
 use Rattle.queue.proofs.AdmitLaws.{tally-asks}
-use Rattle.queue.proofs.ReconcileLaws.{verdicts-fit, few-mined, mined-even, mined-few, mined-stands, gone-are, decided-are, gathered-to}
+use Rattle.queue.proofs.ReconcileLaws.{decided-are, few-mined, gathered-to, gone-are, mined-even, mined-few, mined-stands, verdicts-fit}
+use Rattle.queue.proofs.SelectLaws.{even-self}
 use borrow.Author.Needs.{needs}
+use mathlib.Core.Path.{_∙_, sym}
+use native.Mathlib.Omega.{arith}
 use Rattle.queue.proofs.reconcile.release_all.Statement.{statement}
 use Rattle.queue.proofs.reconcile.release_all.Tie as tie
 use Rattle.queue.proofs.reconcile.release_all.Reads as reads

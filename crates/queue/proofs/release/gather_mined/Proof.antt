@@ -1,15 +1,11 @@
 -- Filled from its answers by tools/proofkit.py: change those, and fill it again.
-use mathlib.Core.Path.{_≡_, refl, sym, ap, _∙_}
-use native.Mathlib.Omega.{arith}
-use mathlib.Core.Bool.{Bool, true, false, _&&_, _||_}
-use Prim.Native.Nat.{ℕ, _≤_, _+_, _-_, _*_, _/_, _<_}
-use lib.Dec.{leb, ltb, eqb}
-use lib.ListN.{length, take, drop, getD}
-use borrow.Author.Tests.{not-true, not-false, eq-eqb, ne-eqb}
-use Rattle.queue.proofs.SelectLaws.{even-self, even-to, added-to}
+use Rattle.queue.proofs.ReleaseLaws.{Mining, all-at, mine-end, mine-go, mine-room, mine-start, verdict-within}
+use Rattle.queue.proofs.SelectLaws.{added-to, even-self}
 use Rattle.queue.proofs.Turns.{seen}
-use Rattle.queue.proofs.ReleaseLaws.{Mining, mine-start, verdict-within, all-at, mine-room, mine-go, mine-end}
 use borrow.Author.Needs.{needs}
+use lib.ListN.{getD, length}
+use mathlib.Core.Bool.{false}
+use native.Mathlib.Omega.{arith}
 use Rattle.queue.proofs.release.gather_mined.Statement.{statement}
 use Rattle.queue.proofs.release.gather_mined.Tie as tie
 use Rattle.queue.proofs.release.gather_mined.Reads as reads

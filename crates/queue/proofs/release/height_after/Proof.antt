@@ -1,18 +1,8 @@
 -- Filled from its answers by tools/proofkit.py: change those, and fill it again.
-use mathlib.Core.Path.{_≡_, refl, sym, ap, _∙_}
-use native.Mathlib.Omega.{arith}
-use mathlib.Core.Bool.{Bool, true, false, _&&_, _||_}
-use Prim.Native.Nat.{ℕ, _≤_, _+_, _-_, _*_, _/_, _<_}
-use lib.Dec.{leb, ltb, eqb}
-use lib.ListN.{length, take, drop, getD}
-use borrow.Author.Tests.{not-true, not-false, eq-eqb, ne-eqb}
-use mathlib.Core.Bool.{cond}
-use Rattle.queue.specs.View.{view}
-use Rattle.queue.specs.ReadLaws.{beAt}
-use Rattle.queue.specs.Releasing.{heightF}
 use Rattle.queue.proofs.CallLaws.{view-long}
 use Rattle.queue.proofs.ReleaseLaws.{height-new, height-old}
 use borrow.Author.Needs.{needs}
+use native.Mathlib.Omega.{arith}
 use Rattle.queue.proofs.release.height_after.Statement.{statement}
 use Rattle.queue.proofs.release.height_after.Tie as tie
 use Rattle.queue.proofs.release.height_after.Reads as reads

@@ -1,15 +1,13 @@
 -- Filled from its answers by tools/proofkit.py: change those, and fill it again.
-use mathlib.Core.Path.{_≡_, refl, sym, ap, _∙_}
-use native.Mathlib.Omega.{arith}
-use mathlib.Core.Bool.{Bool, true, false, _&&_, _||_}
-use Prim.Native.Nat.{ℕ, _≤_, _+_, _-_, _*_, _/_, _<_}
-use lib.Dec.{leb, ltb, eqb}
-use lib.ListN.{length, take, drop, getD}
-use borrow.Author.Tests.{not-true, not-false, eq-eqb, ne-eqb}
+use Prim.Native.Nat.{_+_, _-_}
+use Rattle.queue.proofs.ReleaseLaws.{Walking, stands-at, walk-end, walk-go, walk-start}
 use Rattle.queue.specs.Opens.{limits}
-use Rattle.queue.specs.Releasing.{bytesAt}
-use Rattle.queue.proofs.ReleaseLaws.{Walking, walk-start, stands-at, walk-go, walk-end}
 use borrow.Author.Needs.{needs}
+use lib.Dec.{leb, ltb}
+use lib.ListN.{getD, length}
+use mathlib.Core.Bool.{_||_}
+use mathlib.Core.Path.{_∙_, _≡_, ap, refl}
+use native.Mathlib.Omega.{arith}
 use Rattle.queue.proofs.release.release.Statement.{statement}
 use Rattle.queue.proofs.release.release.Tie as tie
 use Rattle.queue.proofs.release.release.Reads as reads

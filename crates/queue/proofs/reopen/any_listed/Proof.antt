@@ -1,14 +1,12 @@
 -- Filled from its answers by tools/proofkit.py: change those, and fill it again.
-use mathlib.Core.Path.{_≡_, refl, sym, ap, _∙_}
-use native.Mathlib.Omega.{arith}
-use mathlib.Core.Bool.{Bool, true, false, _&&_}
-use Prim.Native.Nat.{ℕ, _≤_, _+_, _-_, _*_, _/_, _<_}
-use Rattle.queue.specs.Reopens.{idsAt}
-use Rattle.queue.specs.Frames.{recC}
-use Rattle.queue.specs.Forms.{formC}
+use Rattle.queue.proofs.ReopenLaws.{any-end, any-go, any-next, any-stop, anyF}
 use Rattle.queue.proofs.Turns.{Scan, start}
-use Rattle.queue.proofs.ReopenLaws.{anyF, any-next, any-go, any-stop, any-end}
+use Rattle.queue.specs.Forms.{formC}
+use Rattle.queue.specs.Frames.{recC}
+use Rattle.queue.specs.Reopens.{idsAt}
 use borrow.Author.Needs.{needs}
+use mathlib.Core.Bool.{false}
+use native.Mathlib.Omega.{arith}
 use Rattle.queue.proofs.reopen.any_listed.Statement.{statement}
 use Rattle.queue.proofs.reopen.any_listed.Tie as tie
 use Rattle.queue.proofs.reopen.any_listed.Reads as reads

@@ -1,12 +1,12 @@
 -- Filled from its answers by tools/proofkit.py: change those, and fill it again.
-use mathlib.Core.Path.{_≡_, refl, sym, ap, _∙_}
-use native.Mathlib.Omega.{arith}
-use mathlib.Core.Bool.{Bool, true, false, _&&_}
-use Prim.Native.Nat.{ℕ, _≤_, _+_, _-_, _*_, _/_, _<_}
-use Rattle.queue.specs.View.{view}
+use Prim.Native.Nat.{_+_, _-_, _/_}
+use Rattle.queue.proofs.FindLaws.{Finding, find-end, find-here, find-high, find-low, find-room, finding, ids-many, view-long}
 use Rattle.queue.specs.Reopens.{idsAt}
-use Rattle.queue.proofs.FindLaws.{Finding, finding, find-room, find-here, find-low, find-high, find-end, ids-many, view-long}
+use Rattle.queue.specs.View.{view}
 use borrow.Author.Needs.{needs}
+use mathlib.Core.Bool.{false}
+use mathlib.Core.Path.{_∙_, sym}
+use native.Mathlib.Omega.{arith}
 use Rattle.queue.proofs.reopen.find_id.Statement.{statement}
 use Rattle.queue.proofs.reopen.find_id.Tie as tie
 use Rattle.queue.proofs.reopen.find_id.Reads as reads

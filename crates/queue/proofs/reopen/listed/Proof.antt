@@ -1,11 +1,7 @@
 -- Filled from its answers by tools/proofkit.py: change those, and fill it again.
-use mathlib.Core.Path.{_≡_, refl, sym, ap, _∙_}
-use native.Mathlib.Omega.{arith}
-use mathlib.Core.Bool.{Bool, true, false, _&&_}
-use Prim.Native.Nat.{ℕ, _≤_, _+_, _-_, _*_, _/_, _<_}
-use borrow.Author.Tests.{eq-eqb, ne-eqb}
 use Rattle.queue.specs.Reopens.{listedS}
 use borrow.Author.Needs.{needs}
+use borrow.Author.Tests.{eq-eqb, ne-eqb}
 use Rattle.queue.proofs.reopen.listed.Statement.{statement}
 use Rattle.queue.proofs.reopen.listed.Tie as tie
 use Rattle.queue.proofs.reopen.listed.Reads as reads

@@ -1,10 +1,6 @@
 -- Filled from its answers by tools/proofkit.py: change those, and fill it again.
-use mathlib.Core.Path.{_≡_, refl, sym, ap, _∙_}
-use native.Mathlib.Omega.{arith}
-use mathlib.Core.Bool.{Bool, true, false, _&&_}
-use Prim.Native.Nat.{ℕ, _≤_, _+_, _-_, _*_, _/_, _<_}
 use Rattle.queue.proofs.PutLaws.{sized}
-use Rattle.queue.proofs.ReopenLaws.{again-yes, again-no, yes-room, no-room}
+use Rattle.queue.proofs.ReopenLaws.{again-no, again-yes, no-room, yes-room}
 use borrow.Author.Needs.{needs}
 use Rattle.queue.proofs.reopen.put_again.Statement.{statement}
 use Rattle.queue.proofs.reopen.put_again.Tie as tie

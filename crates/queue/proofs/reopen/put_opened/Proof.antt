@@ -1,14 +1,12 @@
 -- Filled from its answers by tools/proofkit.py: change those, and fill it again.
-use mathlib.Core.Path.{_≡_, refl, sym, ap, _∙_}
-use native.Mathlib.Omega.{arith}
-use mathlib.Core.Bool.{Bool, true, false, _&&_}
-use Prim.Native.Nat.{ℕ, _≤_, _+_, _-_, _*_, _/_, _<_}
-use lib.ListN.{length}
-use native.Mathlib.Nat.{mod-lt}
+use Prim.Native.Nat.{_+_, ℕ}
 use Rattle.queue.proofs.PutLaws.{kept}
+use Rattle.queue.proofs.ReopenLaws.{opened-done, opened-room, records-asks}
 use Rattle.queue.proofs.WriteLaws.{head-in, long-need}
-use Rattle.queue.proofs.ReopenLaws.{records-asks, opened-room, opened-done}
 use borrow.Author.Needs.{needs}
+use mathlib.Core.Path.{ap, refl}
+use native.Mathlib.Nat.{mod-lt}
+use native.Mathlib.Omega.{arith}
 use Rattle.queue.proofs.reopen.put_opened.Statement.{statement}
 use Rattle.queue.proofs.reopen.put_opened.Tie as tie
 use Rattle.queue.proofs.reopen.put_opened.Reads as reads

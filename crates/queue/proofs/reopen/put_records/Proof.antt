@@ -1,11 +1,8 @@
 -- Filled from its answers by tools/proofkit.py: change those, and fill it again.
-use mathlib.Core.Path.{_≡_, refl, sym, ap, _∙_}
-use native.Mathlib.Omega.{arith}
-use mathlib.Core.Bool.{Bool, true, false, _&&_}
-use Prim.Native.Nat.{ℕ, _≤_, _+_, _-_, _*_, _/_, _<_}
+use Rattle.queue.proofs.ReopenLaws.{Opening, open-end, open-go, open-room, open-turn, opening, parts-in}
 use Rattle.queue.specs.Reopens.{idsAt}
-use Rattle.queue.proofs.ReopenLaws.{parts-in, Opening, opening, open-turn, open-room, open-go, open-end}
 use borrow.Author.Needs.{needs}
+use native.Mathlib.Omega.{arith}
 use Rattle.queue.proofs.reopen.put_records.Statement.{statement}
 use Rattle.queue.proofs.reopen.put_records.Tie as tie
 use Rattle.queue.proofs.reopen.put_records.Reads as reads

@@ -1,11 +1,9 @@
 -- Filled from its answers by tools/proofkit.py: change those, and fill it again.
-use mathlib.Core.Path.{_≡_, refl, sym, ap, _∙_}
-use native.Mathlib.Omega.{arith}
-use mathlib.Core.Bool.{Bool, true, false, _&&_}
-use Prim.Native.Nat.{ℕ, _≤_, _+_, _-_, _*_, _/_, _<_}
+use Rattle.queue.proofs.PutLaws.{kept, recast, then}
 use Rattle.queue.specs.Reopens.{reopenedBytes}
-use Rattle.queue.proofs.PutLaws.{then, recast, kept}
 use borrow.Author.Needs.{needs}
+use mathlib.Core.Path.{refl}
+use native.Mathlib.Omega.{arith}
 use Rattle.queue.proofs.reopen.put_reopened.Statement.{statement}
 use Rattle.queue.proofs.reopen.put_reopened.Tie as tie
 use Rattle.queue.proofs.reopen.put_reopened.Reads as reads

@@ -1,12 +1,10 @@
 -- Filled from its answers by tools/proofkit.py: change those, and fill it again.
-use mathlib.Core.Path.{_≡_, refl, sym, ap, _∙_}
-use native.Mathlib.Omega.{arith}
-use mathlib.Core.Bool.{Bool, true, false, _&&_}
-use Prim.Native.Nat.{ℕ, _≤_, _+_, _-_, _*_, _/_, _<_}
-use borrow.Author.Tests.{not-true, not-false}
+use Prim.Native.Nat.{_/_}
 use Rattle.queue.proofs.ExpireLaws.{area-in}
-use Rattle.queue.proofs.ReopenLaws.{lent-mod, lent-whole, lent-in, lent-are, reopen-3, reopen-2, reopen-5, reopen-5′, reopen-rest}
+use Rattle.queue.proofs.ReopenLaws.{lent-are, lent-in, lent-mod, lent-whole, reopen-2, reopen-3, reopen-5, reopen-5′, reopen-rest}
 use borrow.Author.Needs.{needs}
+use borrow.Author.Tests.{not-false, not-true}
+use mathlib.Core.Path.{_∙_, sym}
 use Rattle.queue.proofs.reopen.reopen.Statement.{statement}
 use Rattle.queue.proofs.reopen.reopen.Tie as tie
 use Rattle.queue.proofs.reopen.reopen.Reads as reads

@@ -1,12 +1,8 @@
 -- Filled from its answers by tools/proofkit.py: change those, and fill it again.
-use mathlib.Core.Path.{_≡_, refl, sym, ap, _∙_}
-use native.Mathlib.Omega.{arith}
-use mathlib.Core.Bool.{Bool, true, false, _&&_}
-use Prim.Native.Nat.{ℕ, _≤_, _+_, _-_, _*_, _/_, _<_}
-use borrow.Author.Tests.{not-true, not-false}
+use Rattle.queue.proofs.ReopenLaws.{again-from, told-100, told-102}
 use Rattle.queue.specs.Reopens.{idsAt}
-use Rattle.queue.proofs.ReopenLaws.{told-100, again-from, told-102}
 use borrow.Author.Needs.{needs}
+use borrow.Author.Tests.{not-false, not-true}
 use Rattle.queue.proofs.reopen.reopen_those.Statement.{statement}
 use Rattle.queue.proofs.reopen.reopen_those.Tie as tie
 use Rattle.queue.proofs.reopen.reopen_those.Reads as reads

@@ -1,13 +1,12 @@
 -- Filled from its answers by tools/proofkit.py: change those, and fill it again.
-use mathlib.Core.Path.{_≡_, refl, sym, ap, _∙_}
-use native.Mathlib.Omega.{arith}
-use mathlib.Core.Bool.{Bool, true, false, _&&_}
-use Prim.Native.Nat.{ℕ, _≤_, _+_, _-_, _*_, _/_, _<_}
+use Rattle.queue.proofs.ReopenLaws.{chainI?, ids-end, ids-first, ids-go, ids-none, ids-stop}
+use Rattle.queue.proofs.Turns.{Scan}
 use Rattle.queue.specs.Frames.{idC}
 use Rattle.queue.specs.View.{view}
-use Rattle.queue.proofs.Turns.{Scan}
-use Rattle.queue.proofs.ReopenLaws.{chainI?, ids-none, ids-first, ids-go, ids-stop, ids-end}
 use borrow.Author.Needs.{needs}
+use mathlib.Core.Bool.{false}
+use mathlib.Core.Path.{_∙_, sym}
+use native.Mathlib.Omega.{arith}
 use Rattle.queue.proofs.reopen.rise.Statement.{statement}
 use Rattle.queue.proofs.reopen.rise.Tie as tie
 use Rattle.queue.proofs.reopen.rise.Reads as reads

@@ -1,9 +1,7 @@
 -- Filled from its answers by tools/proofkit.py: change those, and fill it again.
-use mathlib.Core.Path.{_≡_, refl, sym, ap, _∙_}
-use native.Mathlib.Omega.{arith}
-use mathlib.Core.Bool.{Bool, true, false, _&&_}
 use Rattle.queue.specs.Rules.{rightF}
 use borrow.Author.Needs.{needs}
+use mathlib.Core.Path.{_∙_}
 use Rattle.queue.proofs.rules.right.Statement.{statement}
 use Rattle.queue.proofs.rules.right.Tie as tie
 use Rattle.queue.proofs.rules.right.Reads as reads

@@ -1,11 +1,10 @@
 -- Filled from its answers by tools/proofkit.py: change those, and fill it again.
-use mathlib.Core.Path.{_≡_, refl, sym, ap, _∙_}
-use native.Mathlib.Omega.{arith}
-use mathlib.Core.Bool.{Bool, true, false, _&&_}
 use Rattle.queue.specs.Rules.{weight}
 use Rattle.queue.specs.paper.Lists.{one}
-use borrow.Author.Tests.{eq-eqb, ne-eqb}
 use borrow.Author.Needs.{needs}
+use borrow.Author.Tests.{eq-eqb, ne-eqb}
+use mathlib.Core.Path.{_∙_, ap, refl}
+use native.Mathlib.Omega.{arith}
 use Rattle.queue.proofs.rules.weigh.Statement.{statement}
 use Rattle.queue.proofs.rules.weigh.Tie as tie
 use Rattle.queue.proofs.rules.weigh.Reads as reads

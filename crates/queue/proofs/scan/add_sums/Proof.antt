@@ -1,11 +1,10 @@
 -- Filled from its answers by tools/proofkit.py: change those, and fill it again.
-use mathlib.Core.Path.{_≡_, refl, sym, ap, _∙_}
-use native.Mathlib.Omega.{arith}
-use mathlib.Core.Bool.{Bool, true, false, _&&_, _||_}
-use Prim.Native.Nat.{ℕ, _≤_, _+_, _-_, _*_, _<_}
-use lib.ListN.{length}
+use Prim.Native.Nat.{_+_, ℕ}
 use Rattle.queue.proofs.CheckLaws.{added}
 use borrow.Author.Needs.{needs}
+use mathlib.Core.Bool.{Bool, _&&_}
+use mathlib.Core.Path.{_∙_, ap}
+use native.Mathlib.Omega.{arith}
 use Rattle.queue.proofs.scan.add_sums.Statement.{statement}
 use Rattle.queue.proofs.scan.add_sums.Tie as tie
 use Rattle.queue.proofs.scan.add_sums.Reads as reads

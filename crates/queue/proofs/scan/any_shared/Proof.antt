@@ -1,16 +1,12 @@
 -- Filled from its answers by tools/proofkit.py: change those, and fill it again.
-use mathlib.Core.Path.{_≡_, refl, sym, ap, _∙_}
-use native.Mathlib.Omega.{arith}
-use mathlib.Core.Bool.{Bool, true, false, _&&_}
-use Prim.Native.Nat.{ℕ, _≤_, _+_, _-_, _*_, _<_}
-use lib.ListN.{length, take, drop}
-use Rattle.queue.specs.Frames.{recC, idC}
+use Rattle.queue.proofs.FilterLaws.{Passing, passing, passing-end, passing-go, passing-stop}
+use Rattle.queue.specs.Filter.{heldBy}
 use Rattle.queue.specs.Forms.{formC}
+use Rattle.queue.specs.Frames.{idC, recC}
 use Rattle.queue.specs.Reads.{listAt}
 use Rattle.queue.specs.View.{view}
-use Rattle.queue.specs.Filter.{heldBy}
-use Rattle.queue.proofs.FilterLaws.{Passing, passing, passing-go, passing-stop, passing-end}
 use borrow.Author.Needs.{needs}
+use native.Mathlib.Omega.{arith}
 use Rattle.queue.proofs.scan.any_shared.Statement.{statement}
 use Rattle.queue.proofs.scan.any_shared.Tie as tie
 use Rattle.queue.proofs.scan.any_shared.Reads as reads

@@ -1,17 +1,15 @@
 -- Filled from its answers by tools/proofkit.py: change those, and fill it again.
-use mathlib.Core.Path.{_≡_, refl, sym, ap, _∙_}
-use native.Mathlib.Omega.{arith}
-use mathlib.Core.Bool.{Bool, true, false, _&&_}
-use Prim.Native.Nat.{ℕ, _≤_, _+_, _-_, _*_, _<_}
-use lib.ListN.{length, take, drop}
-use Rattle.queue.specs.Frames.{recC, idC}
-use Rattle.queue.specs.Forms.{formC}
-use Rattle.queue.specs.Reads.{listAt}
-use Rattle.queue.specs.Filter.{hasIn, hashL}
-use Rattle.queue.proofs.Turns.{Scan, start, seen}
+use Rattle.queue.proofs.FilterLaws.{Walk, apart-end, apart-go, apart-stop, walk-start}
 use Rattle.queue.proofs.ScanLaws.{nothingF}
-use Rattle.queue.proofs.FilterLaws.{Walk, walk-start, apart-go, apart-stop, apart-end}
+use Rattle.queue.proofs.Turns.{Scan, seen, start}
+use Rattle.queue.specs.Filter.{hasIn, hashL}
+use Rattle.queue.specs.Forms.{formC}
+use Rattle.queue.specs.Frames.{recC}
+use Rattle.queue.specs.Reads.{listAt}
 use borrow.Author.Needs.{needs}
+use lib.ListN.{length}
+use mathlib.Core.Path.{_∙_, _≡_, refl}
+use native.Mathlib.Omega.{arith}
 use Rattle.queue.proofs.scan.apart_by.Statement.{statement}
 use Rattle.queue.proofs.scan.apart_by.Tie as tie
 use Rattle.queue.proofs.scan.apart_by.Reads as reads

@@ -1,13 +1,9 @@
 -- Filled from its answers by tools/proofkit.py: change those, and fill it again.
-use mathlib.Core.Path.{_≡_, refl, sym, ap, _∙_}
-use native.Mathlib.Omega.{arith}
-use mathlib.Core.Bool.{Bool, true, false, _&&_, _||_}
-use Prim.Native.Nat.{ℕ, _≤_, _+_, _-_, _*_, _/_, _%_, _<_}
-use lib.ListN.{length, take, drop, getD, length-drop}
-use borrow.Author.Tests.{ltb-true}
-use Rattle.queue.specs.Lists.{and-true}
 use Rattle.queue.proofs.SuspectLaws.{said-is}
+use Rattle.queue.specs.Lists.{and-true}
 use borrow.Author.Needs.{needs}
+use borrow.Author.Tests.{ltb-true}
+use mathlib.Core.Path.{_∙_, sym}
 use Rattle.queue.proofs.scan.apart_long.Statement.{statement}
 use Rattle.queue.proofs.scan.apart_long.Tie as tie
 use Rattle.queue.proofs.scan.apart_long.Reads as reads

@@ -1,13 +1,10 @@
 -- Filled from its answers by tools/proofkit.py: change those, and fill it again.
-use mathlib.Core.Path.{_≡_, refl, sym, ap, _∙_}
-use native.Mathlib.Omega.{arith}
-use mathlib.Core.Bool.{Bool, true, false, _&&_, _||_}
-use Prim.Native.Nat.{ℕ, _≤_, _+_, _-_, _*_, _<_}
-use lib.ListN.{length}
-use borrow.Author.Tests.{not-true, not-false}
+use Rattle.queue.proofs.CheckLaws.{Checking, check-bytes, check-end, check-go, check-line, check-room, check-short, check-start}
 use Rattle.queue.proofs.ScanLaws.{frames-in}
-use Rattle.queue.proofs.CheckLaws.{Checking, check-start, check-room, check-bytes, check-go, check-short, check-line, check-end}
 use borrow.Author.Needs.{needs}
+use borrow.Author.Tests.{not-false, not-true}
+use mathlib.Core.Path.{_∙_}
+use native.Mathlib.Omega.{arith}
 use Rattle.queue.proofs.scan.frames.Statement.{statement}
 use Rattle.queue.proofs.scan.frames.Tie as tie
 use Rattle.queue.proofs.scan.frames.Reads as reads

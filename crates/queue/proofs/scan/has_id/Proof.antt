@@ -1,16 +1,12 @@
 -- Filled from its answers by tools/proofkit.py: change those, and fill it again.
-use mathlib.Core.Path.{_≡_, refl, sym, ap, _∙_}
-use native.Mathlib.Omega.{arith}
-use mathlib.Core.Bool.{Bool, true, false, _&&_}
-use Prim.Native.Nat.{ℕ, _≤_, _+_, _-_, _*_, _<_}
-use lib.ListN.{length, take, drop}
-use borrow.Author.Tests.{eqb-true, eqb-false}
-use Rattle.queue.specs.Frames.{recC, idC}
-use Rattle.queue.specs.Forms.{formC}
+use Rattle.queue.proofs.ScanLaws.{among-end, among-go, among-stop, amongF}
+use Rattle.queue.proofs.Turns.{Scan, start}
+use Rattle.queue.specs.Frames.{idC}
 use Rattle.queue.specs.View.{view}
-use Rattle.queue.proofs.Turns.{Scan, start, here, seen, see}
-use Rattle.queue.proofs.ScanLaws.{amongF, among-go, among-stop, among-end}
 use borrow.Author.Needs.{needs}
+use borrow.Author.Tests.{eqb-false, eqb-true}
+use mathlib.Core.Path.{_∙_, sym}
+use native.Mathlib.Omega.{arith}
 use Rattle.queue.proofs.scan.has_id.Statement.{statement}
 use Rattle.queue.proofs.scan.has_id.Tie as tie
 use Rattle.queue.proofs.scan.has_id.Reads as reads

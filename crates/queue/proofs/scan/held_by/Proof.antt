@@ -1,15 +1,11 @@
 -- Filled from its answers by tools/proofkit.py: change those, and fill it again.
-use mathlib.Core.Path.{_≡_, refl, sym, ap, _∙_}
-use native.Mathlib.Omega.{arith}
-use mathlib.Core.Bool.{Bool, true, false, _&&_}
-use Prim.Native.Nat.{ℕ, _≤_, _+_, _-_, _*_, _<_}
-use lib.ListN.{length, take, drop}
-use Rattle.queue.specs.Frames.{recC, idC}
+use Prim.Native.Nat.{_+_, _≤_}
+use Rattle.queue.proofs.FilterLaws.{held-end, held-go, heldF}
+use Rattle.queue.proofs.Turns.{Scan, seen, start}
 use Rattle.queue.specs.Forms.{formC}
-use Rattle.queue.specs.Reads.{listAt}
-use Rattle.queue.proofs.Turns.{Scan, start, seen}
-use Rattle.queue.proofs.FilterLaws.{heldF, held-go, held-end}
+use Rattle.queue.specs.Frames.{recC}
 use borrow.Author.Needs.{needs}
+use native.Mathlib.Omega.{arith}
 use Rattle.queue.proofs.scan.held_by.Statement.{statement}
 use Rattle.queue.proofs.scan.held_by.Tie as tie
 use Rattle.queue.proofs.scan.held_by.Reads as reads

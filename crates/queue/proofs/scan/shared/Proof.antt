@@ -1,11 +1,6 @@
 -- Filled from its answers by tools/proofkit.py: change those, and fill it again.
-use mathlib.Core.Path.{_≡_, refl, sym, ap, _∙_}
-use native.Mathlib.Omega.{arith}
-use mathlib.Core.Bool.{Bool, true, false, _&&_}
-use Prim.Native.Nat.{ℕ, _≤_, _+_, _-_, _*_, _<_}
-use lib.ListN.{length, take, drop}
+use Rattle.queue.proofs.FilterLaws.{pass-new, pass-seen}
 use Rattle.queue.specs.Order.{same-is}
-use Rattle.queue.proofs.FilterLaws.{pass-seen, pass-new}
 use borrow.Author.Needs.{needs}
 use Rattle.queue.proofs.scan.shared.Statement.{statement}
 use Rattle.queue.proofs.scan.shared.Tie as tie

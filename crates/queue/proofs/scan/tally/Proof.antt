@@ -1,15 +1,11 @@
 -- Filled from its answers by tools/proofkit.py: change those, and fill it again.
-use mathlib.Core.Path.{_≡_, refl, sym, ap, _∙_}
-use native.Mathlib.Omega.{arith}
-use mathlib.Core.Bool.{Bool, true, false, _&&_}
-use Prim.Native.Nat.{ℕ, _≤_, _+_, _-_, _*_, _<_}
-use lib.ListN.{length, take, drop}
-use Rattle.queue.specs.Frames.{recC, idC}
+use Prim.Native.Nat.{_*_, _+_, _≤_}
+use Rattle.queue.proofs.ScanLaws.{sumFrom, tally-end, tally-go}
+use Rattle.queue.proofs.Turns.{Scan, seen, start}
 use Rattle.queue.specs.Forms.{formC}
-use Rattle.queue.specs.View.{view}
-use Rattle.queue.proofs.Turns.{Scan, start, here, seen, see}
-use Rattle.queue.proofs.ScanLaws.{sumFrom, tally-go, tally-end}
+use Rattle.queue.specs.Frames.{recC}
 use borrow.Author.Needs.{needs}
+use native.Mathlib.Omega.{arith}
 use Rattle.queue.proofs.scan.tally.Statement.{statement}
 use Rattle.queue.proofs.scan.tally.Tie as tie
 use Rattle.queue.proofs.scan.tally.Reads as reads

@@ -1,14 +1,13 @@
 -- Filled from its answers by tools/proofkit.py: change those, and fill it again.
-use mathlib.Core.Path.{_≡_, refl, sym, ap, _∙_}
-use native.Mathlib.Omega.{arith}
-use mathlib.Core.Bool.{Bool, true, false, _&&_}
-use Prim.Native.Nat.{ℕ, _≤_, _+_, _-_, _*_, _<_}
-use lib.Bits.{bitOr}
-use lib.Dec.{eqb}
-use lib.ListN.{length, take, drop}
+use Prim.Native.Nat.{_-_, _≤_}
+use Rattle.queue.proofs.ScanLaws.{or-zero, zero-over, zero-turn}
 use Rattle.queue.specs.Areas.{zero?}
-use Rattle.queue.proofs.ScanLaws.{or-zero, zero-turn, zero-over}
 use borrow.Author.Needs.{needs}
+use lib.Dec.{eqb}
+use lib.ListN.{drop, take}
+use mathlib.Core.Bool.{_&&_}
+use mathlib.Core.Path.{_∙_, _≡_, refl, sym}
+use native.Mathlib.Omega.{arith}
 use Rattle.queue.proofs.scan.zeros.Statement.{statement}
 use Rattle.queue.proofs.scan.zeros.Tie as tie
 use Rattle.queue.proofs.scan.zeros.Reads as reads

@@ -1,12 +1,9 @@
 -- Filled from its answers by tools/proofkit.py: change those, and fill it again.
-use mathlib.Core.Path.{_≡_, refl, sym, ap, _∙_}
-use native.Mathlib.Omega.{arith}
-use mathlib.Core.Bool.{Bool, true, false, _&&_, _||_}
-use Prim.Native.Nat.{ℕ, _≤_, _+_, _-_, _*_, _/_, _%_, _<_}
-use lib.ListN.{length, take, drop, getD, length-drop}
-use Rattle.queue.proofs.SuspectLaws.{grown-room, grown-out, grown-bad, grown-new}
-use borrow.Author.Tests.{not-true}
+use Rattle.queue.proofs.SuspectLaws.{grown-bad, grown-new, grown-out, grown-room}
 use borrow.Author.Needs.{needs}
+use borrow.Author.Tests.{not-true}
+use mathlib.Core.Path.{refl}
+use native.Mathlib.Omega.{arith}
 use Rattle.queue.proofs.suspects.add.Statement.{statement}
 use Rattle.queue.proofs.suspects.add.Tie as tie
 use Rattle.queue.proofs.suspects.add.Reads as reads

@@ -1,18 +1,17 @@
 -- Filled from its answers by tools/proofkit.py: change those, and fill it again.
-use mathlib.Core.Path.{_≡_, refl, sym, ap, _∙_}
-use native.Mathlib.Omega.{arith}
-use mathlib.Core.Bool.{Bool, true, false, _&&_, _||_}
-use Prim.Native.Nat.{ℕ, _≤_, _+_, _-_, _*_, _/_, _%_, _<_}
-use lib.ListN.{length, take, drop, getD, length-drop}
-use borrow.Author.Tests.{not-true, not-false}
-use lib.Seq.{length-take-le}
-use Rattle.queue.specs.Frames.{recC}
-use Rattle.queue.specs.Forms.{formC}
-use Rattle.queue.specs.Reads.{listAt}
-use Rattle.queue.proofs.Turns.{Scan, start, seen}
+use Prim.Native.Nat.{_+_, _≤_}
 use Rattle.queue.proofs.ScanLaws.{nothingF}
-use Rattle.queue.proofs.SuspectLaws.{said-no, said-out, said-crossed, said-clear, Gone, gone-start, gone-own, gone-on, gone-last}
+use Rattle.queue.proofs.SuspectLaws.{Gone, gone-last, gone-on, gone-own, gone-start, said-clear, said-crossed, said-no, said-out}
+use Rattle.queue.proofs.Turns.{Scan, seen, start}
+use Rattle.queue.specs.Forms.{formC}
+use Rattle.queue.specs.Frames.{recC}
+use Rattle.queue.specs.Reads.{listAt}
 use borrow.Author.Needs.{needs}
+use borrow.Author.Tests.{not-false, not-true}
+use lib.ListN.{drop, length, take}
+use lib.Seq.{length-take-le}
+use mathlib.Core.Path.{_∙_, _≡_, refl, sym}
+use native.Mathlib.Omega.{arith}
 use Rattle.queue.proofs.suspects.apart_by.Statement.{statement}
 use Rattle.queue.proofs.suspects.apart_by.Tie as tie
 use Rattle.queue.proofs.suspects.apart_by.Reads as reads

@@ -1,14 +1,10 @@
 -- Filled from its answers by tools/proofkit.py: change those, and fill it again.
-use mathlib.Core.Path.{_≡_, refl, sym, ap, _∙_}
-use native.Mathlib.Omega.{arith}
-use mathlib.Core.Bool.{Bool, true, false, _&&_, _||_}
-use Prim.Native.Nat.{ℕ, _≤_, _+_, _-_, _*_, _/_, _%_, _<_}
-use lib.ListN.{length, take, drop, getD, length-drop}
-use native.Mathlib.Nat.{zero-lt-suc}
-use borrow.Author.Tests.{not-false, ltb-true}
+use Rattle.queue.proofs.SuspectLaws.{said-any, said-out}
 use Rattle.queue.specs.Lists.{and-true}
-use Rattle.queue.proofs.SuspectLaws.{said-out, said-any}
 use borrow.Author.Needs.{needs}
+use borrow.Author.Tests.{ltb-true, not-false}
+use mathlib.Core.Path.{_∙_, refl, sym}
+use native.Mathlib.Nat.{zero-lt-suc}
 use Rattle.queue.proofs.suspects.apart_few.Statement.{statement}
 use Rattle.queue.proofs.suspects.apart_few.Tie as tie
 use Rattle.queue.proofs.suspects.apart_few.Reads as reads

@@ -1,13 +1,11 @@
 -- Filled from its answers by tools/proofkit.py: change those, and fill it again.
-use mathlib.Core.Path.{_≡_, refl, sym, ap, _∙_}
-use native.Mathlib.Omega.{arith}
-use mathlib.Core.Bool.{Bool, true, false, _&&_, _||_}
-use Prim.Native.Nat.{ℕ, _≤_, _+_, _-_, _*_, _/_, _%_, _<_}
-use lib.ListN.{length, take, drop, getD, length-drop}
-use native.Mathlib.Nat.{zero-lt-suc}
-use lib.ListN.{length-replicate}
+use Prim.Native.Nat.{ℕ}
 use Rattle.queue.proofs.SuspectLaws.{part-long, part-some}
 use borrow.Author.Needs.{needs}
+use lib.ListN.{length-replicate}
+use mathlib.Core.Path.{sym}
+use native.Mathlib.Nat.{zero-lt-suc}
+use native.Mathlib.Omega.{arith}
 use Rattle.queue.proofs.suspects.apart_many.Statement.{statement}
 use Rattle.queue.proofs.suspects.apart_many.Tie as tie
 use Rattle.queue.proofs.suspects.apart_many.Reads as reads

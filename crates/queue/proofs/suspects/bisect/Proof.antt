@@ -1,12 +1,9 @@
 -- Filled from its answers by tools/proofkit.py: change those, and fill it again.
-use mathlib.Core.Path.{_≡_, refl, sym, ap, _∙_}
-use native.Mathlib.Omega.{arith}
-use mathlib.Core.Bool.{Bool, true, false, _&&_, _||_}
-use Prim.Native.Nat.{ℕ, _≤_, _+_, _-_, _*_, _/_, _%_, _<_}
-use lib.ListN.{length, take, drop, getD, length-drop}
+use Prim.Native.Nat.{_-_}
+use Rattle.queue.proofs.RowLaws.{cut-end, cut-high, cut-low, cut-start}
 use Rattle.queue.specs.Suspects.{Cut}
-use Rattle.queue.proofs.RowLaws.{cut-start, cut-low, cut-high, cut-end}
 use borrow.Author.Needs.{needs}
+use native.Mathlib.Omega.{arith}
 use Rattle.queue.proofs.suspects.bisect.Statement.{statement}
 use Rattle.queue.proofs.suspects.bisect.Tie as tie
 use Rattle.queue.proofs.suspects.bisect.Reads as reads

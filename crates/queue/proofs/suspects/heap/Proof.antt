@@ -1,12 +1,10 @@
 -- Filled from its answers by tools/proofkit.py: change those, and fill it again.
-use mathlib.Core.Path.{_≡_, refl, sym, ap, _∙_}
-use native.Mathlib.Omega.{arith}
-use mathlib.Core.Bool.{Bool, true, false, _&&_, _||_}
-use Prim.Native.Nat.{ℕ, _≤_, _+_, _-_, _*_, _/_, _%_, _<_}
-use lib.ListN.{length, take, drop, getD, length-drop}
+use Rattle.queue.proofs.RowLaws.{shuffled-on, shuffled-self}
 use Rattle.queue.specs.Suspects.{Shuffled}
-use Rattle.queue.proofs.RowLaws.{shuffled-self, shuffled-on}
 use borrow.Author.Needs.{needs}
+use lib.ListN.{length}
+use mathlib.Core.Path.{_≡_, refl}
+use native.Mathlib.Omega.{arith}
 use Rattle.queue.proofs.suspects.heap.Statement.{statement}
 use Rattle.queue.proofs.suspects.heap.Tie as tie
 use Rattle.queue.proofs.suspects.heap.Reads as reads

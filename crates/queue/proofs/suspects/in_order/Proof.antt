@@ -1,14 +1,14 @@
 -- Filled from its answers by tools/proofkit.py: change those, and fill it again.
-use mathlib.Core.Path.{_≡_, refl, sym, ap, _∙_}
-use native.Mathlib.Omega.{arith}
-use mathlib.Core.Bool.{Bool, true, false, _&&_, _||_}
-use Prim.Native.Nat.{ℕ, _≤_, _+_, _-_, _*_, _/_, _%_, _<_}
-use lib.ListN.{length, take, drop, getD, length-drop}
-use Rattle.queue.specs.Suspects.{upTo, InOrder}
-use Rattle.queue.specs.ReadLaws.{false-true}
-use borrow.Author.Tests.{not-true, not-false}
+use Prim.Native.Nat.{_+_, _-_, _<_, _≤_, ℕ}
 use Rattle.queue.proofs.RowLaws.{order-go}
+use Rattle.queue.specs.ReadLaws.{false-true}
+use Rattle.queue.specs.Suspects.{upTo}
 use borrow.Author.Needs.{needs}
+use borrow.Author.Tests.{not-false}
+use lib.ListN.{getD, length}
+use mathlib.Core.Bool.{true}
+use mathlib.Core.Path.{_≡_}
+use native.Mathlib.Omega.{arith}
 use Rattle.queue.proofs.suspects.in_order.Statement.{statement}
 use Rattle.queue.proofs.suspects.in_order.Tie as tie
 use Rattle.queue.proofs.suspects.in_order.Reads as reads

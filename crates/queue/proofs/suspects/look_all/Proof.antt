@@ -1,13 +1,12 @@
 -- Filled from its answers by tools/proofkit.py: change those, and fill it again.
-use mathlib.Core.Path.{_≡_, refl, sym, ap, _∙_}
-use native.Mathlib.Omega.{arith}
-use mathlib.Core.Bool.{Bool, true, false, _&&_, _||_}
-use Prim.Native.Nat.{ℕ, _≤_, _+_, _-_, _*_, _/_, _%_, _<_}
-use lib.ListN.{length, take, drop, getD, length-drop}
-use Rattle.queue.specs.Suspects.{idR, noR, later}
+use Prim.Native.Nat.{_-_}
+use Rattle.queue.proofs.RowLaws.{any-end, any-go, any-stop, later-is}
+use Rattle.queue.specs.Suspects.{idR, later, noR}
 use Rattle.queue.specs.paper.Lists.{any?}
-use Rattle.queue.proofs.RowLaws.{later-is, any-go, any-stop, any-end}
 use borrow.Author.Needs.{needs}
+use lib.ListN.{drop, length}
+use mathlib.Core.Path.{_≡_, refl}
+use native.Mathlib.Omega.{arith}
 use Rattle.queue.proofs.suspects.look_all.Statement.{statement}
 use Rattle.queue.proofs.suspects.look_all.Tie as tie
 use Rattle.queue.proofs.suspects.look_all.Reads as reads

@@ -1,16 +1,15 @@
 -- Filled from its answers by tools/proofkit.py: change those, and fill it again.
-use mathlib.Core.Path.{_≡_, refl, sym, ap, _∙_}
-use native.Mathlib.Omega.{arith}
-use mathlib.Core.Bool.{Bool, true, false, _&&_, _||_}
-use Prim.Native.Nat.{ℕ, _≤_, _+_, _-_, _*_, _/_, _%_, _<_}
-use lib.ListN.{length, take, drop, getD, length-drop}
-use borrow.Author.Tests.{not-true, not-false}
-use Rattle.queue.specs.Frames.{recC, idC}
+use Prim.Native.Nat.{_≤_}
+use Rattle.queue.proofs.SuspectLaws.{Noting, id-bytes, noting, noting-end, noting-go, noting-own, noting-stop, noting-turn}
 use Rattle.queue.specs.Forms.{formC}
+use Rattle.queue.specs.Frames.{idC, recC}
 use Rattle.queue.specs.Reads.{listAt}
 use Rattle.queue.specs.View.{view}
-use Rattle.queue.proofs.SuspectLaws.{id-bytes, Noting, noting, noting-turn, noting-own, noting-go, noting-stop, noting-end}
 use borrow.Author.Needs.{needs}
+use borrow.Author.Tests.{not-false, not-true}
+use lib.ListN.{length, take}
+use mathlib.Core.Path.{_≡_, refl}
+use native.Mathlib.Omega.{arith}
 use Rattle.queue.proofs.suspects.note_all.Statement.{statement}
 use Rattle.queue.proofs.suspects.note_all.Tie as tie
 use Rattle.queue.proofs.suspects.note_all.Reads as reads

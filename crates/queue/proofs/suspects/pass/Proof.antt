@@ -1,15 +1,13 @@
 -- Filled from its answers by tools/proofkit.py: change those, and fill it again.
-use mathlib.Core.Path.{_≡_, refl, sym, ap, _∙_}
-use native.Mathlib.Omega.{arith}
-use mathlib.Core.Bool.{Bool, true, false, _&&_, _||_}
-use Prim.Native.Nat.{ℕ, _≤_, _+_, _-_, _*_, _/_, _%_, _<_}
-use lib.ListN.{length, take, drop, getD, length-drop}
-use Rattle.queue.specs.Frames.{recC}
+use Prim.Native.Nat.{_+_}
+use Rattle.queue.proofs.SuspectLaws.{crosses-end, crosses-go, crosses-stop}
+use Rattle.queue.proofs.Turns.{Scan, seen, start}
 use Rattle.queue.specs.Forms.{formC}
+use Rattle.queue.specs.Frames.{recC}
 use Rattle.queue.specs.Suspects.{crosses}
-use Rattle.queue.proofs.Turns.{Scan, start, seen}
-use Rattle.queue.proofs.SuspectLaws.{crosses-go, crosses-stop, crosses-end}
 use borrow.Author.Needs.{needs}
+use mathlib.Core.Path.{_≡_}
+use native.Mathlib.Omega.{arith}
 use Rattle.queue.proofs.suspects.pass.Statement.{statement}
 use Rattle.queue.proofs.suspects.pass.Tie as tie
 use Rattle.queue.proofs.suspects.pass.Reads as reads

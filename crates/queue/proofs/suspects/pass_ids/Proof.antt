@@ -1,14 +1,10 @@
 -- Filled from its answers by tools/proofkit.py: change those, and fill it again.
-use mathlib.Core.Path.{_≡_, refl, sym, ap, _∙_}
-use native.Mathlib.Omega.{arith}
-use mathlib.Core.Bool.{Bool, true, false, _&&_, _||_}
-use Prim.Native.Nat.{ℕ, _≤_, _+_, _-_, _*_, _/_, _%_, _<_}
-use lib.ListN.{length, take, drop, getD, length-drop}
+use Rattle.queue.proofs.SuspectLaws.{id-bytes, meets-end, meets-go, meets-stop, meetsF}
+use Rattle.queue.proofs.Turns.{Scan, here, start}
 use Rattle.queue.specs.Frames.{idC}
 use Rattle.queue.specs.View.{view}
-use Rattle.queue.proofs.Turns.{Scan, start, here}
-use Rattle.queue.proofs.SuspectLaws.{id-bytes, meetsF, meets-go, meets-stop, meets-end}
 use borrow.Author.Needs.{needs}
+use native.Mathlib.Omega.{arith}
 use Rattle.queue.proofs.suspects.pass_ids.Statement.{statement}
 use Rattle.queue.proofs.suspects.pass_ids.Tie as tie
 use Rattle.queue.proofs.suspects.pass_ids.Reads as reads

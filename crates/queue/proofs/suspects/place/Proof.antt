@@ -1,12 +1,8 @@
 -- Filled from its answers by tools/proofkit.py: change those, and fill it again.
-use mathlib.Core.Path.{_≡_, refl, sym, ap, _∙_}
-use native.Mathlib.Omega.{arith}
-use mathlib.Core.Bool.{Bool, true, false, _&&_, _||_}
-use Prim.Native.Nat.{ℕ, _≤_, _+_, _-_, _*_, _/_, _%_, _<_}
-use lib.ListN.{length, take, drop, getD, length-drop}
-use Rattle.queue.specs.View.{view, hex-in, raw-in}
 use Rattle.queue.proofs.RowLaws.{place-hex, place-raw}
+use Rattle.queue.specs.View.{hex-in, raw-in}
 use borrow.Author.Needs.{needs}
+use native.Mathlib.Omega.{arith}
 use Rattle.queue.proofs.suspects.place.Statement.{statement}
 use Rattle.queue.proofs.suspects.place.Tie as tie
 use Rattle.queue.proofs.suspects.place.Reads as reads

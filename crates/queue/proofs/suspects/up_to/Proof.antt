@@ -1,11 +1,7 @@
 -- Filled from its answers by tools/proofkit.py: change those, and fill it again.
-use mathlib.Core.Path.{_≡_, refl, sym, ap, _∙_}
-use native.Mathlib.Omega.{arith}
-use mathlib.Core.Bool.{Bool, true, false, _&&_, _||_}
-use Prim.Native.Nat.{ℕ, _≤_, _+_, _-_, _*_, _/_, _%_, _<_}
-use lib.ListN.{length, take, drop, getD, length-drop}
-use Rattle.queue.specs.Suspects.{upTo, noR}
+use Rattle.queue.specs.Suspects.{noR, upTo}
 use borrow.Author.Needs.{needs}
+use mathlib.Core.Path.{_∙_}
 use Rattle.queue.proofs.suspects.up_to.Statement.{statement}
 use Rattle.queue.proofs.suspects.up_to.Tie as tie
 use Rattle.queue.proofs.suspects.up_to.Reads as reads

@@ -1,14 +1,14 @@
 -- Filled from its answers by tools/proofkit.py: change those, and fill it again.
-use mathlib.Core.Path.{_≡_, refl, sym, ap, _∙_}
-use native.Mathlib.Omega.{arith}
-use mathlib.Core.Bool.{Bool, true, false, not}
-use Prim.Native.Nat.{ℕ, _≤_, _+_, _-_, _*_, _/_, _%_, _<_}
-use lib.ListN.{length, take, drop, getD}
-use borrow.Author.Tests.{eq-eqb, ne-eqb}
+use Prim.Native.Nat.{_%_, _-_}
+use Rattle.queue.proofs.RowLaws.{any-end, any-go, any-stop}
 use Rattle.queue.specs.Touching.{changed?}
 use Rattle.queue.specs.paper.Lists.{any?}
-use Rattle.queue.proofs.RowLaws.{any-go, any-stop, any-end}
 use borrow.Author.Needs.{needs}
+use borrow.Author.Tests.{eq-eqb, ne-eqb}
+use lib.ListN.{drop, getD, length}
+use mathlib.Core.Bool.{not}
+use mathlib.Core.Path.{_≡_, ap, refl, sym}
+use native.Mathlib.Omega.{arith}
 use Rattle.queue.proofs.touch.any_touched.Statement.{statement}
 use Rattle.queue.proofs.touch.any_touched.Tie as tie
 use Rattle.queue.proofs.touch.any_touched.Reads as reads

@@ -1,13 +1,12 @@
 -- Filled from its answers by tools/proofkit.py: change those, and fill it again.
-use mathlib.Core.Path.{_≡_, refl, sym, ap, _∙_}
-use native.Mathlib.Omega.{arith}
-use mathlib.Core.Bool.{Bool, true, false, _&&_, _||_}
-use Prim.Native.Nat.{ℕ, _≤_, _+_, _-_, _*_, _/_, _<_}
-use lib.Dec.{eqb}
-use borrow.Author.Tests.{not-true, not-false, eq-eqb, ne-eqb}
 use Rattle.queue.proofs.CallLaws.{view-long}
-use Rattle.queue.proofs.TouchLaws.{unmined, unplaced, place-room, placed-is}
+use Rattle.queue.proofs.TouchLaws.{place-room, placed-is, unmined, unplaced}
 use borrow.Author.Needs.{needs}
+use borrow.Author.Tests.{not-false, not-true}
+use lib.Dec.{eqb}
+use mathlib.Core.Bool.{_&&_}
+use mathlib.Core.Path.{_∙_, ap}
+use native.Mathlib.Omega.{arith}
 use Rattle.queue.proofs.touch.confirmed.Statement.{statement}
 use Rattle.queue.proofs.touch.confirmed.Tie as tie
 use Rattle.queue.proofs.touch.confirmed.Reads as reads

@@ -1,12 +1,12 @@
 -- Filled from its answers by tools/proofkit.py: change those, and fill it again.
-use mathlib.Core.Path.{_≡_, refl, sym, ap, _∙_}
-use native.Mathlib.Omega.{arith}
-use Prim.Native.Nat.{ℕ, _≤_, _+_, _-_, _*_, _/_, _<_}
-use Rattle.queue.specs.Touching.{entryIds}
+use Prim.Native.Nat.{_+_, _-_, _/_}
 use Rattle.queue.proofs.CallLaws.{view-long}
 use Rattle.queue.proofs.FindLaws.{Finding, finding}
-use Rattle.queue.proofs.TouchLaws.{entries-many, entry-room, entry-here, entry-low, entry-high, entry-end}
+use Rattle.queue.proofs.TouchLaws.{entries-many, entry-end, entry-here, entry-high, entry-low, entry-room}
+use Rattle.queue.specs.Touching.{entryIds}
 use borrow.Author.Needs.{needs}
+use mathlib.Core.Path.{_∙_, sym}
+use native.Mathlib.Omega.{arith}
 use Rattle.queue.proofs.touch.find_entry.Statement.{statement}
 use Rattle.queue.proofs.touch.find_entry.Tie as tie
 use Rattle.queue.proofs.touch.find_entry.Reads as reads

@@ -1,19 +1,16 @@
 -- Filled from its answers by tools/proofkit.py: change those, and fill it again.
-use mathlib.Core.Path.{_≡_, refl, sym, ap, _∙_}
-use native.Mathlib.Omega.{arith}
-use mathlib.Core.Bool.{Bool, true, false, _&&_, _||_}
-use Prim.Native.Nat.{ℕ, _≤_, _+_, _-_, _*_, _/_, _<_}
-use lib.Dec.{eqb}
-use borrow.Author.Tests.{not-true, not-false, eq-eqb, ne-eqb}
-use Rattle.queue.specs.Frames.{recC, idC}
+use Rattle.queue.proofs.TouchLaws.{fine-end, fine-go, fine-stop, fineF}
+use Rattle.queue.proofs.Turns.{Scan, start}
 use Rattle.queue.specs.Forms.{formC}
+use Rattle.queue.specs.Frames.{idC, recC}
 use Rattle.queue.specs.Reads.{listAt}
-use Rattle.queue.specs.View.{view}
 use Rattle.queue.specs.Reopens.{idsAt}
 use Rattle.queue.specs.Touching.{ownIds}
-use Rattle.queue.proofs.Turns.{Scan, start}
-use Rattle.queue.proofs.TouchLaws.{fineF, fine-go, fine-stop, fine-end}
+use Rattle.queue.specs.View.{view}
 use borrow.Author.Needs.{needs}
+use borrow.Author.Tests.{not-false, not-true}
+use mathlib.Core.Bool.{false}
+use native.Mathlib.Omega.{arith}
 use Rattle.queue.proofs.touch.fine.Statement.{statement}
 use Rattle.queue.proofs.touch.fine.Tie as tie
 use Rattle.queue.proofs.touch.fine.Reads as reads

@@ -1,15 +1,12 @@
 -- Filled from its answers by tools/proofkit.py: change those, and fill it again.
-use mathlib.Core.Path.{_≡_, refl, sym, ap, _∙_}
-use native.Mathlib.Omega.{arith}
-use mathlib.Core.Bool.{Bool, true, false, _&&_, _||_}
-use Prim.Native.Nat.{ℕ, _≤_, _+_, _-_, _*_, _/_, _<_}
-use lib.Dec.{eqb}
-use borrow.Author.Tests.{not-true, not-false, eq-eqb, ne-eqb}
 use Rattle.queue.specs.Frames.{idC}
 use Rattle.queue.specs.Reads.{listAt}
 use Rattle.queue.specs.View.{view}
 use Rattle.queue.specs.paper.Sound.{among?}
 use borrow.Author.Needs.{needs}
+use borrow.Author.Tests.{eq-eqb, ne-eqb}
+use mathlib.Core.Bool.{Bool, _&&_, false}
+use mathlib.Core.Path.{_∙_, ap, sym}
 use Rattle.queue.proofs.touch.in_outputs.Statement.{statement}
 use Rattle.queue.proofs.touch.in_outputs.Tie as tie
 use Rattle.queue.proofs.touch.in_outputs.Reads as reads

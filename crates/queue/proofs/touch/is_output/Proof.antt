@@ -1,16 +1,11 @@
 -- Filled from its answers by tools/proofkit.py: change those, and fill it again.
-use mathlib.Core.Path.{_≡_, refl, sym, ap, _∙_}
-use native.Mathlib.Omega.{arith}
-use mathlib.Core.Bool.{Bool, true, false, _&&_, _||_}
-use Prim.Native.Nat.{ℕ, _≤_, _+_, _-_, _*_, _/_, _<_}
-use lib.Dec.{eqb}
-use borrow.Author.Tests.{not-true, not-false, eq-eqb, ne-eqb}
-use Rattle.queue.specs.Frames.{recC, idC}
+use Rattle.queue.proofs.TouchLaws.{out-end, out-go, out-stop, outF}
+use Rattle.queue.proofs.Turns.{Scan, seen, start}
 use Rattle.queue.specs.Forms.{formC}
-use Rattle.queue.specs.View.{view}
-use Rattle.queue.proofs.Turns.{Scan, start, seen}
-use Rattle.queue.proofs.TouchLaws.{outF, out-go, out-stop, out-end}
+use Rattle.queue.specs.Frames.{recC}
 use borrow.Author.Needs.{needs}
+use mathlib.Core.Bool.{false}
+use native.Mathlib.Omega.{arith}
 use Rattle.queue.proofs.touch.is_output.Statement.{statement}
 use Rattle.queue.proofs.touch.is_output.Tie as tie
 use Rattle.queue.proofs.touch.is_output.Reads as reads

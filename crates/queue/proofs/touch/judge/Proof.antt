@@ -1,11 +1,5 @@
 -- Filled from its answers by tools/proofkit.py: change those, and fill it again.
-use mathlib.Core.Path.{_≡_, refl, sym, ap, _∙_}
-use native.Mathlib.Omega.{arith}
-use mathlib.Core.Bool.{Bool, true, false, _&&_, _||_}
-use Prim.Native.Nat.{ℕ, _≤_, _+_, _-_, _*_, _/_, _<_}
-use lib.Dec.{eqb}
-use borrow.Author.Tests.{not-true, not-false, eq-eqb, ne-eqb}
-use Rattle.queue.proofs.TouchLaws.{judge-0, judge-2, judge-0′, judge-3}
+use Rattle.queue.proofs.TouchLaws.{judge-0, judge-0′, judge-2, judge-3}
 use borrow.Author.Needs.{needs}
 use Rattle.queue.proofs.touch.judge.Statement.{statement}
 use Rattle.queue.proofs.touch.judge.Tie as tie

@@ -1,20 +1,20 @@
 -- Filled from its answers by tools/proofkit.py: change those, and fill it again.
-use mathlib.Core.Path.{_≡_, refl, sym, ap, _∙_}
-use native.Mathlib.Omega.{arith}
-use Prim.Native.Nat.{ℕ, _≤_, _+_, _-_, _*_, _/_, _<_}
-use mathlib.Core.Bool.{true, false}
-use lib.ListN.{length}
-use Rattle.queue.specs.Frames.{recC}
+use Prim.Native.Nat.{_*_, _+_, _<_, _≤_}
+use Rattle.queue.proofs.OwnLaws.{flags-from, quick-here, quick-next}
+use Rattle.queue.proofs.TouchLaws.{Judging, judge-end, judge-go, judge-seen, judging}
+use Rattle.queue.proofs.Turns.{seen}
 use Rattle.queue.specs.Forms.{formC}
+use Rattle.queue.specs.Frames.{recC}
+use Rattle.queue.specs.Owning.{FlagsFrom}
 use Rattle.queue.specs.Reads.{listAt}
 use Rattle.queue.specs.Reopens.{idsAt}
-use Rattle.queue.specs.Touching.{appliedIn, ownIds}
-use Rattle.queue.proofs.Turns.{seen}
 use Rattle.queue.specs.Reserving.{inputsOf}
-use Rattle.queue.specs.Owning.{FlagsFrom}
-use Rattle.queue.proofs.OwnLaws.{flags-from, quick-here, quick-next}
-use Rattle.queue.proofs.TouchLaws.{Judging, judging, judge-seen, judge-go, judge-end}
+use Rattle.queue.specs.Touching.{appliedIn, ownIds}
 use borrow.Author.Needs.{needs}
+use lib.ListN.{length}
+use mathlib.Core.Bool.{false, true}
+use mathlib.Core.Path.{_≡_}
+use native.Mathlib.Omega.{arith}
 use Rattle.queue.proofs.touch.judge_all.Statement.{statement}
 use Rattle.queue.proofs.touch.judge_all.Tie as tie
 use Rattle.queue.proofs.touch.judge_all.Reads as reads

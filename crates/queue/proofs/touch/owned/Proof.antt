@@ -1,11 +1,5 @@
 -- Filled from its answers by tools/proofkit.py: change those, and fill it again.
-use mathlib.Core.Path.{_≡_, refl, sym, ap, _∙_}
-use native.Mathlib.Omega.{arith}
-use mathlib.Core.Bool.{Bool, true, false, _&&_, _||_}
-use Prim.Native.Nat.{ℕ, _≤_, _+_, _-_, _*_, _/_, _<_}
-use lib.Dec.{eqb}
-use borrow.Author.Tests.{not-true, not-false, eq-eqb, ne-eqb}
-use Rattle.queue.proofs.TouchLaws.{own-yes, own-no}
+use Rattle.queue.proofs.TouchLaws.{own-no, own-yes}
 use borrow.Author.Needs.{needs}
 use Rattle.queue.proofs.touch.owned.Statement.{statement}
 use Rattle.queue.proofs.touch.owned.Tie as tie

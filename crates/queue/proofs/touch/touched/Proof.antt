@@ -1,13 +1,11 @@
 -- Filled from its answers by tools/proofkit.py: change those, and fill it again.
-use mathlib.Core.Path.{_≡_, refl, sym, ap, _∙_}
-use native.Mathlib.Omega.{arith}
-use mathlib.Core.Bool.{Bool, true, false, _&&_, _||_}
-use Prim.Native.Nat.{ℕ, _≤_, _+_, _-_, _*_, _/_, _<_}
-use lib.Dec.{eqb}
-use borrow.Author.Tests.{not-true, not-false, eq-eqb, ne-eqb}
+use Rattle.queue.proofs.TouchLaws.{verdict-confirm, verdict-judge, verdict-none, verdict-same}
 use Rattle.queue.specs.Reopens.{idsAt}
-use Rattle.queue.proofs.TouchLaws.{verdict-same, verdict-confirm, verdict-none, verdict-judge}
 use borrow.Author.Needs.{needs}
+use borrow.Author.Tests.{not-false, not-true}
+use mathlib.Core.Bool.{_&&_}
+use mathlib.Core.Path.{_∙_, ap}
+use native.Mathlib.Omega.{arith}
 use Rattle.queue.proofs.touch.touched.Statement.{statement}
 use Rattle.queue.proofs.touch.touched.Tie as tie
 use Rattle.queue.proofs.touch.touched.Reads as reads

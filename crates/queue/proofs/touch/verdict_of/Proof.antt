@@ -1,8 +1,8 @@
 -- Filled from its answers by tools/proofkit.py: change those, and fill it again.
-use mathlib.Core.Path.{_≡_, refl, sym, ap, _∙_}
-use native.Mathlib.Omega.{arith}
 use Rattle.queue.proofs.TouchLaws.{one-is, other-is}
 use borrow.Author.Needs.{needs}
+use mathlib.Core.Path.{refl}
+use native.Mathlib.Omega.{arith}
 use Rattle.queue.proofs.touch.verdict_of.Statement.{statement}
 use Rattle.queue.proofs.touch.verdict_of.Tie as tie
 use Rattle.queue.proofs.touch.verdict_of.Reads as reads

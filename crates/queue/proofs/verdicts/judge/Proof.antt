@@ -1,11 +1,10 @@
 -- Filled from its answers by tools/proofkit.py: change those, and fill it again.
-use mathlib.Core.Path.{_≡_, refl, sym, ap, _∙_}
-use native.Mathlib.Omega.{arith}
-use lib.ListN.{length}
-use borrow.Author.Tests.{not-true, not-false}
-use Rattle.queue.specs.ReadLaws.{false-true}
 use Rattle.queue.proofs.OwnLaws.{small-is}
+use Rattle.queue.specs.ReadLaws.{false-true}
 use borrow.Author.Needs.{needs}
+use borrow.Author.Tests.{not-false}
+use lib.ListN.{length}
+use native.Mathlib.Omega.{arith}
 use Rattle.queue.proofs.verdicts.judge.Statement.{statement}
 use Rattle.queue.proofs.verdicts.judge.Tie as tie
 use Rattle.queue.proofs.verdicts.judge.Reads as reads

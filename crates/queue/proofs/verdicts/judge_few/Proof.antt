@@ -1,11 +1,11 @@
 -- Filled from its answers by tools/proofkit.py: change those, and fill it again.
-use mathlib.Core.Path.{_≡_, refl, sym, ap, _∙_}
-use native.Mathlib.Omega.{arith}
 use Prim.Native.Nat.{ℕ}
-use lib.ListN.{length-replicate}
-use Rattle.queue.proofs.SuspectLaws.{part-long, part-some}
 use Rattle.queue.proofs.OwnLaws.{part-holds}
+use Rattle.queue.proofs.SuspectLaws.{part-long, part-some}
 use borrow.Author.Needs.{needs}
+use lib.ListN.{length-replicate}
+use mathlib.Core.Path.{sym}
+use native.Mathlib.Omega.{arith}
 use Rattle.queue.proofs.verdicts.judge_few.Statement.{statement}
 use Rattle.queue.proofs.verdicts.judge_few.Tie as tie
 use Rattle.queue.proofs.verdicts.judge_few.Reads as reads

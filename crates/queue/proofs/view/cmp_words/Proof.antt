@@ -1,14 +1,13 @@
 -- Filled from its answers by tools/proofkit.py: change those, and fill it again.
+use Prim.Native.Nat.{_*_, _+_, _-_, _≤_}
+use Rattle.queue.proofs.LoopLaws.{cmp-end, cmp-start, words-less, words-more, words-same}
 use Rattle.queue.specs.Ids.{part}
-use Rattle.queue.specs.paper.Ids.{cmpL}
 use Rattle.queue.specs.View.{view, view-fits}
-use Rattle.queue.proofs.LoopLaws.{cmp-start, cmp-end, words-less, words-more, words-same}
-use mathlib.Core.Path.{_≡_, refl, sym, ap, _∙_}
-use mathlib.Core.Bool.{false}
-use Prim.Native.Nat.{ℕ, _+_, _*_, _-_, _≤_, _<_}
-use native.Mathlib.Omega.{arith}
-use lib.ListN.{length}
+use Rattle.queue.specs.paper.Ids.{cmpL}
 use borrow.Author.Needs.{needs}
+use mathlib.Core.Bool.{false}
+use mathlib.Core.Path.{_∙_, _≡_, sym}
+use native.Mathlib.Omega.{arith}
 use Rattle.queue.proofs.view.cmp_words.Statement.{statement}
 use Rattle.queue.proofs.view.cmp_words.Tie as tie
 use Rattle.queue.proofs.view.cmp_words.Reads as reads

@@ -1,12 +1,12 @@
 -- Filled from its answers by tools/proofkit.py: change those, and fill it again.
-use mathlib.Core.Path.{_≡_, refl, sym, _∙_}
-use mathlib.Core.Bool.{_&&_}
-use Prim.Native.Nat.{ℕ, _-_, _≤_}
-use native.Mathlib.Omega.{arith}
-use lib.ListN.{length, drop}
+use Prim.Native.Nat.{_-_, _≤_}
+use Rattle.queue.proofs.LoopLaws.{same-over, same-turn}
 use Rattle.queue.specs.paper.Ids.{same?}
-use Rattle.queue.proofs.LoopLaws.{same-turn, same-over}
 use borrow.Author.Needs.{needs}
+use lib.ListN.{drop, length}
+use mathlib.Core.Bool.{_&&_}
+use mathlib.Core.Path.{_∙_, _≡_, refl, sym}
+use native.Mathlib.Omega.{arith}
 use Rattle.queue.proofs.view.same_id.Statement.{statement}
 use Rattle.queue.proofs.view.same_id.Tie as tie
 use Rattle.queue.proofs.view.same_id.Reads as reads

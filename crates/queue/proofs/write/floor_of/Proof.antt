@@ -1,12 +1,10 @@
 -- Filled from its answers by tools/proofkit.py: change those, and fill it again.
-use mathlib.Core.Path.{_≡_, refl, sym, ap, _∙_}
-use native.Mathlib.Omega.{arith}
-use mathlib.Core.Bool.{Bool, true, false, _&&_}
-use Prim.Native.Nat.{ℕ, _≤_, _+_, _-_, _*_, _<_}
-use mathlib.Core.Logic.{inl}
-use Rattle.queue.proofs.WriteLaws.{floor-needs}
 use Rattle.queue.proofs.FloorLaws.{held-here, tombs-here}
+use Rattle.queue.proofs.WriteLaws.{floor-needs}
 use borrow.Author.Needs.{needs}
+use mathlib.Core.Logic.{inl}
+use mathlib.Core.Path.{refl}
+use native.Mathlib.Omega.{arith}
 use Rattle.queue.proofs.write.floor_of.Statement.{statement}
 use Rattle.queue.proofs.write.floor_of.Tie as tie
 use Rattle.queue.proofs.write.floor_of.Reads as reads

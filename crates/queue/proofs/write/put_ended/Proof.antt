@@ -1,13 +1,11 @@
 -- Filled from its answers by tools/proofkit.py: change those, and fill it again.
-use mathlib.Core.Path.{_≡_, refl, sym, ap, _∙_}
-use native.Mathlib.Omega.{arith}
-use mathlib.Core.Bool.{Bool, true, false, _&&_}
-use Prim.Native.Nat.{ℕ, _≤_, _+_, _-_, _*_, _<_}
-use lib.ListN.{length}
+use Prim.Native.Nat.{_+_, ℕ}
 use Rattle.queue.proofs.PutLaws.{kept}
-use native.Mathlib.Nat.{mod-lt}
-use Rattle.queue.proofs.WriteLaws.{head-in, long-need, floor-asks, ended-room, ended-few, ended-done}
+use Rattle.queue.proofs.WriteLaws.{ended-done, ended-few, ended-room, floor-asks, head-in, long-need}
 use borrow.Author.Needs.{needs}
+use mathlib.Core.Path.{ap, refl}
+use native.Mathlib.Nat.{mod-lt}
+use native.Mathlib.Omega.{arith}
 use Rattle.queue.proofs.write.put_ended.Statement.{statement}
 use Rattle.queue.proofs.write.put_ended.Tie as tie
 use Rattle.queue.proofs.write.put_ended.Reads as reads

@@ -1,12 +1,10 @@
 -- Filled from its answers by tools/proofkit.py: change those, and fill it again.
-use mathlib.Core.Path.{_≡_, refl, sym, ap, _∙_}
-use native.Mathlib.Omega.{arith}
-use mathlib.Core.Bool.{Bool, true, false, _&&_}
-use Prim.Native.Nat.{ℕ, _≤_, _+_, _-_, _*_, _<_}
-use lib.ListN.{length}
+use Prim.Native.Nat.{_+_, ℕ}
 use Rattle.queue.proofs.PutLaws.{kept}
-use Rattle.queue.proofs.WriteLaws.{long-need, moved-room, moved-small, moved-done}
+use Rattle.queue.proofs.WriteLaws.{long-need, moved-done, moved-room, moved-small}
 use borrow.Author.Needs.{needs}
+use mathlib.Core.Path.{ap}
+use native.Mathlib.Omega.{arith}
 use Rattle.queue.proofs.write.put_moved.Statement.{statement}
 use Rattle.queue.proofs.write.put_moved.Tie as tie
 use Rattle.queue.proofs.write.put_moved.Reads as reads

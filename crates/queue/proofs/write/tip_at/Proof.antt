@@ -1,12 +1,9 @@
 -- Filled from its answers by tools/proofkit.py: change those, and fill it again.
-use mathlib.Core.Path.{_≡_, refl, sym, ap, _∙_}
-use native.Mathlib.Omega.{arith}
-use mathlib.Core.Bool.{Bool, true, false, _&&_}
-use Prim.Native.Nat.{ℕ, _≤_, _+_, _-_, _*_, _<_}
-use lib.ListN.{length}
+use Rattle.queue.proofs.WriteLaws.{tip-here, tip-none, tip-room}
 use Rattle.queue.specs.View.{view}
-use Rattle.queue.proofs.WriteLaws.{tip-room, tip-here, tip-none}
 use borrow.Author.Needs.{needs}
+use mathlib.Core.Bool.{false}
+use native.Mathlib.Omega.{arith}
 use Rattle.queue.proofs.write.tip_at.Statement.{statement}
 use Rattle.queue.proofs.write.tip_at.Tie as tie
 use Rattle.queue.proofs.write.tip_at.Reads as reads

@@ -1,10 +1,7 @@
 -- Filled from its answers by tools/proofkit.py: change those, and fill it again.
-use mathlib.Core.Path.{_≡_, refl, sym, ap, _∙_}
-use native.Mathlib.Omega.{arith}
-use mathlib.Core.Bool.{Bool, true, false, _&&_}
-use Prim.Native.Nat.{ℕ, _≤_, _+_, _-_, _*_, _<_}
 use Rattle.queue.specs.paper.Sound.{inRange}
 use borrow.Author.Needs.{needs}
+use mathlib.Core.Path.{_∙_}
 use Rattle.queue.proofs.limits.Limits.check.Statement.{statement}
 use Rattle.queue.proofs.limits.Limits.check.Tie as tie
 use Rattle.queue.proofs.limits.Limits.check.Reads as reads

@@ -1,12 +1,12 @@
 -- Filled from its answers by tools/proofkit.py: change those, and fill it again.
-use mathlib.Core.Path.{_≡_, refl, sym, ap, _∙_}
-use native.Mathlib.Omega.{arith}
-use borrow.Author.Tests.{not-true, not-false}
-use Rattle.queue.specs.Opens.{limits}
-use Rattle.queue.proofs.OpenLaws.{ranged}
 use Rattle.queue.proofs.CallLaws.{fresh-1, fresh-2, fresh-done, need-512}
+use Rattle.queue.proofs.OpenLaws.{ranged}
 use Rattle.queue.proofs.PutLaws.{kept}
+use Rattle.queue.specs.Opens.{limits}
 use borrow.Author.Needs.{needs}
+use borrow.Author.Tests.{not-false, not-true}
+use mathlib.Core.Path.{_∙_, sym}
+use native.Mathlib.Omega.{arith}
 use Rattle.queue.proofs.limits.Limits.fresh.Statement.{statement}
 use Rattle.queue.proofs.limits.Limits.fresh.Tie as tie
 use Rattle.queue.proofs.limits.Limits.fresh.Reads as reads

@@ -1,12 +1,10 @@
 -- Filled from its answers by tools/proofkit.py: change those, and fill it again.
-use mathlib.Core.Path.{_≡_, refl, sym, ap, _∙_}
-use native.Mathlib.Omega.{arith}
-use mathlib.Core.Bool.{Bool, true, false, _&&_}
-use Prim.Native.Nat.{ℕ, _≤_, _+_, _-_, _*_, _<_}
-use Rattle.queue.specs.paper.Sound.{need}
+use Rattle.queue.proofs.OpenLaws.{product, ranged}
 use Rattle.queue.specs.Opens.{limits}
-use Rattle.queue.proofs.OpenLaws.{ranged, product}
+use Rattle.queue.specs.paper.Sound.{need}
 use borrow.Author.Needs.{needs}
+use mathlib.Core.Path.{refl}
+use native.Mathlib.Omega.{arith}
 use Rattle.queue.proofs.limits.Limits.need.Statement.{statement}
 use Rattle.queue.proofs.limits.Limits.need.Tie as tie
 use Rattle.queue.proofs.limits.Limits.need.Reads as reads
