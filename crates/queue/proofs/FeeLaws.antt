@@ -11,6 +11,7 @@ use lib.Dec.{ltb, leb, eqb}
 use lib.ListN.{length, take, drop, getD, set, length-append, length-drop, length-set, length-take}
 use lib.Seq.{drop-drop, drop-at, take-suc, take-suc-set, take-all, length-take-le}
 use borrow.Author.Tests.{eq-eqb, ne-eqb, lt-ltb, le-ltb, le-leb, lt-leb, ltb-true, ltb-false, leb-true, leb-false, not-true, not-false}
+use Rattle.queue.specs.ListLaws.{sort-all}
 use Rattle.queue.specs.Codec as codec
 use Rattle.queue.specs.Codec.{All, cases, Got, fail, got, no-got, beC, be-fwd, be-length}
 use Rattle.queue.specs.Lists.{Pairwise, Sub, sub-all}
@@ -51,7 +52,7 @@ use Rattle.queue.proofs.PutLaws.{then, recast}
 use Rattle.queue.proofs.ByteLaws.{be-same, between}
 use Rattle.queue.proofs.Turns.{SeenIn, ReadsRec}
 use Rattle.queue.proofs.ReadingLaws.{told-4, told-100}
-use Rattle.queue.proofs.SelectLaws.{rows-take, rows-places, sort-all, sort-rows, ids-size}
+use Rattle.queue.proofs.SelectLaws.{rows-take, rows-places, sort-rows, ids-size}
 
 -- ---- the fee of a record that was read: the terms end with fee 8, size 4, cost 8
 abbrev front : Terms → Bytes

@@ -14,7 +14,7 @@ use borrow.Author.Tests.{eqb-true, eqb-false, eq-eqb, ne-eqb, ltb-true, ltb-fals
 use Rattle.queue.specs.Codec as codec
 use Rattle.queue.specs.Codec.{All, cases}
 use Rattle.queue.specs.Lists.{Pairwise, and-true, all-map, sub-all}
-use Rattle.queue.specs.ListLaws.{filter-sub, sort-apart}
+use Rattle.queue.specs.ListLaws.{filter-sub, sort-apart, sort-all}
 use Rattle.queue.specs.parents.Laws.{option-cases}
 use Rattle.queue.specs.Order.{same-self, same-sym, below-not-same, or-true}
 use Rattle.queue.specs.ReadLaws.{false-true}
@@ -43,7 +43,7 @@ use Rattle.queue.specs.declared.area.Area.{Area}
 use Rattle.queue.proofs.PutLaws.{then, recast}
 use Rattle.queue.proofs.ByteLaws.{be-same}
 use Rattle.queue.proofs.ReadingLaws.{told-4, told-100}
-use Rattle.queue.proofs.SelectLaws.{rows-take, rows-places, sort-all, sort-rows, ids-size, chosen-is}
+use Rattle.queue.proofs.SelectLaws.{rows-take, rows-places, sort-rows, ids-size, chosen-is}
 use Rattle.queue.proofs.FeeLaws.{getD-map, known-at, places-known, map-recs, rows-recs, gathered-known}
 use Rattle.queue.proofs.OpenLaws.{product}
 use Rattle.queue.proofs.BitLaws.{kids-any, line-in, lines-room}

@@ -11,6 +11,7 @@ use lib.Dec.{leb, eqb}
 use lib.ListN.{length, take, drop, getD, length-append, length-drop, take-append-drop, drop-of-length-le}
 use lib.Seq.{drop-cons, drop-drop, take-take, take-all, length-take-le}
 use borrow.Author.Tests.{eq-eqb, ne-eqb, eqb-true, eqb-false}
+use Rattle.queue.specs.ListLaws.{map-length}
 use Rattle.queue.specs.Codec as codec
 use Rattle.queue.specs.Codec.{All, Codec, cases, encs, got}
 use Rattle.queue.specs.Splice.{Put, be}
@@ -44,7 +45,6 @@ use Rattle.queue.proofs.PutLaws as puts
 use Rattle.queue.proofs.PutLaws.{then, recast, kept, Left, begun, onward, nothing, length-be, sized}
 use Rattle.queue.proofs.ByteLaws.{be-same, between}
 use Rattle.queue.proofs.FinishLaws.{encs-append, raw-after, raw-within}
-use Rattle.queue.proofs.SelectLaws.{map-length}
 use Rattle.queue.proofs.ReopenLaws.{parts-in, terms-part, tail-part}
 use Rattle.queue.proofs.TouchLaws.{be-val, drop-take}
 use Rattle.queue.proofs.ReleaseLaws.{all-at, verdict-within}

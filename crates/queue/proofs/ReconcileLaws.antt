@@ -22,7 +22,7 @@ use Rattle.queue.specs.Forms.{formC, queueC}
 use Rattle.queue.specs.Areas.{readArea}
 use Rattle.queue.specs.Bound.{fits-need}
 use Rattle.queue.specs.Lists.{Pairwise, Sub, sub-pairwise, and-true}
-use Rattle.queue.specs.ListLaws.{filter-sub, all-every}
+use Rattle.queue.specs.ListLaws.{filter-sub, all-every, sort-all, map-length}
 use Rattle.queue.specs.Order.{or-false}
 use Rattle.queue.specs.Sounds.{Right, Fit, fit-sound, fit-ok, Before}
 use Rattle.queue.specs.Keeps.{Alike, alike-rising, leaves-kept, moved-fit}
@@ -38,10 +38,10 @@ use Rattle.queue.specs.Lent.{ReconcileAsked}
 use Rattle.queue.specs.Reopens.{IdsRise, idsAt}
 use Rattle.queue.specs.SelectAs.{Row, rows, Even, Table, ahead?, idAt}
 use Rattle.queue.specs.Touching.{appliedIn, ownIds, InEntry, Judged, changed?, changes?}
-use Rattle.queue.specs.Releasing.{nextR, nextV, nextL, minedHolder?, minedOf, Stands, StandsAt, bytesAt, MinedRow, FallingRows, MinedRows, MinedGathered, walkR, walkC}
+use Rattle.queue.specs.Releasing.{nextR, nextV, nextL, minedOf, Stands, StandsAt, bytesAt, MinedRow, FallingRows, MinedRows, MinedGathered, walkR, walkC}
 use Rattle.queue.specs.Rebuilding.{keptOf, keptL}
 use Rattle.queue.specs.Decided.{decided-number}
-use Rattle.queue.specs.paper.Decisions.{decisions}
+use Rattle.queue.specs.paper.Decisions.{minedHolder?, decisions}
 use Rattle.queue.specs.Reconciling.{asked, LentTo, JudgedIn, anyTouched, wholeQ, GoneAre, DecidedAre, ChangedIs, cursorKind, cursorTo, CursorTold, WholeTo, FloorFor, goneBytes, ReconcileTold}
 use Rattle.queue.specs.paper.Records.{Bytes, Id, Limits, Rec, Queue}
 use Rattle.queue.specs.paper.Lists.{isSome, one, any?, count, filter, find, sort, map, concat, maybe, isEmpty?}
@@ -62,7 +62,7 @@ use Rattle.queue.proofs.ByteLaws.{be-same}
 use Rattle.queue.proofs.FrontLaws.{area-done}
 use Rattle.queue.proofs.WriteLaws.{fit, one-queue, same-queue, the-limits, queue-long, long-need}
 use Rattle.queue.proofs.ReadingLaws.{key}
-use Rattle.queue.proofs.SelectLaws.{rows-places, rows-take, sort-all, map-length, even-to, ids-size}
+use Rattle.queue.proofs.SelectLaws.{rows-places, rows-take, even-to, ids-size}
 use Rattle.queue.proofs.ReleaseLaws.{sort-mined, mined-placed, walk-ids, walk-columns}
 use Rattle.queue.proofs.TouchLaws.{judged-any, judged-long, judged-within}
 use Rattle.queue.proofs.TrimLaws.{KeepsEach, Placed, releases-placed, trim-is}

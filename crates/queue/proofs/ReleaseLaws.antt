@@ -13,7 +13,7 @@ use lib.Seq.{drop-cons, take-suc, take-all, take-suc-set}
 use borrow.Author.Tests.{eq-eqb, ne-eqb, lt-leb, eqb-true}
 use Rattle.queue.specs.Codec.{All, cases}
 use Rattle.queue.specs.Lists.{Pairwise}
-use Rattle.queue.specs.ListLaws.{and-false}
+use Rattle.queue.specs.ListLaws.{and-false, sort-all}
 use Rattle.queue.specs.Order.{cmp-flip}
 use Rattle.queue.specs.Frames.{recC}
 use Rattle.queue.specs.View.{view}
@@ -24,7 +24,8 @@ use Rattle.queue.specs.Facts.{factsOf, placeHeight}
 use Rattle.queue.specs.Sounds.{Before}
 use Rattle.queue.specs.SelectAs.{Row, rows, Even, Table, aheadOf, ahead?, Added, idAt, idOf}
 use Rattle.queue.specs.Touching.{entryIn, SeenOf, asTouched, verdictOf, InEntry}
-use Rattle.queue.specs.Releasing.{nextV, nextL, minedHolder?, minedOf, minedF, heightF, Stands, bytesAt, PlaceAdded, MinedRow, FallingRows, MinedRows, MinedGathered, walkR, walkC}
+use Rattle.queue.specs.Releasing.{nextV, nextL, minedOf, minedF, heightF, Stands, bytesAt, PlaceAdded, MinedRow, FallingRows, MinedRows, MinedGathered, walkR, walkC}
+use Rattle.queue.specs.paper.Decisions.{minedHolder?}
 use Rattle.queue.specs.paper.Records.{Bytes, Id, Limits, Rec}
 use Rattle.queue.specs.paper.Lists.{total, filter, insert, sort, map, maybe}
 use Rattle.queue.specs.paper.Ids.{cmpL, below?, same?}
@@ -36,7 +37,7 @@ use Rattle.queue.specs.declared.touch.Verdict.{Verdict}
 use Rattle.queue.proofs.Turns.{Scan, start, on, SeenIn, ReadsRec, seen}
 use Rattle.queue.proofs.ScanLaws.{nothingF}
 use Rattle.queue.proofs.ReadingLaws.{id-here, one-here}
-use Rattle.queue.proofs.SelectLaws.{rows-length, sort-all}
+use Rattle.queue.proofs.SelectLaws.{rows-length}
 use Rattle.queue.proofs.TouchLaws.{entry-height}
 
 -- ---- each of a list

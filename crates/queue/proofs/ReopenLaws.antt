@@ -10,6 +10,7 @@ use lib.Dec.{ltb, leb, eqb}
 use lib.ListN.{length, drop, take, replicate, length-append, length-drop, take-append-drop}
 use lib.Seq.{drop-drop, length-take-le}
 use borrow.Author.Tests.{lt-ltb, le-ltb, eq-eqb, ne-eqb}
+use Rattle.queue.specs.ListLaws.{map-length}
 use Rattle.queue.specs.Codec as codec
 use Rattle.queue.specs.Codec.{Got, fail, got, Codec, cases, All, beC, encs, decs, vec-fwd}
 use Rattle.queue.specs.Splice.{Put, splice, be}
@@ -52,7 +53,6 @@ use Rattle.queue.proofs.ByteLaws.{be-same, between}
 use Rattle.queue.proofs.FinishLaws.{cut-one, raw-after, raw-within, id-long}
 use Rattle.queue.proofs.FrontLaws.{area-done}
 use Rattle.queue.proofs.WriteLaws.{fit, one-queue, same-queue, the-limits, tip-of, queue-long, long-need}
-use Rattle.queue.proofs.SelectLaws.{map-length}
 use Rattle.queue.proofs.CallLaws.{small-all}
 
 -- ---- lent ids

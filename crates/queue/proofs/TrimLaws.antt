@@ -17,7 +17,7 @@ use Rattle.queue.specs.Sounds.{Before}
 use Rattle.queue.specs.Rules.{weight, sum, aboveF}
 use Rattle.queue.specs.Facts.{factsOf}
 use Rattle.queue.specs.Finishing.{newAbove, above}
-use Rattle.queue.specs.Releasing.{minedHolder?}
+use Rattle.queue.specs.paper.Decisions.{minedHolder?}
 use Rattle.queue.specs.Reconciles.{Diff, diff-sym, rising-diff, walk-other, filter-differs}
 use Rattle.queue.specs.paper.Records.{Id, Limits, Rec}
 use Rattle.queue.specs.paper.Lists.{one, total, filter, sort, map}

@@ -10,7 +10,7 @@ use lib.Dec.{ltb, leb, eqb}
 use lib.ListN.{length}
 use Rattle.queue.specs.Codec.{cases}
 use Rattle.queue.specs.Lists.{and-true, Pairwise}
-use Rattle.queue.specs.ListLaws.{all-every, filter-total, total-eq, map-total-le, count-one, pairwise-with, sort-total}
+use Rattle.queue.specs.ListLaws.{all-every, filter-total, total-eq, map-total-le, count-one, pairwise-with, sort-total, sort-length, filter-length, map-length}
 use Rattle.queue.specs.ReadLaws.{false-true}
 use Rattle.queue.specs.Order.{same-is}
 use Rattle.queue.specs.Sounds.{Sound, sound-of}
@@ -82,22 +82,6 @@ module _ (m : Limits) (height window : ℕ) where
 
 -- ---- counts
 
-module _ {A : Type 0} where
-  filter-length : (p : A → Bool) (l : List A) → length (filter p l) ≡ count p l
-  filter-length p [] = refl
-  filter-length p (a ∷ l) = let i = filter-length p l in cases (p a) (λ t. rw t (omega arith)) (λ t. rw t (omega arith))
-
-  length-total : (l : List A) → length l ≡ total (λ a. 1) l
-  length-total [] = refl
-  length-total (a ∷ l) = let i = length-total l in omega arith
-
-  pub sort-length : (lt : A → A → Bool) (l : List A) → length (sort lt l) ≡ length l
-  sort-length lt l = length-total (sort lt l) ∙ sort-total lt (λ a. 1) l ∙ sym (length-total l)
-
-map-size : {A B : Type 0} (f : A → B) (l : List A) → length (map f l) ≡ length l
-map-size f [] = refl
-map-size f (a ∷ l) = let i = map-size f l in omega arith
-
 one-and : (a b : Bool) → cond a (one b) 0 ≡ one (a && b)
 one-and true b = refl
 one-and false b = refl
@@ -140,7 +124,7 @@ module _ (c : Reconciling) (q : Queue) where
   decided-gone = decide-gone (q .limits) (c .height) (c .window) 0 0 (sort newer? (filter minedHolder? (entered c q))) ∙ ap (λ l. releases (q .limits) (c .height) (c .window) 0 0 (sort newer? l)) (entered-mined c q)
 
   decided-many : count (λ d. d .released) (decisions c q) ≡ length (toRelease c q)
-  decided-many = sym (filter-length (λ (d : Decision). d .released) (decisions c q)) ∙ sym (map-size (λ (d : Decision). d .id) (filter (λ d. d .released) (decisions c q))) ∙ ap length decided-gone
+  decided-many = sym (filter-length (λ (d : Decision). d .released) (decisions c q)) ∙ sym (map-length (λ (d : Decision). d .id) (filter (λ d. d .released) (decisions c q))) ∙ ap length decided-gone
 
   pub decided-number : length (decisions c q) ≡ length (filter minedHolder? (touchedRecs c q))
   unfolding decisions

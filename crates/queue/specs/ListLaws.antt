@@ -83,6 +83,14 @@ module _ {A : Type 0} where
   count-length p [] = refl
   count-length p (a ∷ l) = let i = count-length p l in cases (p a) (λ t. rw t (omega arith)) (λ t. rw t (omega arith))
 
+  pub length-total : (l : List A) → length l ≡ total (λ a. 1) l
+  length-total [] = refl
+  length-total (a ∷ l) = let i = length-total l in omega arith
+
+  pub filter-length : (p : A → Bool) (l : List A) → length (filter p l) ≡ count p l
+  filter-length p [] = refl
+  filter-length p (a ∷ l) = let i = filter-length p l in cases (p a) (λ t. rw t (omega arith)) (λ t. rw t (omega arith))
+
   pub find-all : (p : A → Bool) (P : A → Type 0) (l : List A) (x : A) → find p l ≡ some x → All P l → P x × (p x ≡ true)
   find-all p P [] x e h = let z : _≡_ {A = ℕ} 0 1 = cc in absurd (omega arith)
   find-all p P (a ∷ l) x e h = cond-cases (p a) (some a) (find p l) (some x) e
@@ -159,6 +167,13 @@ module _ {A : Type 0} where
     sort-total f [] = refl
     sort-total f (a ∷ l) = let i = sort-total f l in let j = insert-total f a (sort lt l) in omega arith
 
+    pub sort-length : (l : List A) → length (sort lt l) ≡ length l
+    sort-length l = length-total (sort lt l) ∙ sort-total (λ a. 1) l ∙ sym (length-total l)
+
     pub sort-apart : (R : A → A → Type 0) → ((a b : A) → R a b → R b a) → (l : List A) → Pairwise R l → Pairwise R (sort lt l)
     sort-apart R sy [] h = tt
     sort-apart R sy (a ∷ l) h = insert-apart R sy a (sort lt l) (sort-all (R a) l (h .0)) (sort-apart R sy l (h .1))
+
+pub map-length : {A B : Type 0} (f : A → B) (l : List A) → length (map f l) ≡ length l
+map-length f [] = refl
+map-length f (a ∷ l) = let i = map-length f l in omega arith

@@ -13,7 +13,7 @@ use Rattle.queue.specs.Frames.{idC, placeC}
 use Rattle.queue.specs.Lists.{Pairwise, and-true, all-map, both-pairwise, sub-all, sub-pairwise, sub-total}
 use Rattle.queue.specs.ReadLaws.{false-true}
 use Rattle.queue.specs.Order.{same-is, same-self, same-sym, below-not-same, or-false, or-true}
-use Rattle.queue.specs.ListLaws.{one-le, all-every, all-with, pairwise-with, filter-sub, filter-total, total-eq, find-all, map-all, map-pairwise, map-total, map-total-le, sort-all, sort-total, sort-apart}
+use Rattle.queue.specs.ListLaws.{one-le, all-every, all-with, pairwise-with, filter-sub, filter-total, total-eq, find-all, map-all, map-pairwise, map-total, map-total-le, sort-all, sort-total, sort-apart, length-total}
 use Rattle.queue.specs.Sounds.{InRange, Right, Before, Distinct, Apart, Sound, Fields, Fit}
 use Rattle.queue.specs.Forget.{Core, core-sound, forget-sub, forget-sound}
 use Rattle.queue.specs.Keeps.{Leaves, moved-fit, committed-kept, pending-mined, pending-held, unmined-place, unmined-mark, no-place, no-mark, in-range, right-later, finish-le, finished-fields, apart-finished, finished-apart, Alike, alike-rising, alike-distinct, alike-apart, alike-total, mined-weight}
@@ -437,10 +437,6 @@ releases-all P m height window n b (r ∷ l) h =
     let i = releases-all P m height window (n + 1) (b + length (content (r .body))) l (h .1) in
     let j = i .1 in
     cases (release? m height window n b r) (λ t. rw t ((h .0, i .0), omega arith)) (λ t. rw t (i .0, omega arith))
-
-length-total : {A : Type 0} (l : List A) → length l ≡ total (λ a. 1) l
-length-total [] = refl
-length-total (a ∷ l) = let i = length-total l in omega arith
 
 pub released-all : (P : Id → Type 0) (c : Reconciling) (m : Limits) (l : List Rec) → All (λ r. P (r .id)) l → All P (released c m l) × (length (released c m l) ≤ length l)
 unfolding released

@@ -17,6 +17,7 @@ use Rattle.queue.specs.paper.Lists.{total, filter, find, map, maybe}
 use Rattle.queue.specs.paper.Ids.{same?}
 use Rattle.queue.specs.paper.Sound.{holder?, mined?, content}
 use Rattle.queue.specs.paper.Changing.{Applied, touchFound, minedHeight}
+use Rattle.queue.specs.paper.Decisions.{minedHolder?}
 use Rattle.queue.specs.declared.frame.Facts.{Facts}
 use Rattle.queue.specs.declared.touch.Verdict.{Verdict}
 
@@ -32,9 +33,6 @@ nextV t (r ∷ l) (c ∷ v) = maybe r (λ y. y) (asTouched t (verdictOf c) r) �
 
 unfoldable pub nextL : Bytes → ℕ → ℕ → Bytes → List ℕ → List Rec
 nextL s at n t v = nextV t (listAt (formC false recC) n s at) v
-
-abbrev pub minedHolder? : Rec → Bool
-minedHolder? r = mined? r && holder? r
 
 unfoldable pub minedOf : Bytes → ℕ → ℕ → Bytes → List ℕ → List Rec
 minedOf s at n t v = filter minedHolder? (nextL s at n t v)

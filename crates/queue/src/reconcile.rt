@@ -269,7 +269,7 @@ fn reconcile_gone(
     put_cursor(cur, next, a, height, tip)
 }
 
-// With what is lent known to fit.
+// With what is lent known to fit. How many were decided is in no answer.
 fn reconcile_lent(
     cur: &[u8],
     next: &mut [u8],

@@ -151,6 +151,7 @@ pub record Ordered (area : Bytes) (q : Queue) (now height : ℕ) : Type 0 where
 unfoldable pub OrderedLists : Type 0
 OrderedLists = Always λ m xs v p. (now height : ℕ) → Ordered (v .1 .area) (p .1 .queue) now height
 
--- Document 02, P5: whatever came before, each reconciliation of the queue in the area decides every Mined holder exactly once.
+-- Document 02, P5: whatever came before, a reconciliation of the machine's queue, which is the one in the area, decides every Mined
+-- holder exactly once.
 unfoldable pub OnePasses : Type 0
 OnePasses = Always λ m xs v p. (c : Reconciling) → OnePass c (p .1 .queue)

@@ -9,7 +9,7 @@ use lib.ListN.{length}
 use Rattle.queue.specs.paper.Records.{Id, Limits, Rec, Queue}
 use Rattle.queue.specs.paper.Lists.{maybe, count, filter, find, sort, map}
 use Rattle.queue.specs.paper.Ids.{same?}
-use Rattle.queue.specs.paper.Sound.{holder?, mined?, content}
+use Rattle.queue.specs.paper.Sound.{holder?, mined?, minedHolders, content}
 use Rattle.queue.specs.paper.Changing.{Out, refused, done, Reconciling, confirmed?, confirm, minedHeight, newer?, toRelease, reconcile, top}
 
 -- "kept or released"
@@ -50,7 +50,8 @@ pub record OnePass (c : Reconciling) (q : Queue) : Type 0 where
   pub order : map (λ d. d .id) (decisions c q) ≡ map (λ r. r .id) (sort newer? (filter minedHolder? (entered c q)))
   -- "kept or released": those released are the ones that the call releases, in its order
   pub gone : map (λ d. d .id) (filter (λ d. d .released) (decisions c q)) ≡ toRelease c q
-  -- "read refusal 15 off the same decisions": the call refuses where the counter has no room for those released, and nowhere else
+  -- "read refusal 15 off the same decisions": on a queue the call refuses where the counter has no room for those released, and
+  -- nowhere else
   pub full : refusal (reconcile c q) ≡ cond (ltb top (q .counter + count (λ d. d .released) (decisions c q))) 15 0
   -- the number of decisions is "the number of Mined holders after `applied` was entered"
-  pub number : length (decisions c q) ≡ count minedHolder? (entered c q)
+  pub number : length (decisions c q) ≡ minedHolders (entered c q)
