@@ -6,8 +6,7 @@ use Prim.Native.Nat.{ℕ, _+_, _-_, _*_, _≤_, _<_}
 use native.Mathlib.Omega.{arith}
 use lib.Dec.{eqb}
 use lib.ListN.{length}
-use Rattle.queue.specs.Frames.{recC}
-use Rattle.queue.specs.Forms.{formC, afterIn, endsLine, turn-in}
+use Rattle.queue.specs.Forms.{afterIn, endsLine, turn-in, recIn}
 use Rattle.queue.specs.Reads.{whole, listAt}
 use Rattle.queue.specs.ReadLaws.{none-left, false-true}
 use Rattle.queue.specs.Facts.{factsOf}
@@ -18,12 +17,13 @@ use Rattle.queue.specs.paper.Lists.{all?, map}
 use Rattle.queue.specs.paper.Ids.{cmpL, rise?}
 use Rattle.queue.specs.paper.Sound.{right?}
 use Rattle.queue.specs.declared.frame.Facts.{Facts}
+use Rattle.queue.specs.declared.frame.Form.{Form}
 use Rattle.queue.specs.declared.frame.Finish.{Finish}
 use Rattle.queue.specs.declared.frame.Seen.{Seen}
 use Rattle.queue.specs.declared.scan.Sums.{Sums}
 use Rattle.queue.specs.declared.rules.Query.{Query}
 use Rattle.queue.specs.declared.rules.Query.the-variants.{Holders, HeldBytes, MinedHolders, MinedBytes}
-use Rattle.queue.proofs.Turns.{ReadsRec}
+use Rattle.queue.proofs.Turns.{ReadsAt}
 use Rattle.queue.proofs.ScanLaws.{Framing, frames-in, frames-go, frames-short, frames-line, frames-end}
 
 and-assoc : (a b c : Bool) → ((a && b) && c) ≡ (a && (b && c))
@@ -115,48 +115,48 @@ added h b m e g u h′ b′ m′ e′ = record {
 }
 
 -- ---- the loop
-module _ (hex : Bool) (s : Bytes) (n at k : ℕ) (c : Finish) where
+module _ (form : Form) (s : Bytes) (n at k : ℕ) (c : Finish) where
   pub record Checking (i left : ℕ) (a : Sums) (prev : Id) (first : Bool) : Type 0 where
-    pub frame : Framing hex s n at i left
+    pub frame : Framing form s n at i left
     pub few : left ≤ n
     pub under : Under a ((n - left) * 4294967295)
-    pub rest : whole (formC hex recC) n s at ≡ true → Rest k c a prev first (listAt (formC hex recC) left s i) (listAt (formC hex recC) n s at)
+    pub rest : whole (recIn form) n s at ≡ true → Rest k c a prev first (listAt (recIn form) left s i) (listAt (recIn form) n s at)
 
   pub check-start : {a : Sums} (prev : Id) → at ≤ length s → a ≡ noSums → Checking at n a prev true
   check-start prev h e = record {
     frame = record { up = omega arith; within = h; all = refl; rest = refl };
     few = omega arith;
     under = rw e (record { holders = omega arith; bytes = omega arith; mined = omega arith; minedbytes = omega arith });
-    rest = λ _. rest-start k c prev (listAt (formC hex recC) n s at) e;
+    rest = λ _. rest-start k c prev (listAt (recIn form) n s at) e;
   }
 
-  module _ {i left m : ℕ} {a : Sums} {prev : Id} {first ok : Bool} {y : Seen} (x : Checking i left a prev first) (p : 0 < left) (r : ReadsRec hex s i ok m y) where
+  module _ {i left m : ℕ} {a : Sums} {prev : Id} {first ok : Bool} {y : Seen} (x : Checking i left a prev first) (p : 0 < left) (r : ReadsAt (form .kind) (form .hex) s i ok m y) where
     pub check-room : n < 4294967296 → Under a 18446744069414584319
     check-room h = under-more (omega (arith, x .few)) (x .under)
 
     pub check-bytes : ok ≡ true → y .facts .bytes < 4294967296
     check-bytes t = r .good (omega arith) t .4 .small .bytes
 
-    pub check-go : {j : ℕ} {b up : Bool} {a′ : Sums} → ok ≡ true → b ≡ endsLine hex s i m → b ≡ true → j ≡ afterIn hex s i m → up ≡ (first || eqb (cmpL prev (y .id)) 0) → Added k c a (y .facts) up a′ → Checking j (left - 1) a′ (y .id) false
+    pub check-go : {j : ℕ} {b up : Bool} {a′ : Sums} → ok ≡ true → b ≡ endsLine (form .hex) s i m → b ≡ true → j ≡ afterIn (form .hex) s i m → up ≡ (first || eqb (cmpL prev (y .id)) 0) → Added k c a (y .facts) up a′ → Checking j (left - 1) a′ (y .id) false
     check-go {j} {b} {up} {a′} t e f g u d = record {
       frame = frames-go (x .frame) p r t e f g;
       few = omega (arith, x .few);
       under = under-more (omega (arith, x .few)) (d .under ((n - left) * 4294967295) (x .under));
       rest = λ w.
-          let v = turn-in hex left (x .frame .within) (x .frame .all ∙ w) p r in
-          rw g (rest-on (v .item) (listAt (formC hex recC) (left - 1) s (afterIn hex s i m)) (rw (v .list) at (x .rest w)) (v .is .0 .facts) (v .is .0 .id) u d);
+          let v = turn-in (form .hex) left (x .frame .within) (x .frame .all ∙ w) p r in
+          rw g (rest-on (v .item) (listAt (recIn form) (left - 1) s (afterIn (form .hex) s i m)) (rw (v .list) at (x .rest w)) (v .is .0 .facts) (v .is .0 .id) u d);
     }
 
-    pub check-short : {a′ : Sums} → ok ≡ false → Checked hex s at n k c (record { ok = false; next = 0; sums = a′ })
+    pub check-short : {a′ : Sums} → ok ≡ false → Checked form s at n k c (record { ok = false; next = 0; sums = a′ })
     check-short t = record { many = record { is = frames-short (x .frame) p r t; end = λ z. false-true z }; sums = λ z. false-true z }
 
-    pub check-line : {b : Bool} {a′ : Sums} → ok ≡ true → b ≡ endsLine hex s i m → b ≡ false → Checked hex s at n k c (record { ok = false; next = 0; sums = a′ })
+    pub check-line : {b : Bool} {a′ : Sums} → ok ≡ true → b ≡ endsLine (form .hex) s i m → b ≡ false → Checked form s at n k c (record { ok = false; next = 0; sums = a′ })
     check-line t e f = record { many = record { is = frames-line (x .frame) p r t e f; end = λ z. false-true z }; sums = λ z. false-true z }
 
-  pub check-end : {i left : ℕ} {a : Sums} {prev : Id} {first : Bool} → Checking i left a prev first → left ≡ 0 → Checked hex s at n k c (record { ok = true; next = i; sums = a })
+  pub check-end : {i left : ℕ} {a : Sums} {prev : Id} {first : Bool} → Checking i left a prev first → left ≡ 0 → Checked form s at n k c (record { ok = true; next = i; sums = a })
   check-end {i} {left} x z =
       let e = frames-end (x .frame) z in
       record {
         many = record { is = e .0; end = λ _. (e .1, x .frame .up, x .frame .within) };
-        sums = λ _. rest-end (rw (none-left (formC hex recC) s left i z .0) at (x .rest (sym (e .0))));
+        sums = λ _. rest-end (rw (none-left (recIn form) s left i z .0) at (x .rest (sym (e .0))));
       }

@@ -15,7 +15,7 @@ use Rattle.queue.specs.Codec as codec
 use Rattle.queue.specs.Codec.{Got, fail, got, Codec, cases, All, beC, pairC, mapC, optC, optEnc, encs, byteC, vecC}
 use Rattle.queue.specs.Lists.{and-true}
 use Rattle.queue.specs.Splice.{Put, splice, be}
-use Rattle.queue.specs.Frames.{idC, termsC, placeC, bodyC, heldC, recC, tagC}
+use Rattle.queue.specs.Frames.{idC, termsC, placeC, bodyC, heldC, recK, recC, tagC}
 use Rattle.queue.specs.Reads.{Reads, whole, listAt}
 use Rattle.queue.specs.ReadLaws.{Turn, false-true, none-left}
 use Rattle.queue.specs.View.{view}
@@ -295,7 +295,7 @@ pub keep-room : (s : Bytes) (base : ℕ) (x : Seen) {t : Fate} (o k : ℕ) → t
 keep-room s base x o k e h r = let z = keep-long s base x h in let y = ap (λ v. length (stepBytes s base x v)) e in omega arith
 
 pub id-32 : (r : Rec) → recC .ok r → length (r .id) ≡ 32
-unfolding recC mapC pairC idC vecC
+unfolding recK mapC pairC idC vecC
 id-32 r h = h .1 .0 .1
 
 pub id-long : {s : Bytes} {i m : ℕ} {ok : Bool} {x : Seen} {r : Rec} → SeenIn false s i ok m x r → length (x .id) ≡ 32

@@ -1,23 +1,26 @@
 -- Laws of the readers of frames, as their proofs cite them. Assumes nothing.
 use mathlib.Core.Path.{_≡_, refl, ap, sym, _∙_}
-use mathlib.Core.Bool.{Bool, true, false, cond, not, _&&_}
+use mathlib.Core.Bool.{Bool, true, false, cond, not, _&&_, _||_}
 use mathlib.Core.Option.{Option, none, some}
 use mathlib.Core.List.{List, [], _∷_, _++_, append-assoc}
 use Prim.Native.Nat.{ℕ, zero, suc, _+_, _-_, _*_, _^_, _≤_, _<_}
 use native.Mathlib.Omega.{arith}
 use native.Mathlib.Nat.{pow-le-pow-right, mul-le-mul, pow-suc, le-trans, le-of-lt}
 use native.Mathlib.Numerals.{add-one}
-use lib.Dec.{lit<, eqb}
+use lib.Dec.{lit<, ltb, leb, eqb}
 use lib.ListN.{length, drop, take, getD, length-append, length-drop}
 use lib.Seq.{drop-cons, take-at}
-use borrow.Author.Tests.{eq-eqb, ne-eqb}
+use borrow.Author.Tests.{lt-ltb, eq-eqb, ne-eqb}
 use Rattle.queue.specs.Codec.{Bytes, Got, fail, got, _>>=_, Codec, cases, byteC, be, beDec, beC, pairDec, pairC, mapC, optEnc, optC, decs, vecC, countedC, encs, vec-bwd}
 use Rattle.queue.specs.paper.Records.{Id, Limits, Terms, Held, Rec}
-use Rattle.queue.specs.Frames.{tagC, tagDec, one-byte, two-byte, headTag, recTag, idC, labelC, termsC, termsOf, termsTuple, heldC, heldOf, heldTuple, bodyC, placeC, restC, recC, recOf, recTuple, limitsC, Head, headC, headOf, headTuple}
+use Rattle.queue.specs.Frames.{tagC, tagDec, idC, labelC, termsC, termsOf, termsTuple, heldC, heldOf, heldTuple, bodyC, placeC, markC, restK, recK, recOf, recTuple, limitsC, Head, headK, headOf, headTuple}
+use Rattle.queue.specs.Choice.{pickC, guardDec, guardC}
+use Rattle.queue.specs.Kinds.{mark-enc, mark-up}
 use Rattle.queue.specs.Ids.{part}
+use Rattle.queue.specs.Lists.{and-true}
 use Rattle.queue.specs.Reads.{Reads, Span, flagDec, flagC, Counted, OptSpan, whole, listAt}
 use Rattle.queue.specs.ReadLaws.{drop-none, false-true, pair, mapped, weaken, OptW, opt-absent, opt-present, Small, beAt, be-here, Spans, short, spanned, spans-be, spans-byte, spans-pair, spans-id, counted, opt-span, none-left}
-use Rattle.queue.specs.Facts.{optNum, placeHeight, factsOf, TagAt, NumAt, OptAt, PlaceAs, TermsAs, BodyAs, RestAs, Bounded, SeenAs, LimAs, HeadAs}
+use Rattle.queue.specs.Facts.{optNum, placeHeight, factsOf, TagAt, MarkAt, NumAt, OptAt, PlaceAs, TermsAs, BodyAs, RestAs, Bounded, SeenAs, LimAs, HeadAs}
 use Rattle.queue.specs.paper.Lists.{isSome}
 use Rattle.queue.specs.paper.Sound.{labelLen, inputs, outputs, content}
 use Rattle.queue.specs.declared.frame.Facts.{Facts}
@@ -99,21 +102,32 @@ id-good {s} {at} {next} {v} x t e = let u = x .good t in let a = spans-id .all s
     }
 
 -- ---- a tag
+and-none : (a : Bool) → (a && false) ≡ false
+and-none true = refl
+and-none false = refl
+
 pub tag-none : {n : ℕ} {s : Bytes} {at : ℕ} → length s ≤ at → TagAt n s at false 0
 unfolding tagC tagDec
-tag-none {n} {s} {at} k h = record { good = λ p z. false-true z; bad = λ p z. rw (drop-none s at k) }
+tag-none {n} {s} {at} k = record { good = λ p z. false-true z; bad = λ p z. rw (drop-none s at k) }
 
-pub tag-good : {n : ℕ} {s : Bytes} {at b : ℕ} → at < length s → b ≡ getD s at 0 → b ≡ n → TagAt n s at true (at + 1)
+pub tag-good : {n : ℕ} {s : Bytes} {at b : ℕ} → at < length s → getD s at 0 < 256 → b ≡ getD s at 0 → b ≡ n → TagAt n s at true (at + 1)
 unfolding tagC tagDec
-tag-good {n} {s} {at} {b} k e q h = record { good = λ p z. (tt, rw (drop-cons s at 0 k, ← e, eq-eqb b n q, add-one), omega arith, omega arith, tt); bad = λ p z. false-true (sym z) }
+tag-good {n} {s} {at} {b} k l e q =
+    let h : ltb n 256 ≡ true = lt-ltb n 256 (omega arith) in
+    record { good = λ p z. (tt, rw (drop-cons s at 0 k, ← e, h, eq-eqb b n q, add-one), omega arith, omega arith, tt); bad = λ p z. false-true (sym z) }
 
 pub tag-other : {n : ℕ} {s : Bytes} {at b : ℕ} → at < length s → b ≡ getD s at 0 → (b ≡ n → ⊥) → TagAt n s at false 0
 unfolding tagC tagDec
-tag-other {n} {s} {at} {b} k e q h = record { good = λ p z. false-true z; bad = λ p z. rw (drop-cons s at 0 k, ← e, ne-eqb b n q) }
+tag-other {n} {s} {at} {b} k e q = record { good = λ p z. false-true z; bad = λ p z. rw (drop-cons s at 0 k, ← e, ne-eqb b n q) (rw (and-none (ltb n 256))) }
 
-pub tag-size : (n : ℕ) (h : n < 256) (a : Unit {0}) → tagC n h .ok a → length (tagC n h .enc a) ≡ 1
+pub tag-size : (n : ℕ) (a : Unit {0}) → tagC n .ok a → length (tagC n .enc a) ≡ 1
 unfolding tagC
-tag-size n h a k = refl
+tag-size n a k = refl
+
+-- the byte that is read where there is none
+pub first-none : (v : Bytes) → length v ≡ 0 → getD v 0 0 ≡ 0
+first-none [] e = refl
+first-none (b ∷ v) e = absurd (omega arith)
 
 -- ---- a flag
 pub flag-none : {s : Bytes} {at : ℕ} → length s ≤ at → Reads flagC s at false 0 (λ b. false ≡ b)
@@ -299,11 +313,32 @@ unfolding bodyC
 body-long o = opt-long heldC o
 
 -- ---- what stands behind the terms
-pub rest-read : {s : Bytes} {at na nb nc nd : ℕ} {oka okb okc okd : Bool} (pr : PlaceR) (r : RestR)
-    → Reads placeC s at oka na (PlaceAs pr) → NumAt 1 s na okb nb (r .mark) → NumAt 8 s nb okc nc (r .finish .0) → Reads bodyC s nc okd nd (BodyAs s (r .held))
-    → r .ok ≡ (oka && (okb && (okc && okd))) → r .placed ≡ pr .has → r .mined .0 ≡ pr .height .0 → r .marks ≡ na → r .body ≡ nc → r .next ≡ nd → Reads restC s at (r .ok) nd (RestAs s at r)
-rest-read {s} {at} {na} {nb} {nc} {nd} pr r a b c d o e1 e2 e3 e4 e5 = ok-as o (weaken (RestAs s at r)
-    (pair (stands a) (pair (sized 1 (spans-be 1 .size) (b .0)) (pair (sized 8 (spans-be 8 .size) (c .0)) (stands d))))
+-- what is read and passes a test that the value decides
+guarded : {A : Type 0} (t : A → Bool) {𝓐 : Codec A} {s : Bytes} {at next : ℕ} {ok : Bool} (W : A → Type 0) (b : Bool) → ((a : A) → W a → t a ≡ b) → Reads 𝓐 s at ok next W → Reads (guardC t 𝓐) s at (ok && b) next W
+unfolding guardC guardDec
+guarded t {𝓐} {s} {at} {next} {ok} W b e x = record {
+  good = λ h z. let k = and-true ok b z in let u = x .good h (k .0) in (u .0, rw (u .1, e (u .0) (u .4), k .1), u .2, u .3, u .4);
+  bad = λ h z. cases ok
+      (λ o. let f : b ≡ false = rw o at z in let u = x .good h o in rw (u .1, e (u .0) (u .4), f))
+      (λ o. rw (x .bad h o));
+}
+
+mark-size : (k m : ℕ) → markC k .ok m → length (markC k .enc m) ≡ 1
+mark-size k m h = rw (mark-enc k m) (spans-be 1 .size m (mark-up k m h))
+
+-- a byte, tested where the kind has no mark 3
+pub mark-read : (k : ℕ) {s : Bytes} {at next v : ℕ} {ok ok′ said : Bool} → NumAt 1 s at ok next v → said ≡ (leb 3 k || not (eqb v 3)) → ok′ ≡ (ok && said) → MarkAt k s at ok′ next v
+mark-read k {s} {at} {next} {v} {ok} x e f = (ok-as (f ∙ rw e) (go (leb 3 k)), x .1)
+  where
+    go : (since : Bool) → Reads (pickC since (beC 1) (guardC (λ m. not (eqb m 3)) (beC 1))) s at (ok && (since || not (eqb v 3))) next (λ m. m ≡ v)
+    go true = ok-as (and-r ok) (x .0)
+    go false = guarded (λ m. not (eqb m 3)) (λ m. m ≡ v) (not (eqb v 3)) (λ m w. rw w) (x .0)
+
+pub rest-read : {s : Bytes} {at na nb nc nd : ℕ} {oka okb okc okd : Bool} (k : ℕ) (pr : PlaceR) (r : RestR)
+    → Reads placeC s at oka na (PlaceAs pr) → MarkAt k s na okb nb (r .mark) → NumAt 8 s nb okc nc (r .finish .0) → Reads bodyC s nc okd nd (BodyAs s (r .held))
+    → r .ok ≡ (oka && (okb && (okc && okd))) → r .placed ≡ pr .has → r .mined .0 ≡ pr .height .0 → r .marks ≡ na → r .body ≡ nc → r .next ≡ nd → Reads (restK k) s at (r .ok) nd (RestAs s at r)
+rest-read {s} {at} {na} {nb} {nc} {nd} k pr r a b c d o e1 e2 e3 e4 e5 = ok-as o (weaken (RestAs s at r)
+    (pair (stands a) (pair (sized 1 (mark-size k) (b .0)) (pair (sized 8 (spans-be 8 .size) (c .0)) (stands d))))
     (λ t _ _ _ w.
     let p = w .0 in
     let m = w .1 .0 in
@@ -317,7 +352,7 @@ rest-read {s} {at} {na} {nb} {nc} {nd} pr r a b c d o e1 e2 e3 e4 e5 = ok-as o (
       finish = f .0;
       held = h .0;
       place = rw e3 (p .1);
-      marks = rw (e3, e4) (m .1 ∙ ap (λ (z : Bytes). beC 1 .enc (t .1 .0) ++ z) (f .1));
+      marks = rw (e3, e4) (m .1 ∙ ap (λ (z : Bytes). markC k .enc (t .1 .0) ++ z) (f .1) ∙ rw (mark-enc k (t .1 .0)));
       body = rw (e4, e5) (h .1);
       up = omega (arith, p .2);
       bodyAt = omega (arith, m .2, f .2);
@@ -385,14 +420,14 @@ facts-of x = refl
 facts-is : (v : Bytes) (at a b : ℕ) (t : TermsR) (r : RestR) (x : Rec) → x .state ≡ a → x .reason ≡ b → TermsAs t (x .terms) → RestAs v at r (x .place, (x .mark, (x .finish, x .body))) → factsFrom a b t r ≡ factsOf x
 facts-is v at a b t r x e f p q = facts-from a b t r ∙ cc (facts-of x)
 
-pub rec-read : {s : Bytes} {na nb nc nd ne nf vc vd : ℕ} {va : Id} {oka okb okc okd oke okf : Bool} (t : TermsR) (x : RestR) (r : Seen)
-    → TagAt 2 s 0 oka na → Reads idC s na okb nb (λ x. x ≡ va) → NumAt 1 s nb okc nc vc → NumAt 1 s nc okd nd vd → Reads termsC s nd oke ne (TermsAs t) → Reads restC s ne okf nf (RestAs s ne x)
+pub rec-read : {s : Bytes} {na nb nc nd ne nf vc vd : ℕ} {va : Id} {oka okb okc okd oke okf : Bool} (k : ℕ) (t : TermsR) (x : RestR) (r : Seen)
+    → TagAt 2 s 0 oka na → Reads idC s na okb nb (λ x. x ≡ va) → NumAt 1 s nb okc nc vc → NumAt 1 s nc okd nd vd → Reads termsC s nd oke ne (TermsAs t) → Reads (restK k) s ne okf nf (RestAs s ne x)
     → r .ok ≡ (oka && (okb && (okc && (okd && (oke && (okf && true)))))) → r .id ≡ va → r .facts ≡ factsFrom vc vd t x
     → r .after ≡ ne → r .mark ≡ x .marks → r .body ≡ x .body → r .at ≡ x .held .at → r .outs ≡ x .held .to → r .content ≡ x .held .content → r .size ≡ nf → x .next ≡ nf
-    → Reads recC s 0 (r .ok) nf (SeenAs s r)
-unfolding recC
-rec-read {s} {na} {nb} {nc} {nd} {ne} {nf} {vc} {vd} {va} {oka} {okb} {okc} {okd} {oke} {okf} t x r a b c d e f o e1 e2 e3 e4 e5 e6 e7 e8 e9 e10 = ok-as (o ∙ rw (and-r okf)) (mapped recOf recTuple (λ t. refl) (λ t. refl) (SeenAs s r)
-    (pair (sized 1 (tag-size 2 two-byte) (a two-byte)) (pair (sized 32 (spans-id .size) b) (pair (sized 1 (spans-be 1 .size) (c .0)) (pair (sized 1 (spans-be 1 .size) (d .0)) (pair (stands e) f)))))
+    → Reads (recK k) s 0 (r .ok) nf (SeenAs s r)
+unfolding recK
+rec-read {s} {na} {nb} {nc} {nd} {ne} {nf} {vc} {vd} {va} {oka} {okb} {okc} {okd} {oke} {okf} k t x r a b c d e f o e1 e2 e3 e4 e5 e6 e7 e8 e9 e10 = ok-as (o ∙ rw (and-r okf)) (mapped recOf recTuple (λ t. refl) (λ t. refl) (SeenAs s r)
+    (pair (sized 1 (tag-size 2) a) (pair (sized 32 (spans-id .size) b) (pair (sized 1 (spans-be 1 .size) (c .0)) (pair (sized 1 (spans-be 1 .size) (d .0)) (pair (stands e) f)))))
     (λ y _ _ _ w.
     let p1 = w .0 .2 in
     let p2 = w .1 .0 .2 in
@@ -465,15 +500,15 @@ tip-has : {has : Bool} (o : Option Id) → OptW idC has (λ a. Unit {0}) o → i
 tip-has none w = sym w
 tip-has (some a) w = sym (w .0)
 
-pub head-read : {s : Bytes} {na nm nr nc ni nf nn : ℕ} {oka okm okr okc oki okf okn : Bool} (m : Lim) (r : HeadR)
-    → TagAt 1 s 0 oka na → Reads limitsC s na okm nm (LimAs m) → NumAt 8 s nm okr nr (r .revision) → NumAt 4 s nr okc nc (r .cursor .0) → OptSpan s nc 32 oki (r .tip) ni
+pub head-read : {s : Bytes} {na nm nr nc ni nf nn : ℕ} {oka okm okr okc oki okf okn : Bool} (k : ℕ) (m : Lim) (r : HeadR)
+    → TagAt k s 0 oka na → Reads limitsC s na okm nm (LimAs m) → NumAt 8 s nm okr nr (r .revision) → NumAt 4 s nr okc nc (r .cursor .0) → OptSpan s nc 32 oki (r .tip) ni
     → NumAt 8 s ni okf nf (r .counter .0) → NumAt 4 s nf okn nn (r .count)
     → r .ok ≡ (oka && (okm && (okr && (okc && (oki && (okf && okn)))))) → r .p ≡ m .p → r .b ≡ m .b → r .t ≡ m .t → r .k ≡ m .k → r .marks ≡ nr → r .after ≡ ni → r .size ≡ nn
-    → Reads headC s 0 (r .ok) nn (HeadAs s r)
-unfolding headC
-head-read {s} {na} {nm} {nr} {nc} {ni} {nf} {nn} m r a b c d e f g o e1 e2 e3 e4 e5 e6 e7 = ok-as o (mapped headOf headTuple (λ t. refl) (λ t. refl) (HeadAs s r)
-    (pair (sized 1 (tag-size 1 one-byte) (a one-byte)) (pair (sized 16 limits-size b) (pair (sized 8 (spans-be 8 .size) (c .0)) (pair (sized 4 (spans-be 4 .size) (d .0))
-    (pair (weaken (λ t. Stands (optC idC) s nc ni (OptW idC (r .tip) (λ a. Unit {0})) t × optC idC .ok t) (opt-span spans-id e) (λ t k u v w. ((w, read-enc (optC idC) s nc ni t k u v, read-next (optC idC) s nc ni t k u v, v), optC idC .bwd _ t _ k .1)))
+    → Reads (headK k) s 0 (r .ok) nn (HeadAs s r)
+unfolding headK
+head-read {s} {na} {nm} {nr} {nc} {ni} {nf} {nn} k m r a b c d e f g o e1 e2 e3 e4 e5 e6 e7 = ok-as o (mapped headOf headTuple (λ t. refl) (λ t. refl) (HeadAs s r)
+    (pair (sized 1 (tag-size k) a) (pair (sized 16 limits-size b) (pair (sized 8 (spans-be 8 .size) (c .0)) (pair (sized 4 (spans-be 4 .size) (d .0))
+    (pair (weaken (λ t. Stands (optC idC) s nc ni (OptW idC (r .tip) (λ a. Unit {0})) t × optC idC .ok t) (opt-span spans-id e) (λ t d u v w. ((w, read-enc (optC idC) s nc ni t d u v, read-next (optC idC) s nc ni t d u v, v), optC idC .bwd _ t _ d .1)))
     (pair (sized 8 (spans-be 8 .size) (f .0)) (sized 4 (spans-be 4 .size) (g .0))))))))
     (λ t _ _ v w.
     let aw = w .0 in

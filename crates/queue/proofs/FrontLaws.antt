@@ -9,7 +9,7 @@ use lib.ListN.{length, drop, take, replicate, length-append, length-replicate}
 use Rattle.queue.specs.Codec as codec
 use Rattle.queue.specs.Codec.{Codec, beC, pairC, mapC, optC, optEnc, vecC, byteC, encs}
 use Rattle.queue.specs.Splice.{Put, splice, be}
-use Rattle.queue.specs.Frames.{Head, idC, limitsC, headC, tagC}
+use Rattle.queue.specs.Frames.{Head, idC, limitsC, headK, headC, tagC}
 use Rattle.queue.specs.Forms.{queueC, queue-enc, storeOf, headFor}
 use Rattle.queue.specs.Frames.{recC}
 use Rattle.queue.specs.Areas.{layout}
@@ -44,7 +44,7 @@ unfolding optC optEnc
 tip-none id e x = rw e x
 
 pub head-enc : (h : Head) → headC .enc h ≡ (1 ∷ []) ++ (limitsC .enc (h .limits) ++ (codec.be 8 (h .revision) ++ (codec.be 4 (h .cursor) ++ (optC idC .enc (h .tip) ++ (codec.be 8 (h .counter) ++ codec.be 4 (h .count))))))
-unfolding headC mapC pairC beC tagC
+unfolding headK mapC pairC beC tagC
 head-enc h = refl
 
 eight : (c : Bytes) {a a′ d d′ e e′ f f′ g g′ h h′ i i′ : Bytes} → a ≡ a′ → d ≡ d′ → e ≡ e′ → f ≡ f′ → g ≡ g′ → h ≡ h′ → i ≡ i′

@@ -11,11 +11,11 @@ use lib.ListN.{length, drop, take}
 use borrow.Author.Tests.{leb-true, le-leb, lt-leb, eqb-true, eq-eqb, ne-eqb}
 use Rattle.queue.specs.Codec.{Got, fail, got, _>>=_, Codec, cases, beC, be-length, pairC, pairDec, mapC, decs, vec-bwd}
 use Rattle.queue.specs.Lists.{and-true}
-use Rattle.queue.specs.Frames.{Head, headC, recC}
+use Rattle.queue.specs.Frames.{Head, headK, recC}
 use Rattle.queue.specs.Reads.{Reads, whole, listAt, behind, isGot, valOf}
 use Rattle.queue.specs.ReadLaws.{false-true, weaken}
 use Rattle.queue.specs.View.{view}
-use Rattle.queue.specs.Forms.{formC, afterIn, endsLine, Framed, framed, frame-bad, taken, Many, Store, headFor, storeC, store-read, queueC, storeOf, queue-read}
+use Rattle.queue.specs.Forms.{formC, afterIn, endsLine, Framed, framed, frame-bad, taken, Many, Store, headFor, recIn, storeIn, areaForm, store-read, queueC, storeOf, queue-read}
 use Rattle.queue.specs.Areas.{readArea, readGot, zero?, reads-stands, area-found, area-none}
 use Rattle.queue.specs.Facts.{factsOf, HeadAs}
 use Rattle.queue.specs.Rules.{weight, sum}
@@ -26,6 +26,7 @@ use Rattle.queue.specs.paper.Records.{Bytes, Limits, Rec, Queue}
 use Rattle.queue.specs.paper.Lists.{one, all?, map}
 use Rattle.queue.specs.paper.Sound.{inRange, need, holder?, holders, holderBytes, minedHolders, minedBytes, tombstones, right?, counts?, distinct?, apart?, sound?}
 use Rattle.queue.specs.declared.frame.HeadR.{HeadR}
+use Rattle.queue.specs.declared.frame.Form.{Form}
 use Rattle.queue.specs.declared.frame.Finish.{Finish}
 use Rattle.queue.specs.declared.area.Open.{Open}
 use Rattle.queue.specs.declared.area.Area.{Area}
@@ -149,35 +150,35 @@ unfolding soundL
 sound-range m c l e = and-true (inRange m) _ e .0
 
 -- ---- a store
-module _ (hex : Bool) (s : Bytes) {base : ℕ} {h : HeadR} (b : base ≤ length s) (r : Reads headC (view hex s base) 0 (h .ok) (h .size) (HeadAs (view hex s base) h)) where
-  pub head-within : h .ok ≡ true → h .size ≤ length (view hex s base)
+module _ (form : Form) (s : Bytes) {base : ℕ} {h : HeadR} (b : base ≤ length s) (r : Reads (headK (form .kind)) (view (form .hex) s base) 0 (h .ok) (h .size) (HeadAs (view (form .hex) s base) h)) where
+  pub head-within : h .ok ≡ true → h .size ≤ length (view (form .hex) s base)
   head-within t = r .good (omega arith) t .3
 
-  pub head-start : {e : Bool} {j : ℕ} → h .ok ≡ true → e ≡ endsLine hex s base (h .size) → e ≡ true → j ≡ afterIn hex s base (h .size) → j ≤ length s
-  head-start t e f g = let u = framed hex b r .good b (rw (t, ← e, f)) in rw g (u .4 .1 .after)
+  pub head-start : {e : Bool} {j : ℕ} → h .ok ≡ true → e ≡ endsLine (form .hex) s base (h .size) → e ≡ true → j ≡ afterIn (form .hex) s base (h .size) → j ≤ length s
+  head-start t e f g = let u = framed (form .hex) b r .good b (rw (t, ← e, f)) in rw g (u .4 .1 .after)
 
-  store-fail : (h .ok && endsLine hex s base (h .size)) ≡ false → (W : Store → Type 0) → Reads (storeC hex) s base false 0 W
+  store-fail : (h .ok && endsLine (form .hex) s base (h .size)) ≡ false → (W : Store → Type 0) → Reads (storeIn form) s base false 0 W
   store-fail e W =
-      let v = store-read hex {n₂ = 0} {count = 0} {ok₂ = false} {W = λ h. Unit {0}} (frame-bad hex b r e 0 (λ h. (h .count ≡ 0) × Unit {0})) (λ t. false-true t) in
+      let v = store-read form {n₂ = 0} {count = 0} {ok₂ = false} {W = λ h. Unit {0}} (frame-bad (form .hex) b r e 0 (λ h. (h .count ≡ 0) × Unit {0})) (λ t. false-true t) in
       record { good = λ _ t. false-true t; bad = λ k _. v .bad k refl }
 
-  pub store-short : h .ok ≡ false → (W : Store → Type 0) → Reads (storeC hex) s base false 0 W
+  pub store-short : h .ok ≡ false → (W : Store → Type 0) → Reads (storeIn form) s base false 0 W
   store-short t W = store-fail (rw t) W
 
-  pub store-line : {e : Bool} → h .ok ≡ true → e ≡ endsLine hex s base (h .size) → e ≡ false → (W : Store → Type 0) → Reads (storeC hex) s base false 0 W
+  pub store-line : {e : Bool} → h .ok ≡ true → e ≡ endsLine (form .hex) s base (h .size) → e ≡ false → (W : Store → Type 0) → Reads (storeIn form) s base false 0 W
   store-line t e f W = store-fail (rw (t, ← e, f)) W
 
   pub head-count : h .ok ≡ true → h .count < 4294967296
   head-count t = r .good (omega arith) t .4 .countSmall
 
-  pub store-good : {e o : Bool} {j n : ℕ} {a : Sums} → h .ok ≡ true → e ≡ endsLine hex s base (h .size) → e ≡ true → j ≡ afterIn hex s base (h .size)
-      → Many (formC hex recC) s j (h .count) o n → (o ≡ true → SumsAs (h .k) (h .counter) a (listAt (formC hex recC) (h .count) s j)) → Reads (storeC hex) s base o n (StoreAs hex s base (record { ok = o; head = h; start = j; next = n; sums = a }))
+  pub store-good : {e o : Bool} {j n : ℕ} {a : Sums} → h .ok ≡ true → e ≡ endsLine (form .hex) s base (h .size) → e ≡ true → j ≡ afterIn (form .hex) s base (h .size)
+      → Many (recIn form) s j (h .count) o n → (o ≡ true → SumsAs (h .k) (h .counter) a (listAt (recIn form) (h .count) s j)) → Reads (storeIn form) s base o n (StoreAs form s base (record { ok = o; head = h; start = j; next = n; sums = a }))
   store-good {e} {o} {j} {n} t e′ f g m k′ =
-      let k : (h .ok && endsLine hex s base (h .size)) ≡ true = rw (t, ← e′, f) in
-      let u = framed hex b r in
-      let w = weaken (λ a. (a .count ≡ h .count) × (HeadAs (view hex s base) h a × Framed headC hex s base (h .ok) (h .size) a)) u (λ a _ _ _ y. (y .0 .count, y)) in
-      let m′ : Many (formC hex recC) s (afterIn hex s base (h .size)) (h .count) o n = rw g at m in
-      let v = store-read hex w (λ _. m′) in
+      let k : (h .ok && endsLine (form .hex) s base (h .size)) ≡ true = rw (t, ← e′, f) in
+      let u = framed (form .hex) b r in
+      let w = weaken (λ a. (a .count ≡ h .count) × (HeadAs (view (form .hex) s base) h a × Framed (headK (form .kind)) (form .hex) s base (h .ok) (h .size) a)) u (λ a _ _ _ y. (y .0 .count, y)) in
+      let m′ : Many (recIn form) s (afterIn (form .hex) s base (h .size)) (h .count) o n = rw g at m in
+      let v = store-read form w (λ _. m′) in
       record {
         good = λ l y. let z = v .good l (rw k y) in let x = m .end y in (
           z .0,
@@ -246,17 +247,17 @@ filled-parts s from m c l e =
 pub same-limits : (m : Limits) {p b t k : ℕ} → m .P ≡ p → m .B ≡ b → m .T ≡ t → m .K ≡ k → m ≡ limits p b t k
 same-limits m e f g h = rw (← e, ← f, ← g, ← h)
 
-module _ {s : Bytes} {v next : ℕ} {ok : Bool} {y : Open} (a : Reads (beC 4) (view false s 0) 0 ok next (λ x. x ≡ v)) (t : ok ≡ true) (r : Reads (storeC false) s 4 (y .ok) (y .next) (StoreAs false s 4 y)) where
-  queue : Reads queueC s 0 (y .ok) (y .next) (λ q. (q .persisted ≡ v) × StoreAs false s 4 y (storeOf q))
+module _ {s : Bytes} {v next : ℕ} {ok : Bool} {y : Open} (a : Reads (beC 4) (view false s 0) 0 ok next (λ x. x ≡ v)) (t : ok ≡ true) (r : Reads (storeIn areaForm) s 4 (y .ok) (y .next) (StoreAs areaForm s 4 y)) where
+  queue : Reads queueC s 0 (y .ok) (y .next) (λ q. (q .persisted ≡ v) × StoreAs areaForm s 4 y (storeOf q))
   queue = queue-read (four a t .0) r
 
   pub area-bad : {x : Area} → y .ok ≡ false → x .ok ≡ false → AreaIs s x
   area-bad f e = record { good = λ z. false-true (sym e ∙ z); bad = λ z. area-none queue f }
 
-  pub store-facts : y .ok ≡ true → (st : Store) × StoreAs false s 4 y st
+  pub store-facts : y .ok ≡ true → (st : Store) × StoreAs areaForm s 4 y st
   store-facts f = let u = r .good (four a t .1) f in (u .0, u .4)
 
-  the-limits : (q : Queue) → StoreAs false s 4 y (storeOf q) → q .limits ≡ limits (y .head .p) (y .head .b) (y .head .t) (y .head .k)
+  the-limits : (q : Queue) → StoreAs areaForm s 4 y (storeOf q) → q .limits ≡ limits (y .head .p) (y .head .b) (y .head .t) (y .head .k)
   the-limits q w = let h = w .head in same-limits (q .limits) (h .P) (h .B) (h .T) (h .K)
 
   pub area-good : {x : Area} {f : Span} → y .ok ≡ true → FilledAs s y f → x .ok ≡ f .ok → x .persisted .0 ≡ v → x .open ≡ y → x .need ≡ f .next → AreaIs s x

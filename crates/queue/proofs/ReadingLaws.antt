@@ -14,7 +14,7 @@ use Rattle.queue.specs.Codec as codec
 use Rattle.queue.specs.Codec.{All, cases, Got, fail, got, Codec, decs, encs, byteC, beC, be-length, pairC, mapC, optC, vecC, countedC, vecMost, vec-bwd}
 use Rattle.queue.specs.Splice.{Put, be}
 use Rattle.queue.specs.Plain.{opt-plain, terms-plain, place-plain, ids-plain, id-plain, rec-plain, body-plain, head-plain}
-use Rattle.queue.specs.Frames.{tagC, recC, idC, termsC, labelC, placeC, bodyC}
+use Rattle.queue.specs.Frames.{tagC, recK, recC, idC, termsC, labelC, placeC, bodyC}
 use Rattle.queue.specs.Reads.{Reads, isGot, valOf, whole, listAt}
 use Rattle.queue.specs.ReadLaws.{Turn, turn, false-true, Spans, spans-id, spans-vec}
 use Rattle.queue.specs.View.{view}
@@ -318,7 +318,7 @@ pub record Parts (r : Rec) : Type 0 where
   pub place : placeC .ok (r .place)
 
 pub rec-parts : (r : Rec) → recC .ok r → Parts r
-unfolding recC mapC pairC beC idC vecC
+unfolding recK mapC pairC beC idC vecC
 rec-parts r h = record { id = h .1 .0 .1; state = h .1 .1 .0; reason = h .1 .1 .1 .0; terms = h .1 .1 .1 .1 .0; place = h .1 .1 .1 .1 .1 .0 }
 
 -- the ids of a list stand one behind the other

@@ -150,13 +150,23 @@ module _ (what n : ℕ) (f : Facts) where
         unfolding reasonN
         reason-3 c = rw (eq-eqb n 0 z, ne-eqb what 0 a, ne-eqb what 1 b, ne-eqb what 2 c)
 
-  pub mark-new : {b e : Bool} → b ≡ (eqb what 1 && e) → e ≡ (eqb (f .state) 4 || eqb (f .state) 5) → b ≡ true → f .state ≡ markN what f
+  pub mark-kept : (what ≡ 1 → ⊥) → f .mark ≡ markN what f
   unfolding markN
-  mark-new p q t = rw (sym (p ∙ ap (λ v. eqb what 1 && v) q) ∙ t)
+  mark-kept a = rw (ne-eqb what 1 a)
 
-  pub mark-old : {b e : Bool} → b ≡ (eqb what 1 && e) → e ≡ (eqb (f .state) 4 || eqb (f .state) 5) → b ≡ false → f .mark ≡ markN what f
-  unfolding markN
-  mark-old p q t = rw (sym (p ∙ ap (λ v. eqb what 1 && v) q) ∙ t)
+  module _ {b : Bool} (a : what ≡ 1) (p : b ≡ (eqb (f .state) 5 && eqb (f .reason) 3)) where
+    pub mark-three : b ≡ true → 3 ≡ markN what f
+    unfolding markN
+    mark-three t = rw (eq-eqb what 1 a, sym p ∙ t)
+
+    module _ {e : Bool} (t : b ≡ false) (q : e ≡ (eqb (f .state) 4 || eqb (f .state) 5)) where
+      pub mark-new : e ≡ true → f .state ≡ markN what f
+      unfolding markN
+      mark-new u = rw (eq-eqb what 1 a, sym p ∙ t, sym q ∙ u)
+
+      pub mark-old : e ≡ false → f .mark ≡ markN what f
+      unfolding markN
+      mark-old u = rw (eq-eqb what 1 a, sym p ∙ t, sym q ∙ u)
 
 -- ---- the place, and what stands behind the mark
 module _ (s : Bytes) (base : ℕ) (x : Seen) (t : Bytes) (v : Verdict) where
@@ -384,7 +394,11 @@ module _ (s : Bytes) (base : ℕ) (x : Seen) (t : Bytes) (v : Verdict) (n : ℕ)
 
   small-mark : markN (v .what) (x .facts) < 256
   unfolding markN
-  small-mark = cases (eqb (v .what) 1 && (eqb (x .facts .state) 4 || eqb (x .facts .state) 5)) (λ a. rw a (w .0 .small .state)) (λ a. rw a (w .0 .small .mark))
+  small-mark = cases (eqb (v .what) 1)
+      (λ a. cases (eqb (x .facts .state) 5 && eqb (x .facts .reason) 3)
+      (λ b. rw (a, b) (omega arith))
+      (λ b. cases (eqb (x .facts .state) 4 || eqb (x .facts .state) 5) (λ c. rw (a, b, c) (w .0 .small .state)) (λ c. rw (a, b, c) (w .0 .small .mark))))
+      (λ a. rw a (w .0 .small .mark))
 
   pub next-is : n < 256 ^ 8 → nextBytes s base x t v n ≡ recC .enc N
   unfolding nextBytes leadBytes recBytes

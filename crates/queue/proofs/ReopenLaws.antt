@@ -175,15 +175,15 @@ module _ (ids : List Id) {s : Bytes} {n at i left : ℕ} (x : Scan (formC false 
 pub parts-in : {s : Bytes} {i : ℕ} {ok : Bool} {x : Seen} {r : Rec} → SeenIn false s i ok (x .size) x r → PartsIn s i x
 parts-in w = record { id = id-long w; up = w .0 .up; upPlace = w .0 .upPlace; upBody = w .0 .upBody; within = raw-within w }
 
-state-small : (m : ℕ) (h : Bool) → m < 256 → cond (eqb m 0) (cond h 0 5) m < 256
-state-small m h k = cases (eqb m 0)
-    (λ t. cases h (λ u. rw (t, u) (omega arith)) (λ u. rw (t, u) (omega arith)))
-    (λ t. rw t k)
-
-reason-small : (m : ℕ) (h : Bool) → cond (eqb m 0) (cond h 4 3) (cond (eqb m 4) 1 2) < 256
-reason-small m h = cases (eqb m 0)
+state-small : (m : ℕ) (h : Bool) → cond (eqb m 0) (cond h 0 5) (cond (eqb m 4) 4 5) < 256
+state-small m h = cases (eqb m 0)
     (λ t. cases h (λ u. rw (t, u) (omega arith)) (λ u. rw (t, u) (omega arith)))
     (λ t. cases (eqb m 4) (λ u. rw (t, u) (omega arith)) (λ u. rw (t, u) (omega arith)))
+
+reason-small : (m : ℕ) (h : Bool) → cond (eqb m 0) (cond h 4 3) (cond (eqb m 4) 1 (cond (eqb m 5) 2 3)) < 256
+reason-small m h = cases (eqb m 0)
+    (λ t. cases h (λ u. rw (t, u) (omega arith)) (λ u. rw (t, u) (omega arith)))
+    (λ t. cases (eqb m 4) (λ u. rw (t, u) (omega arith)) (λ u. cases (eqb m 5) (λ v. rw (t, u, v) (omega arith)) (λ v. rw (t, u, v) (omega arith))))
 
 rejoin : (i a b t z f : Bytes) → ((((i ++ a) ++ b) ++ t) ++ z) ++ f ≡ i ++ (a ++ (b ++ (t ++ (z ++ f))))
 rejoin i a b t z f = simp append-assoc
@@ -199,10 +199,10 @@ two-zeros : be 2 0 ≡ 0 ∷ 0 ∷ []
 two-zeros = refl
 
 abbrev reopenedState : Rec → ℕ
-reopenedState r = cond (eqb (r .mark) 0) (cond (holder? r) queued expired) (r .mark)
+reopenedState r = cond (eqb (r .mark) 0) (cond (holder? r) queued expired) (cond (eqb (r .mark) cancelled) cancelled expired)
 
 abbrev reopenedReason : Rec → ℕ
-reopenedReason r = cond (eqb (r .mark) 0) (cond (holder? r) 4 3) (cond (eqb (r .mark) cancelled) 1 2)
+reopenedReason r = cond (eqb (r .mark) 0) (cond (holder? r) 4 3) (cond (eqb (r .mark) cancelled) 1 (cond (eqb (r .mark) expired) 2 3))
 
 shape : (r : Rec) → 2 ∷ (r .id ++ (codec.be 1 (reopenedState r) ++ (codec.be 1 (reopenedReason r) ++ (termsBytes (r .terms) ++ ((0 ∷ 0 ∷ []) ++ (codec.be 8 (r .finish) ++ flagged heldBytes (r .body))))))) ≡ recBytes (reopened r)
 unfolding recBytes reopened placeBytes
@@ -228,15 +228,15 @@ module _ (s : Bytes) (base : ℕ) {x : Seen} {r : Rec} (w : SeenAs (view false s
 
   state-is : stateF (x .facts) ≡ reopenedState r
   unfolding stateF factsOf
-  state-is = ap (λ (f : Facts). cond (eqb (f .mark) 0) (cond (f .holder) 0 5) (f .mark)) (w .facts)
+  state-is = ap (λ (f : Facts). cond (eqb (f .mark) 0) (cond (f .holder) 0 5) (cond (eqb (f .mark) 4) 4 5)) (w .facts)
 
   reason-is : reasonF (x .facts) ≡ reopenedReason r
   unfolding reasonF factsOf
-  reason-is = ap (λ (f : Facts). cond (eqb (f .mark) 0) (cond (f .holder) 4 3) (cond (eqb (f .mark) 4) 1 2)) (w .facts)
+  reason-is = ap (λ (f : Facts). cond (eqb (f .mark) 0) (cond (f .holder) 4 3) (cond (eqb (f .mark) 4) 1 (cond (eqb (f .mark) 5) 2 3))) (w .facts)
 
   state-byte : be 1 (stateF (x .facts)) ≡ codec.be 1 (reopenedState r)
   unfolding stateF
-  state-byte = be-same 1 (stateF (x .facts)) (state-small (x .facts .mark) (x .facts .holder) (w .small .mark)) ∙ ap (codec.be 1) state-is
+  state-byte = be-same 1 (stateF (x .facts)) (state-small (x .facts .mark) (x .facts .holder)) ∙ ap (codec.be 1) state-is
 
   reason-byte : be 1 (reasonF (x .facts)) ≡ codec.be 1 (reopenedReason r)
   unfolding reasonF

@@ -12,7 +12,7 @@ use lib.Seq.{drop-cons}
 use borrow.Author.Tests.{eq-eqb, ne-eqb, eqb-true, eqb-false}
 use Rattle.queue.specs.Codec.{Codec, cases}
 use Rattle.queue.specs.Frames.{recC, idC}
-use Rattle.queue.specs.Forms.{formC, afterIn, endsLine, Framed, framed}
+use Rattle.queue.specs.Forms.{formC, afterIn, endsLine, Framed, framed, recIn}
 use Rattle.queue.specs.View.{view}
 use Rattle.queue.specs.Reads.{Reads, whole, listAt, behind}
 use Rattle.queue.specs.ReadLaws.{Turn, turn, none-left, whole-step, whole-bad, false-true}
@@ -23,9 +23,10 @@ use Rattle.queue.specs.paper.Records.{Bytes, Id, Rec}
 use Rattle.queue.specs.paper.Lists.{any?, total}
 use Rattle.queue.specs.paper.Ids.{cmpL}
 use Rattle.queue.specs.paper.Sound.{among?}
+use Rattle.queue.specs.declared.frame.Form.{Form}
 use Rattle.queue.specs.declared.frame.Seen.{Seen}
 use Rattle.queue.specs.declared.rules.Query.{Query}
-use Rattle.queue.proofs.Turns.{Scan, start, here, on, stop, end, SeenIn, ReadsRec, seen, see}
+use Rattle.queue.proofs.Turns.{Scan, start, here, on, stop, end, SeenIn, ReadsAt, ReadsRec, seen, see}
 
 -- ---- counts
 unfoldable pub sumFrom : Query → ℕ → List Rec → ℕ
@@ -42,32 +43,32 @@ module _ (hex : Bool) (q : Query) {s : Bytes} {n at i left acc : ℕ} (x : Scan 
   tally-end z = let e = end x z in omega arith
 
 -- ---- frames
-pub record Framing (hex : Bool) (s : Bytes) (n at i left : ℕ) : Type 0 where
+pub record Framing (form : Form) (s : Bytes) (n at i left : ℕ) : Type 0 where
   pub up : at ≤ i
   pub within : i ≤ length s
-  pub all : whole (formC hex recC) left s i ≡ whole (formC hex recC) n s at
-  pub rest : behind (formC hex recC) left s i ≡ behind (formC hex recC) n s at
+  pub all : whole (recIn form) left s i ≡ whole (recIn form) n s at
+  pub rest : behind (recIn form) left s i ≡ behind (recIn form) n s at
 
-module _ {hex : Bool} {s : Bytes} {n at i left m : ℕ} {ok : Bool} {y : Seen} (x : Framing hex s n at i left) (p : 0 < left) (r : ReadsRec hex s i ok m y) where
-  pub frames-in : ok ≡ true → m ≤ length (view hex s i)
+module _ {form : Form} {s : Bytes} {n at i left m : ℕ} {ok : Bool} {y : Seen} (x : Framing form s n at i left) (p : 0 < left) (r : ReadsAt (form .kind) (form .hex) s i ok m y) where
+  pub frames-in : ok ≡ true → m ≤ length (view (form .hex) s i)
   frames-in t = r .good (omega arith) t .3
 
-  frames-ok : {b : Bool} → ok ≡ true → b ≡ endsLine hex s i m → (ok && endsLine hex s i m) ≡ b
+  frames-ok : {b : Bool} → ok ≡ true → b ≡ endsLine (form .hex) s i m → (ok && endsLine (form .hex) s i m) ≡ b
   frames-ok t e = rw t (sym e)
 
-  pub frames-go : {j : ℕ} {b : Bool} → ok ≡ true → b ≡ endsLine hex s i m → b ≡ true → j ≡ afterIn hex s i m → Framing hex s n at j (left - 1)
+  pub frames-go : {j : ℕ} {b : Bool} → ok ≡ true → b ≡ endsLine (form .hex) s i m → b ≡ true → j ≡ afterIn (form .hex) s i m → Framing form s n at j (left - 1)
   frames-go {j} t e f g =
-      let u = whole-step left (x .within) p (framed hex (x .within) r) (frames-ok t e ∙ f) in
+      let u = whole-step left (x .within) p (framed (form .hex) (x .within) r) (frames-ok t e ∙ f) in
       rw g (record { up = omega (arith, x .up, u .2); within = u .3; all = sym (u .0) ∙ x .all; rest = sym (u .1) ∙ x .rest })
 
-  pub frames-short : ok ≡ false → false ≡ whole (formC hex recC) n s at
-  frames-short t = sym (whole-bad left (x .within) p (framed hex (x .within) r) (rw t)) ∙ x .all
+  pub frames-short : ok ≡ false → false ≡ whole (recIn form) n s at
+  frames-short t = sym (whole-bad left (x .within) p (framed (form .hex) (x .within) r) (rw t)) ∙ x .all
 
-  pub frames-line : {b : Bool} → ok ≡ true → b ≡ endsLine hex s i m → b ≡ false → false ≡ whole (formC hex recC) n s at
-  frames-line t e f = sym (whole-bad left (x .within) p (framed hex (x .within) r) (frames-ok t e ∙ f)) ∙ x .all
+  pub frames-line : {b : Bool} → ok ≡ true → b ≡ endsLine (form .hex) s i m → b ≡ false → false ≡ whole (recIn form) n s at
+  frames-line t e f = sym (whole-bad left (x .within) p (framed (form .hex) (x .within) r) (frames-ok t e ∙ f)) ∙ x .all
 
-pub frames-end : {hex : Bool} {s : Bytes} {n at i left : ℕ} → Framing hex s n at i left → left ≡ 0 → (true ≡ whole (formC hex recC) n s at) × (drop i s ≡ behind (formC hex recC) n s at)
-frames-end {hex} {s} {n} {at} {i} {left} x z = let u = none-left (formC hex recC) s left i z in (sym (u .1) ∙ x .all, sym (u .2) ∙ x .rest)
+pub frames-end : {form : Form} {s : Bytes} {n at i left : ℕ} → Framing form s n at i left → left ≡ 0 → (true ≡ whole (recIn form) n s at) × (drop i s ≡ behind (recIn form) n s at)
+frames-end {form} {s} {n} {at} {i} {left} x z = let u = none-left (recIn form) s left i z in (sym (u .1) ∙ x .all, sym (u .2) ∙ x .rest)
 
 -- ---- searches: no state
 unfoldable pub nothingF : Unit {0} → List Rec → Unit {0}

@@ -6,16 +6,21 @@ use mathlib.Core.List.{[], _∷_, _++_, append-assoc, append-nil}
 use Prim.Native.Nat.{ℕ, zero, suc, _+_, _*_, _-_, _≤_}
 use native.Mathlib.Omega.{arith}
 use lib.Dec.{ltb, leb, eqb}
-use lib.ListN.{length, take, drop, replicate, take-append-drop, length-append, length-drop, length-replicate}
+use lib.ListN.{length, take, drop, getD, replicate, take-append-drop, length-append, length-drop, length-replicate}
 use lib.Seq.{take-at, length-take-le, drop-cons}
 use borrow.Author.Tests.{ltb-true, ltb-false, leb-true, le-leb, eqb-true, eq-eqb, ne-eqb}
-use Rattle.queue.specs.Codec.{Got, fail, got, cases, cond-cases}
+use Rattle.queue.specs.Codec.{Got, fail, got, cases, cond-cases, pairC, mapC, encs}
 use Rattle.queue.specs.Lists.{and-true}
 use Rattle.queue.specs.Reads.{Reads}
 use Rattle.queue.specs.ReadLaws.{false-true, drop-none}
-use Rattle.queue.specs.Forms.{Store, headFor, storeC, queueC, storeOf, queueWith, store-ok, ok-store, queue-ok, ok-queue, head-cursor}
+use Rattle.queue.specs.Hex.{textOf, text-pairs}
+use Rattle.queue.specs.View.{pairs, view}
+use Rattle.queue.specs.Frames.{Head, tagC, headK}
+use Rattle.queue.specs.Forms.{Store, headFor, lineEnc, recIn, storeIn, areaForm, textForm, queueC, storeOf, queueWith, image-enc, store-ok, ok-store, queue-ok, ok-queue, head-cursor}
+use Rattle.queue.specs.Kinds.{recs-up, queue-said, said-queue, head-up, head-down, kind-byte}
 use Rattle.queue.specs.paper.Records.{Bytes, Limits, Queue}
 use Rattle.queue.specs.paper.Sound.{sound?, need}
+use Rattle.queue.specs.paper.Kinds.{kind?, says?}
 
 unfoldable pub zero? : Bytes → Bool
 zero? [] = true
@@ -25,9 +30,9 @@ zero? (b ∷ s) = cond (eqb b 0) (zero? s) false
 unfoldable pub layout : Queue → Bytes
 layout q = queueC .enc q ++ replicate (need (q .limits) - length (queueC .enc q)) 0
 
--- the image: a line of text for each frame
-unfoldable pub image : Queue → Bytes
-image q = storeC true .enc (storeOf q)
+-- the image under a header kind: a line of text for each frame
+unfoldable pub image : ℕ → Queue → Bytes
+image k q = storeIn (textForm k) .enc (storeOf q)
 
 zero-is : (s : Bytes) → zero? s ≡ true → s ≡ replicate (length s) 0
 unfolding zero?
@@ -110,49 +115,81 @@ imageGot fail = none
 imageGot (got st []) = cond (sound? (queueWith (st .cursor) st)) (some (queueWith (st .cursor) st)) none
 imageGot (got st (b ∷ r)) = none
 
+-- the header kind that a text tells: the byte of its first two digits
+unfoldable pub kindOf : Bytes → ℕ
+kindOf t = getD (view true t 0) 0 0
+
+-- the queue of which the text is the image, under the kind that it tells
 unfoldable pub readImage : Bytes → Option Queue
-readImage t = imageGot (storeC true .dec t)
+readImage t = cond (kind? (kindOf t)) (imageGot (storeIn (textForm (kindOf t)) .dec t)) none
 
 at-end : (st : Store) (s : Bytes) (next : ℕ) → next ≤ length s → imageGot (got st (drop next s)) ≡ cond (eqb next (length s) && sound? (queueWith (st .cursor) st)) (some (queueWith (st .cursor) st)) none
 at-end st s next h = cases (ltb next (length s))
     (λ t. let k = ltb-true next (length s) t in rw (drop-cons s next 0 k, ne-eqb next (length s) (λ e. omega arith)))
     (λ t. let k = ltb-false next (length s) t in rw (drop-none s next k, eq-eqb next (length s) (omega arith)))
 
--- the text is the queue's image
+-- the text is the queue's image under a kind that can say it
 pub record Shows (t : Bytes) (q : Queue) : Type 0 where
   pub sound : sound? q ≡ true
   pub range : queueC .ok q
   pub level : q .persisted ≡ q .cursor
-  pub is : t ≡ image q
+  pub kind : ℕ
+  pub known : kind? kind ≡ true
+  pub says : says? kind q ≡ true
+  pub is : t ≡ image kind q
 
 chosen : (x q : Queue) → x ≡ q → sound? q ≡ true → cond (sound? x) (some x) none ≡ some q
 chosen x q e h = rw (e, h)
 
+-- the kind stands first
+head-first : (k : ℕ) (h : Head) → (rest : Bytes) × (headK k .enc h ≡ k ∷ rest)
+unfolding headK mapC pairC tagC
+head-first k h = (_, refl)
+
+image-kind : (k : ℕ) (q : Queue) → headK k .ok (headFor (storeOf q)) → kindOf (image k q) ≡ k
+unfolding kindOf image view lineEnc
+image-kind k q h =
+    let f = head-first k (headFor (storeOf q)) in
+    let b = headK k .enc (headFor (storeOf q)) in
+    let r = (10 ∷ []) ++ encs (recIn (textForm k)) (q .recs) in
+    let e = image-enc k (storeOf q) ∙ append-assoc (textOf b) (10 ∷ []) (encs (recIn (textForm k)) (q .recs)) in
+    ap (λ (x : Bytes). getD (pairs x) 0 0) e ∙ ap (λ (x : Bytes). getD x 0 0) (text-pairs b r (headK k .small (headFor (storeOf q)) h) ∙ ap (λ (x : Bytes). x ++ pairs r) (f .1))
+
 pub shows-reads : (t : Bytes) (q : Queue) → Shows t q → readImage t ≡ some q
 unfolding readImage image
 shows-reads t q w =
+    let k = w .kind in
     let e : queueWith (q .cursor) (storeOf q) ≡ q = ap (λ (n : ℕ). queueWith n (storeOf q)) (sym (w .level)) in
-    let k : storeC true .ok (storeOf q) = store-ok true (storeOf q) (ok-store false (storeOf q) (ok-queue q (w .range) .1)) in
-    let d : storeC true .dec t ≡ got (storeOf q) [] = ap (storeC true .dec) (w .is ∙ sym (append-nil (storeC true .enc (storeOf q)))) ∙ storeC true .fwd (storeOf q) [] k in
-    rw d (chosen (queueWith (q .cursor) (storeOf q)) q e (w .sound))
+    let o = ok-store areaForm (storeOf q) (ok-queue q (w .range) .1) in
+    let h = head-down k (headFor (storeOf q)) (kind-byte k (w .known)) (o .0) in
+    let i : kindOf t ≡ k = ap kindOf (w .is) ∙ image-kind k q h in
+    let g : storeIn (textForm k) .ok (storeOf q) = store-ok (textForm k) (storeOf q) (h, said-queue k q (w .says) (o .1)) in
+    let d : storeIn (textForm k) .dec t ≡ got (storeOf q) [] = ap (storeIn (textForm k) .dec) (w .is ∙ sym (append-nil (storeIn (textForm k) .enc (storeOf q)))) ∙ storeIn (textForm k) .fwd (storeOf q) [] g in
+    rw (i, w .known, d) (chosen (queueWith (q .cursor) (storeOf q)) q e (w .sound))
 
 pub reads-shows : (t : Bytes) (q : Queue) → readImage t ≡ some q → Shows t q
 unfolding readImage image
-reads-shows t q e = go (storeC true .dec t) refl e
+reads-shows t q e = cond-cases (kind? (kindOf t)) (imageGot (storeIn (textForm (kindOf t)) .dec t)) none (some q) e
+    (λ known e₁. go known (storeIn (textForm (kindOf t)) .dec t) refl e₁)
+    (λ known e₁. let z : _≡_ {A = ℕ} 0 1 = cc in absurd (omega arith))
   where
-    go : (o : Got Store) → storeC true .dec t ≡ o → imageGot o ≡ some q → Shows t q
-    go fail p e′ = let z : _≡_ {A = ℕ} 0 1 = cc in absurd (omega arith)
-    go (got st (b ∷ r)) p e′ = let z : _≡_ {A = ℕ} 0 1 = cc in absurd (omega arith)
-    go (got st []) p e′ = cond-cases (sound? (queueWith (st .cursor) st)) (some (queueWith (st .cursor) st)) none (some q) e′
+    go : kind? (kindOf t) ≡ true → (o : Got Store) → storeIn (textForm (kindOf t)) .dec t ≡ o → imageGot o ≡ some q → Shows t q
+    go known fail p e′ = let z : _≡_ {A = ℕ} 0 1 = cc in absurd (omega arith)
+    go known (got st (b ∷ r)) p e′ = let z : _≡_ {A = ℕ} 0 1 = cc in absurd (omega arith)
+    go known (got st []) p e′ = cond-cases (sound? (queueWith (st .cursor) st)) (some (queueWith (st .cursor) st)) none (some q) e′
         (λ h e″.
-        let k : queueWith (st .cursor) st ≡ q = cc in
-        let u = storeC true .bwd t st [] p in
-        let v = ok-store true st (u .1) in
-        rw (← k) (record {
+        let i : queueWith (st .cursor) st ≡ q = cc in
+        let u = storeIn (textForm (kindOf t)) .bwd t st [] p in
+        let v = ok-store (textForm (kindOf t)) st (u .1) in
+        let w = head-up (kindOf t) (headFor st) (v .0) in
+        rw (← i) (record {
           sound = h;
-          range = queue-ok (queueWith (st .cursor) st) (head-cursor (headFor st) (v .0)) (store-ok false st v);
+          range = queue-ok (queueWith (st .cursor) st) (head-cursor (headFor st) w) (store-ok areaForm st (w, recs-up (kindOf t) (st .recs) (v .1)));
           level = refl;
-          is = u .0 ∙ append-nil (storeC true .enc st);
+          kind = kindOf t;
+          known = known;
+          says = queue-said (kindOf t) (queueWith (st .cursor) st) (v .1);
+          is = u .0 ∙ append-nil (storeIn (textForm (kindOf t)) .enc st);
         }))
         (λ h e″. let z : _≡_ {A = ℕ} 0 1 = cc in absurd (omega arith))
 
@@ -171,11 +208,15 @@ pub area-none : {s : Bytes} {next : ℕ} {ok : Bool} {W : Queue → Type 0} → 
 unfolding readArea
 area-none x t = rw (x .bad (omega arith) t)
 
-pub image-found : {s : Bytes} {next : ℕ} {ok : Bool} {W : Store → Type 0} → Reads (storeC true) s 0 ok next W → ok ≡ true
+pub image-found : {s : Bytes} {next : ℕ} {ok : Bool} {W : Store → Type 0} (k : ℕ) → k ≡ kindOf s → kind? k ≡ true → Reads (storeIn (textForm k)) s 0 ok next W → ok ≡ true
     → (st : Store) × W st × (readImage s ≡ cond (eqb next (length s) && sound? (queueWith (st .cursor) st)) (some (queueWith (st .cursor) st)) none)
 unfolding readImage
-image-found {s} {next} x t = let u = x .good (omega arith) t in (u .0, u .4, rw (u .1) (at-end (u .0) s next (u .3)))
+image-found {s} {next} k e g x t = let u = x .good (omega arith) t in (u .0, u .4, rw (← e, g, u .1) (at-end (u .0) s next (u .3)))
 
-pub image-none : {s : Bytes} {next : ℕ} {ok : Bool} {W : Store → Type 0} → Reads (storeC true) s 0 ok next W → ok ≡ false → readImage s ≡ none
+pub image-none : {s : Bytes} {next : ℕ} {ok : Bool} {W : Store → Type 0} (k : ℕ) → k ≡ kindOf s → kind? k ≡ true → Reads (storeIn (textForm k)) s 0 ok next W → ok ≡ false → readImage s ≡ none
 unfolding readImage
-image-none x t = rw (x .bad (omega arith) t)
+image-none k e g x t = rw (← e, g, x .bad (omega arith) t)
+
+pub image-unknown : {s : Bytes} (k : ℕ) → k ≡ kindOf s → kind? k ≡ false → readImage s ≡ none
+unfolding readImage
+image-unknown k e g = rw (← e, g)

@@ -9,8 +9,8 @@ use native.Mathlib.Nat.{mul-le-mul-right}
 use lib.ListN.{length, drop, length-append, length-replicate, length-drop}
 use lib.Seq.{drop-at}
 use Rattle.queue.specs.Codec.{All, byteC, beC, pairC, mapC, optC, vecC, countedC, vecMost}
-use Rattle.queue.specs.Frames.{Head, tagC, idC, labelC, termsC, heldC, bodyC, placeC, recC, limitsC, headC}
-use Rattle.queue.specs.Forms.{headFor, storeOf, formC, storeC, framesC, queueC, ok-store}
+use Rattle.queue.specs.Frames.{Head, tagC, idC, labelC, termsC, heldC, bodyC, placeC, recK, recC, limitsC, headK, headC}
+use Rattle.queue.specs.Forms.{headFor, storeOf, formC, areaForm, storeIn, framesC, queueC, ok-store}
 use Rattle.queue.specs.Areas.{layout, readArea, readImage, stands-reads, reads-stands, shows-reads, reads-shows}
 use Rattle.queue.specs.Plain.{area-plain, image-plain}
 use Rattle.queue.specs.Sounds.{Right, sound-of, Fit, fit-of, fit-sound, fit-ok}
@@ -67,7 +67,7 @@ body-most K (some x) h i o =
 
 -- "a tombstone at most 330", "a record frame is at most 338 bytes and what its inputs, outputs and signed bytes take"
 rec-most : (K c : ℕ) (r : Rec) → recC .ok r → Right K c r → recC .most r ≤ 330 + one (holder? r) * (8 + 64 * K) + length (content (r .body))
-unfolding recC mapC pairC tagC beC
+unfolding recK mapC pairC tagC beC
 rec-most K c r h s =
     let a = id-most (r .id) (h .1 .0) in
     let b = terms-most (r .terms) (s .label) in
@@ -93,14 +93,14 @@ tip-most none h = omega arith
 tip-most (some x) h = let e = id-most x h in omega arith
 
 head-most : (h : Head) → headC .ok h → headC .most h ≤ 74
-unfolding headC limitsC mapC pairC tagC beC
+unfolding headK limitsC mapC pairC tagC beC
 head-most h k = let e = tip-most (h .tip) (k .1 .1 .1 .1 .0) in omega arith
 
 pub fits-need : (q : Queue) → sound? q ≡ true → queueC .ok q → length (queueC .enc q) ≤ need (q .limits)
-unfolding queueC mapC pairC beC storeC framesC formC need
+unfolding queueC mapC pairC beC storeIn framesC formC need
 fits-need q e o =
     let s = sound-of q e in
-    let k = ok-store false (storeOf q) (o .1) in
+    let k = ok-store areaForm (storeOf q) (o .1) in
     let a = queueC .fits q o in
     let b = head-most (headFor (storeOf q)) (k .0) in
     let c = recs-most (q .limits .K) (q .counter) (q .recs) (k .1) (s .right) in

@@ -9,7 +9,7 @@ use Rattle.queue.specs.Codec.{Codec, beC, optC}
 use Rattle.queue.specs.paper.Records.{Bytes, Id, Limits, Terms, Held, Rec}
 use Rattle.queue.specs.paper.Lists.{isSome}
 use Rattle.queue.specs.paper.Sound.{labelLen, inputs, outputs, content}
-use Rattle.queue.specs.Frames.{Head, tagC, idC, termsC, placeC, bodyC, limitsC}
+use Rattle.queue.specs.Frames.{Head, tagC, markC, idC, termsC, placeC, bodyC, limitsC}
 use Rattle.queue.specs.Reads.{Reads, whole, listAt}
 use Rattle.queue.specs.declared.frame.Time.{Time}
 use Rattle.queue.specs.declared.frame.Height.{Height}
@@ -58,7 +58,11 @@ factsOf r = record {
 
 -- the byte n
 abbrev pub TagAt : ℕ → Bytes → ℕ → Bool → ℕ → Type 0
-TagAt n s at ok next = (h : n < 256) → Reads (tagC n h) s at ok next (λ u. Unit {0})
+TagAt n s at ok next = Reads (tagC n) s at ok next (λ u. Unit {0})
+
+-- a withdrawn mark, as the kind k has it
+abbrev pub MarkAt : ℕ → Bytes → ℕ → Bool → ℕ → ℕ → Type 0
+MarkAt k s at ok next v = Reads (markC k) s at ok next (λ x. x ≡ v) × (v < 256)
 
 -- a number of n bytes
 abbrev pub NumAt : ℕ → Bytes → ℕ → Bool → ℕ → ℕ → Type 0

@@ -12,12 +12,14 @@ use lib.Seq.{drop-cons, drop-drop, getD-drop, getD-at, drop-at, take-at}
 use borrow.Author.Tests.{lt-ltb, le-ltb, ltb-true, ltb-false, eqb-true, eq-eqb}
 use Rattle.queue.specs.Codec.{Got, fail, got, _>>=_, bind-got, if-got, cases, All, all-append, Codec, be, beC, pairC, mapC, encs, decs, vec-fwd, vec-bwd, vec-small, vecMost, vec-fits}
 use Rattle.queue.specs.Lists.{and-true}
-use Rattle.queue.specs.Frames.{Head, headC, recC}
+use Rattle.queue.specs.Frames.{Head, headK, recK, headC, recC}
 use Rattle.queue.specs.Reads.{Reads, isGot, restOf, whole, listAt, behind}
 use Rattle.queue.specs.ReadLaws.{false-true, pair, mapped, weaken, Turn, turn}
 use Rattle.queue.specs.View.{pairs, view, view-raw}
 use Rattle.queue.specs.Hex.{textOf, digits?, allDigits, text-length, text-pairs, text-small, text-digits, digits-is, digits-text}
 use Rattle.queue.specs.paper.Records.{Bytes, Id, Limits, Rec, Queue}
+use Rattle.queue.specs.paper.Kinds.{newest}
+use Rattle.queue.specs.declared.frame.Form.{Form}
 
 -- the frame of n bytes at base in s: where the next one starts
 unfoldable pub afterIn : Bool → Bytes → ℕ → ℕ → ℕ
@@ -344,14 +346,28 @@ module _ (𝓗 : Codec Head) (𝓡 : Codec Rec) where
       record { good = λ p z. false-true (sym yf ∙ z); bad = λ p z. let u = x .good p t in let c = u .4 .0 in rw (u .1, c, e) })))
       (λ t. rw t (record { good = λ p z. false-true z; bad = λ p z. rw (x .bad p t) }))
 
-unfoldable pub storeC : Bool → Codec Store
-storeC hex = framesC (formC hex headC) (formC hex recC)
+-- ---- the frames of a queue in a form: as bytes or as lines of text, under a header kind
+abbrev pub headIn : Form → Codec Head
+headIn form = formC (form .hex) (headK (form .kind))
 
-pub store-read : (hex : Bool) {s : Bytes} {at n₁ n₂ count : ℕ} {ok₁ ok₂ : Bool} {W : Head → Type 0} → Reads (formC hex headC) s at ok₁ n₁ (λ h. (h .count ≡ count) × W h)
-    → (ok₁ ≡ true → Many (formC hex recC) s n₁ count ok₂ n₂)
-    → Reads (storeC hex) s at (ok₁ && ok₂) n₂ (λ st. W (headFor st) × ((st .recs ≡ listAt (formC hex recC) count s n₁) × ((whole (formC hex recC) count s n₁ ≡ true) × (length (st .recs) ≡ count))))
-unfolding storeC
-store-read hex x y = frames-read (formC hex headC) (formC hex recC) x y
+abbrev pub recIn : Form → Codec Rec
+recIn form = formC (form .hex) (recK (form .kind))
+
+unfoldable pub storeIn : Form → Codec Store
+storeIn form = framesC (headIn form) (recIn form)
+
+-- an area has bytes of the newest kind
+abbrev pub areaForm : Form
+areaForm = record { hex = false; kind = newest }
+
+abbrev pub textForm : ℕ → Form
+textForm k = record { hex = true; kind = k }
+
+pub store-read : (form : Form) {s : Bytes} {at n₁ n₂ count : ℕ} {ok₁ ok₂ : Bool} {W : Head → Type 0} → Reads (headIn form) s at ok₁ n₁ (λ h. (h .count ≡ count) × W h)
+    → (ok₁ ≡ true → Many (recIn form) s n₁ count ok₂ n₂)
+    → Reads (storeIn form) s at (ok₁ && ok₂) n₂ (λ st. W (headFor st) × ((st .recs ≡ listAt (recIn form) count s n₁) × ((whole (recIn form) count s n₁ ≡ true) × (length (st .recs) ≡ count))))
+unfolding storeIn
+store-read form x y = frames-read (headIn form) (recIn form) x y
 
 -- how long a text is: two digits a byte, and the lines' ends
 pub line-length : {A : Type 0} (𝓐 : Codec A) (a : A) → length (formC true 𝓐 .enc a) ≡ 2 * length (𝓐 .enc a) + 1
@@ -363,8 +379,8 @@ unfolding encs
 lines-length 𝓐 [] = refl
 lines-length 𝓐 (a ∷ l) = let i = lines-length 𝓐 l in let e = line-length 𝓐 a in simp length-append (omega arith)
 
-pub store-length : (st : Store) → length (storeC true .enc st) ≡ 2 * length (storeC false .enc st) + (1 + length (st .recs))
-unfolding storeC framesC framesEnc
+pub store-length : (st : Store) → length (storeIn (textForm newest) .enc st) ≡ 2 * length (storeIn areaForm .enc st) + (1 + length (st .recs))
+unfolding storeIn framesC framesEnc
 store-length st =
     let i = lines-length recC (st .recs) in
     let h = line-length headC (headFor st) in
@@ -378,38 +394,38 @@ queueWith n st = record { persisted = n; limits = st .limits; revision = st .rev
 
 -- the persisted height, and the frames as bytes
 unfoldable pub queueC : Codec Queue
-queueC = mapC (λ x. queueWith (x .0) (x .1)) (λ q. (q .persisted, storeOf q)) (λ x. refl) (λ q. refl) (pairC (beC 4) (storeC false))
+queueC = mapC (λ x. queueWith (x .0) (x .1)) (λ q. (q .persisted, storeOf q)) (λ x. refl) (λ q. refl) (pairC (beC 4) (storeIn areaForm))
 
-pub queue-read : {s : Bytes} {at n₁ n₂ v : ℕ} {ok₁ ok₂ : Bool} {W : Store → Type 0} → Reads (beC 4) s at ok₁ n₁ (λ x. x ≡ v) → Reads (storeC false) s n₁ ok₂ n₂ W
+pub queue-read : {s : Bytes} {at n₁ n₂ v : ℕ} {ok₁ ok₂ : Bool} {W : Store → Type 0} → Reads (beC 4) s at ok₁ n₁ (λ x. x ≡ v) → Reads (storeIn areaForm) s n₁ ok₂ n₂ W
     → Reads queueC s at (ok₁ && ok₂) n₂ (λ q. (q .persisted ≡ v) × W (storeOf q))
 unfolding queueC
 queue-read {v = v} {W = W} x y = mapped (λ x. queueWith (x .0) (x .1)) (λ q. (q .persisted, storeOf q)) (λ x. refl) (λ q. refl) (λ q. (q .persisted ≡ v) × W (storeOf q)) (pair x y) (λ a _ _ _ w. w)
 
 -- the bytes of a queue, its ok in parts
 pub queue-enc : (q : Queue) → queueC .enc q ≡ be 4 (q .persisted) ++ (headC .enc (headFor (storeOf q)) ++ encs recC (q .recs))
-unfolding queueC mapC pairC beC storeC framesC framesEnc
+unfolding queueC mapC pairC beC storeIn framesC framesEnc
 queue-enc q = rw (form-raw headC, form-raw recC)
 
-pub image-enc : (st : Store) → storeC true .enc st ≡ lineEnc headC (headFor st) ++ encs (formC true recC) (st .recs)
-unfolding storeC framesC framesEnc formC
-image-enc st = refl
+pub image-enc : (k : ℕ) (st : Store) → storeIn (textForm k) .enc st ≡ lineEnc (headK k) (headFor st) ++ encs (recIn (textForm k)) (st .recs)
+unfolding storeIn framesC framesEnc formC
+image-enc k st = refl
 
-pub store-ok : (hex : Bool) (st : Store) → headC .ok (headFor st) × All (recC .ok) (st .recs) → storeC hex .ok st
-unfolding storeC framesC formC
-store-ok hex st h = h
+pub store-ok : (form : Form) (st : Store) → headK (form .kind) .ok (headFor st) × All (recK (form .kind) .ok) (st .recs) → storeIn form .ok st
+unfolding storeIn framesC formC
+store-ok form st h = h
 
-pub ok-store : (hex : Bool) (st : Store) → storeC hex .ok st → headC .ok (headFor st) × All (recC .ok) (st .recs)
-unfolding storeC framesC formC
-ok-store hex st h = h
+pub ok-store : (form : Form) (st : Store) → storeIn form .ok st → headK (form .kind) .ok (headFor st) × All (recK (form .kind) .ok) (st .recs)
+unfolding storeIn framesC formC
+ok-store form st h = h
 
-pub queue-ok : (q : Queue) → q .persisted < 256 ^ 4 → storeC false .ok (storeOf q) → queueC .ok q
+pub queue-ok : (q : Queue) → q .persisted < 256 ^ 4 → storeIn areaForm .ok (storeOf q) → queueC .ok q
 unfolding queueC mapC pairC beC
 queue-ok q h k = (h, k)
 
-pub ok-queue : (q : Queue) → queueC .ok q → (q .persisted < 256 ^ 4) × storeC false .ok (storeOf q)
+pub ok-queue : (q : Queue) → queueC .ok q → (q .persisted < 256 ^ 4) × storeIn areaForm .ok (storeOf q)
 unfolding queueC mapC pairC beC
 ok-queue q h = h
 
 pub head-cursor : (h : Head) → headC .ok h → h .cursor < 256 ^ 4
-unfolding headC mapC pairC beC
+unfolding headK mapC pairC beC
 head-cursor h k = k .1 .1 .1 .0

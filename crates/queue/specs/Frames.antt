@@ -1,54 +1,49 @@
--- The frames of document 01's image and of the area as codecs: a header, a record.
+-- The frames of document 01's image and of the area as codecs, each under a header kind: a header, a record.
 use mathlib.Core.Path.{_≡_, refl, ap}
-use mathlib.Core.Bool.{Bool, true, false, cond}
+use mathlib.Core.Bool.{Bool, true, false, cond, not, _&&_}
 use mathlib.Core.Option.{Option, none, some}
 use mathlib.Core.List.{List, [], _∷_, _++_}
 use Prim.Native.Nat.{ℕ, zero, suc, _+_, _*_, _^_, _≤_, _<_}
 use native.Mathlib.Omega.{arith}
-use lib.Dec.{eqb}
-use borrow.Author.Tests.{eqb-true, eq-eqb}
+use lib.Dec.{ltb, leb, eqb}
+use borrow.Author.Tests.{lt-ltb, ltb-true, eqb-true, eq-eqb}
 use Rattle.queue.specs.Codec.{Got, fail, got, _>>=_, no-got, if-got, Codec, byteC, beC, pairC, mapC, optC, vecC, countedC}
+use Rattle.queue.specs.Choice.{pickC, guardC}
+use Rattle.queue.specs.Lists.{and-true}
 use Rattle.queue.specs.paper.Records.{Bytes, Id, Limits, Terms, Held, Rec}
+use Rattle.queue.specs.paper.Kinds.{newest}
 
 -- one byte that says what stands behind it
-module _ (n : ℕ) (h : n < 256) where
+module _ (n : ℕ) where
   unfoldable pub tagDec : Bytes → Got (Unit {0})
   tagDec [] = fail
-  tagDec (b ∷ s) = cond (eqb b n) (got tt s) fail
+  tagDec (b ∷ s) = cond (ltb n 256 && eqb b n) (got tt s) fail
 
-  pub tag-fwd : (a : Unit {0}) (r : Bytes) → Unit {0} → tagDec ((n ∷ []) ++ r) ≡ got a r
+  pub tag-fwd : (a : Unit {0}) (r : Bytes) → n < 256 → tagDec ((n ∷ []) ++ r) ≡ got a r
   unfolding tagDec
-  tag-fwd a r k = rw (eq-eqb n n refl)
+  tag-fwd a r h = rw (lt-ltb n 256 h, eq-eqb n n refl)
 
-  pub tag-bwd : (s : Bytes) (a : Unit {0}) (r : Bytes) → tagDec s ≡ got a r → (s ≡ (n ∷ []) ++ r) × Unit {0}
+  pub tag-bwd : (s : Bytes) (a : Unit {0}) (r : Bytes) → tagDec s ≡ got a r → (s ≡ (n ∷ []) ++ r) × (n < 256)
   unfolding tagDec
   tag-bwd [] a r e = no-got a r e
-  tag-bwd (b ∷ s) a r e = let k = if-got (eqb b n) (got tt s) a r e in let q = k .1 in let z = eqb-true b n (k .0) in (cc, tt)
+  tag-bwd (b ∷ s) a r e =
+      let k = if-got (ltb n 256 && eqb b n) (got tt s) a r e in
+      let q = k .1 in
+      let t = and-true (ltb n 256) _ (k .0) in
+      let z = eqb-true b n (t .1) in
+      (cc, ltb-true n 256 (t .0))
 
   unfoldable pub tagC : Codec (Unit {0})
   tagC = record {
-    ok = λ a. Unit {0};
+    ok = λ a. n < 256;
     enc = λ a. n ∷ [];
     dec = tagDec;
     fwd = tag-fwd;
     bwd = tag-bwd;
-    small = λ a k. (h, tt);
+    small = λ a h. (h, tt);
     most = λ a. 1;
     fits = λ a k. omega arith;
   }
-
-pub one-byte : 1 < 256
-one-byte = omega arith
-
-pub two-byte : 2 < 256
-two-byte = omega arith
-
--- the kinds
-abbrev pub headTag : Codec (Unit {0})
-headTag = tagC 1 one-byte
-
-abbrev pub recTag : Codec (Unit {0})
-recTag = tagC 2 two-byte
 
 unfoldable pub idC : Codec Id
 idC = vecC byteC 32
@@ -95,14 +90,18 @@ recOf t = let (u, (a, (b, (c, (d, (e, (f, (g, h)))))))) = t in
 abbrev pub recTuple : Rec → RecT
 recTuple r = (tt, (r .id, (r .state, (r .reason, (r .terms, (r .place, (r .mark, (r .finish, r .body))))))))
 
+-- every mark since kind 03, before it all but 3
+abbrev pub markC : ℕ → Codec ℕ
+markC k = pickC (leb 3 k) (beC 1) (guardC (λ m. not (eqb m 3)) (beC 1))
+
 -- what stands behind the terms: mined place, withdrawn mark, finish number, holder
-abbrev pub restC : Codec (Option (ℕ × Id) × (ℕ × (ℕ × Option Held)))
-restC = pairC placeC (pairC (beC 1) (pairC (beC 8) bodyC))
+abbrev pub restK : ℕ → Codec (Option (ℕ × Id) × (ℕ × (ℕ × Option Held)))
+restK k = pairC placeC (pairC (markC k) (pairC (beC 8) bodyC))
 
 -- kind 02, id, state, reason, terms, mined place, withdrawn mark, finish number, holder
-unfoldable pub recC : Codec Rec
-recC = mapC recOf recTuple (λ t. refl) (λ t. refl)
-    (pairC recTag (pairC idC (pairC (beC 1) (pairC (beC 1) (pairC termsC restC)))))
+unfoldable pub recK : ℕ → Codec Rec
+recK k = mapC recOf recTuple (λ t. refl) (λ t. refl)
+    (pairC (tagC 2) (pairC idC (pairC (beC 1) (pairC (beC 1) (pairC termsC (restK k))))))
 
 unfoldable pub limitsC : Codec Limits
 limitsC = mapC (λ t. record { P = t .0; B = t .1 .0; T = t .1 .1 .0; K = t .1 .1 .1 }) (λ m. (m .P, (m .B, (m .T, m .K)))) (λ t. refl) (λ t. refl)
@@ -127,7 +126,17 @@ headOf t = let (u, (m, (r, (c, (i, (f, n)))))) = t in
 abbrev pub headTuple : Head → HeadT
 headTuple h = (tt, (h .limits, (h .revision, (h .cursor, (h .tip, (h .counter, h .count))))))
 
--- kind 01, limits, revision, cursor height, tip, counter, record count
-unfoldable pub headC : Codec Head
-headC = mapC headOf headTuple (λ t. refl) (λ t. refl)
-    (pairC headTag (pairC limitsC (pairC (beC 8) (pairC (beC 4) (pairC (optC idC) (pairC (beC 8) (beC 4)))))))
+-- the header kind, limits, revision, cursor height, tip, counter, record count
+unfoldable pub headK : ℕ → Codec Head
+headK k = mapC headOf headTuple (λ t. refl) (λ t. refl)
+    (pairC (tagC k) (pairC limitsC (pairC (beC 8) (pairC (beC 4) (pairC (optC idC) (pairC (beC 8) (beC 4)))))))
+
+-- ---- under the newest kind, which an area has
+abbrev pub restC : Codec (Option (ℕ × Id) × (ℕ × (ℕ × Option Held)))
+restC = restK newest
+
+abbrev pub recC : Codec Rec
+recC = recK newest
+
+abbrev pub headC : Codec Head
+headC = headK newest

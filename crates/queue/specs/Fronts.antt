@@ -7,6 +7,7 @@ use Rattle.queue.specs.Splice as split
 use Rattle.queue.specs.Codec.{Codec, be, optC}
 use Rattle.queue.specs.Frames.{Head, idC, limitsC, headC}
 use Rattle.queue.specs.paper.Records.{Bytes, Id, Limits, Rec, Queue}
+use Rattle.queue.specs.paper.Kinds.{newest}
 use Rattle.queue.specs.declared.head.Marks.{Marks}
 
 abbrev pub tipOf : Bool → Id → Option Id
@@ -31,7 +32,7 @@ pub record Small (m : Marks) : Type 0 where
 
 -- the same in two pieces, as they are written
 unfoldable pub startBytes : Limits → ℕ → ℕ → Bytes
-startBytes l persisted revision = ((split.be 4 persisted ++ (1 ∷ [])) ++ limitsC .enc l) ++ split.be 8 revision
+startBytes l persisted revision = ((split.be 4 persisted ++ (newest ∷ [])) ++ limitsC .enc l) ++ split.be 8 revision
 
 unfoldable pub marksBytes : Marks → Id → Bytes
 marksBytes m tip = ((split.be 4 (m .cursor .0) ++ optC idC .enc (tipOf (m .tip) tip)) ++ split.be 8 (m .counter .0)) ++ split.be 4 (m .count)

@@ -346,14 +346,16 @@ mined-weight l = total-eq (λ r. one (mined? r && holder? r)) (λ r. cond (mined
 -- ---- reopening
 
 reopened-cases : (P : ℕ → ℕ → Bool → Type 0) → P 0 4 true → P 5 3 false → P 4 1 false → P 5 2 false
-    → (h : Bool) (m s : ℕ) → markRight? s h m ≡ true → P (cond (eqb m 0) (cond h queued expired) m) (cond (eqb m 0) (cond h 4 3) (cond (eqb m cancelled) 1 2)) h
+    → (h : Bool) (m s : ℕ) → markRight? s h m ≡ true → P (cond (eqb m 0) (cond h queued expired) (cond (eqb m cancelled) cancelled expired)) (cond (eqb m 0) (cond h 4 3) (cond (eqb m cancelled) 1 (cond (eqb m expired) 2 3))) h
 reopened-cases P a b c d h m s e = or-true (eqb m 0) _ e
     (λ t. rw t (pick h))
-    (λ n t. let x = and-true (eqb m 4 || eqb m 5) (eqb s mined && not h) t in
+    (λ n t. let x = and-true (eqb m 3 || (eqb m 4 || eqb m 5)) (eqb s mined && not h) t in
     let y = not-true h (and-true (eqb s mined) (not h) (x .1) .1) in
-    or-true (eqb m 4) (eqb m 5) (x .0)
+    or-true (eqb m 3) (eqb m 4 || eqb m 5) (x .0)
+    (λ u. let z = eqb-true m 3 u in rw (y, z) b)
+    (λ _ v. or-true (eqb m 4) (eqb m 5) v
     (λ u. let z = eqb-true m 4 u in rw (y, z) c)
-    (λ _ u. let z = eqb-true m 5 u in rw (y, z) d))
+    (λ _ u. let z = eqb-true m 5 u in rw (y, z) d)))
   where
     pick : (h : Bool) → P (cond h queued expired) (cond h 4 3) h
     pick true = a

@@ -3,12 +3,14 @@ pub mod Codec
 pub mod Lists
 pub mod Splice
 pub mod Ids
+pub mod Choice
 pub mod Frames
 pub mod Reads
 pub mod ReadLaws
 pub mod View
 pub mod Hex
 pub mod Forms
+pub mod Kinds
 pub mod Areas
 pub mod Facts
 pub mod Near

@@ -7,10 +7,10 @@ use Prim.Native.Nat.{ℕ, _+_, _*_, _-_, _≤_, _<_}
 use lib.Dec.{leb}
 use lib.ListN.{length, take, drop}
 use Rattle.queue.specs.Codec.{Codec}
-use Rattle.queue.specs.Frames.{headC, recC}
+use Rattle.queue.specs.Frames.{headK, recC}
 use Rattle.queue.specs.Reads.{whole, listAt, behind}
 use Rattle.queue.specs.View.{view}
-use Rattle.queue.specs.Forms.{formC, afterIn, Framed, Store, headFor, storeOf, storeC, queueC}
+use Rattle.queue.specs.Forms.{formC, afterIn, Framed, Store, headFor, recIn, areaForm, storeOf, queueC}
 use Rattle.queue.specs.Areas.{readArea, zero?}
 use Rattle.queue.specs.Facts.{HeadAs}
 use Rattle.queue.specs.Sums.{SumsAs}
@@ -18,6 +18,7 @@ use Rattle.queue.specs.paper.Ids.{rise?}
 use Rattle.queue.specs.paper.Records.{Bytes, Limits, Rec, Queue}
 use Rattle.queue.specs.paper.Lists.{all?, map}
 use Rattle.queue.specs.paper.Sound.{inRange, need, right?, counts?, distinct?, apart?, sound?}
+use Rattle.queue.specs.declared.frame.Form.{Form}
 use Rattle.queue.specs.declared.area.Open.{Open}
 use Rattle.queue.specs.declared.area.Area.{Area}
 use Rattle.queue.specs.declared.scan.Span.{Span}
@@ -26,17 +27,17 @@ abbrev pub limits : ℕ → ℕ → ℕ → ℕ → Limits
 limits p b t k = record { P = p; B = b; T = t; K = k }
 
 -- x was read from s at base, and says of st: its header, and where its records stand
-pub record StoreAs (hex : Bool) (s : Bytes) (base : ℕ) (x : Open) (st : Store) : Type 0 where
-  pub head : HeadAs (view hex s base) (x .head) (headFor st)
-  pub frame : Framed headC hex s base (x .head .ok) (x .head .size) (headFor st)
-  pub start : x .start ≡ afterIn hex s base (x .head .size)
-  pub all : whole (formC hex recC) (x .head .count) s (x .start) ≡ true
-  pub list : listAt (formC hex recC) (x .head .count) s (x .start) ≡ st .recs
+pub record StoreAs (form : Form) (s : Bytes) (base : ℕ) (x : Open) (st : Store) : Type 0 where
+  pub head : HeadAs (view (form .hex) s base) (x .head) (headFor st)
+  pub frame : Framed (headK (form .kind)) (form .hex) s base (x .head .ok) (x .head .size) (headFor st)
+  pub start : x .start ≡ afterIn (form .hex) s base (x .head .size)
+  pub all : whole (recIn form) (x .head .count) s (x .start) ≡ true
+  pub list : listAt (recIn form) (x .head .count) s (x .start) ≡ st .recs
   pub count : length (st .recs) ≡ x .head .count
-  pub end : drop (x .next) s ≡ behind (formC hex recC) (x .head .count) s (x .start)
+  pub end : drop (x .next) s ≡ behind (recIn form) (x .head .count) s (x .start)
   pub up : x .start ≤ x .next
   pub ends : x .next ≤ length s
-  pub sums : SumsAs (x .head .k) (x .head .counter) (x .sums) (listAt (formC hex recC) (x .head .count) s (x .start))
+  pub sums : SumsAs (x .head .k) (x .head .counter) (x .sums) (listAt (recIn form) (x .head .count) s (x .start))
 
 -- the rules of a sound queue on its limits, counter and records
 unfoldable pub soundL : Limits → ℕ → List Rec → Bool
@@ -58,7 +59,7 @@ pub record FilledAs (s : Bytes) (x : Open) (r : Span) : Type 0 where
 -- x was read from the area s, which holds q
 pub record AreaAs (s : Bytes) (x : Area) (q : Queue) : Type 0 where
   pub persisted : q .persisted ≡ x .persisted .0
-  pub store : StoreAs false s 4 (x .open) (storeOf q)
+  pub store : StoreAs areaForm s 4 (x .open) (storeOf q)
   pub need : x .need ≡ need (q .limits)
   pub small : x .need ≤ 51905024
   pub fits : x .open .next ≤ x .need

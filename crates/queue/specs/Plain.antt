@@ -6,13 +6,15 @@ use mathlib.Core.List.{List, [], _∷_, _++_}
 use Prim.Native.Nat.{ℕ}
 use lib.ListN.{length}
 use Rattle.queue.specs.Codec.{Codec, be, byteC, beC, pairC, mapC, optC, optEnc, vecC, countedC, encs}
-use Rattle.queue.specs.Frames.{tagC, idC, labelC, termsC, heldC, bodyC, placeC, recC, limitsC, headC}
+use Rattle.queue.specs.Frames.{tagC, idC, labelC, termsC, heldC, bodyC, placeC, recK, recC, limitsC, headK, headC}
 use Rattle.queue.specs.Hex.{textOf}
-use Rattle.queue.specs.Forms.{headFor, storeOf, formC, lineEnc, queueC, queue-enc, image-enc}
+use Rattle.queue.specs.Forms.{headFor, storeOf, formC, lineEnc, recIn, textForm, queueC, queue-enc, image-enc}
+use Rattle.queue.specs.Kinds.{rec-enc}
 use Rattle.queue.specs.Areas.{layout, image}
 use Rattle.queue.specs.paper.Records.{Bytes, Id, Terms, Held, Rec, Queue}
 use Rattle.queue.specs.paper.Lists.{map, concat}
-use Rattle.queue.specs.paper.Area.{flagged, termsBytes, placeBytes, heldBytes, recBytes, headBytes, queueBytes, areaBytes, line, imageBytes}
+use Rattle.queue.specs.paper.Area.{flagged, termsBytes, placeBytes, heldBytes, recBytes, headUnder, queueBytes, areaBytes, line, imageUnder}
+use Rattle.queue.specs.paper.Kinds.{newest}
 
 pub bytes-plain : (s : Bytes) → encs byteC s ≡ s
 unfolding encs byteC
@@ -67,7 +69,7 @@ unfolding bodyC
 body-plain o = opt-plain heldC heldBytes held-plain o
 
 pub rec-plain : (r : Rec) → recC .enc r ≡ recBytes r
-unfolding recC recBytes mapC pairC tagC beC
+unfolding recK recBytes mapC pairC tagC beC
 rec-plain r = rw (id-plain (r .id), terms-plain (r .terms), place-plain (r .place), body-plain (r .body))
 
 pub recs-plain : (l : List Rec) → encs recC l ≡ concat (map recBytes l)
@@ -75,23 +77,23 @@ unfolding encs
 recs-plain [] = refl
 recs-plain (r ∷ l) = rw (rec-plain r, recs-plain l)
 
-pub head-plain : (q : Queue) → headC .enc (headFor (storeOf q)) ≡ headBytes q
-unfolding headC headBytes limitsC mapC pairC tagC beC
-head-plain q = rw (opt-plain idC (λ i. i) id-plain (q .tip))
+pub head-plain : (k : ℕ) (q : Queue) → headK k .enc (headFor (storeOf q)) ≡ headUnder k q
+unfolding headK headUnder limitsC mapC pairC tagC beC
+head-plain k q = rw (opt-plain idC (λ i. i) id-plain (q .tip))
 
 pub queue-plain : (q : Queue) → queueC .enc q ≡ queueBytes q
 unfolding queueBytes
-queue-plain q = queue-enc q ∙ rw (head-plain q, recs-plain (q .recs))
+queue-plain q = queue-enc q ∙ rw (head-plain newest q, recs-plain (q .recs))
 
 pub area-plain : (q : Queue) → layout q ≡ areaBytes q
 unfolding layout areaBytes
 area-plain q = rw (queue-plain q)
 
-lines-plain : (l : List Rec) → encs (formC true recC) l ≡ concat (map (λ r. line (recBytes r)) l)
+lines-plain : (k : ℕ) (l : List Rec) → encs (recIn (textForm k)) l ≡ concat (map (λ r. line (recBytes r)) l)
 unfolding encs formC lineEnc
-lines-plain [] = refl
-lines-plain (r ∷ l) = rw (rec-plain r, lines-plain l)
+lines-plain k [] = refl
+lines-plain k (r ∷ l) = rw (rec-enc k r, rec-plain r, lines-plain k l)
 
-pub image-plain : (q : Queue) → image q ≡ imageBytes q
-unfolding image lineEnc imageBytes
-image-plain q = image-enc (storeOf q) ∙ rw (head-plain q, lines-plain (q .recs))
+pub image-plain : (k : ℕ) (q : Queue) → image k q ≡ imageUnder k q
+unfolding image lineEnc imageUnder
+image-plain k q = image-enc k (storeOf q) ∙ rw (head-plain k q, lines-plain k (q .recs))

@@ -16,7 +16,7 @@ use Rattle.queue.specs.Releasing.{nextL}
 use Rattle.queue.specs.paper.Records.{Bytes, Id, Rec, mined}
 use Rattle.queue.specs.paper.Lists.{filter, map}
 use Rattle.queue.specs.paper.Sound.{holder?}
-use Rattle.queue.specs.paper.Changing.{finished, releaseOne}
+use Rattle.queue.specs.paper.Changing.{withdrawnMark, finished, releaseOne}
 use Rattle.queue.specs.declared.frame.Seen.{Seen}
 use Rattle.queue.specs.declared.frame.Facts.{Facts}
 use Rattle.queue.specs.declared.touch.Verdict.{Verdict}
@@ -41,7 +41,7 @@ unfoldable pub reasonN : ℕ → ℕ → Facts → ℕ
 reasonN what n f = cond (eqb n 0) (cond (eqb what 0) (f .reason) (cond (eqb what 1) 0 (cond (eqb what 2) 0 5))) 0
 
 unfoldable pub markN : ℕ → Facts → ℕ
-markN what f = cond (eqb what 1 && (eqb (f .state) 4 || eqb (f .state) 5)) (f .state) (f .mark)
+markN what f = cond (eqb what 1) (withdrawnMark (f .state) (f .reason) (f .mark)) (f .mark)
 
 -- the bytes of its place, and of what stands behind its mark
 unfoldable pub placeN : Bytes → ℕ → Seen → Bytes → Verdict → Bytes

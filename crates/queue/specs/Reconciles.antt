@@ -22,7 +22,7 @@ use Rattle.queue.specs.paper.Records.{Id, Limits, Held, Rec, Queue, queu
 use Rattle.queue.specs.paper.Lists.{isSome, one, all?, any?, total, filter, find, sort, map, maybe, isEmpty?}
 use Rattle.queue.specs.paper.Ids.{same?}
 use Rattle.queue.specs.paper.Sound.{holder?, pending?, mined?, inputs, content, among?, holders, holderBytes, tombstones, heldRight?, reasonRight?, placeRight?, markRight?}
-use Rattle.queue.specs.paper.Changing.{Out, refused, done, top, topHeight, moved, finished, Applied, Reconciling, confirmed?, confirm, judge, touchFound, touch, minedHeight, newer?, releases, onePast, placeIn, releaseOne, trimmed, reconcile, remade, ownOf, touchedRecs, toRelease, committed}
+use Rattle.queue.specs.paper.Changing.{withdrawnMark, Out, refused, done, top, topHeight, moved, finished, Applied, Reconciling, confirmed?, confirm, judge, touchFound, touch, minedHeight, newer?, releases, onePast, placeIn, releaseOne, trimmed, reconcile, remade, ownOf, touchedRecs, toRelease, committed}
 
 abbrev pub AppliedOk : Applied → Type 0
 AppliedOk a = (a .height < 256 ^ 4) × idC .ok (a .block)
@@ -78,23 +78,25 @@ or-right : (a : Bool) → (a || true) ≡ true
 or-right true = refl
 or-right false = refl
 
-marked : (m : ℕ) (h : Bool) → (eqb m 4 || eqb m 5) ≡ true → h ≡ false → markRight? mined h m ≡ true
+marked : (m : ℕ) (h : Bool) → (eqb m 3 || (eqb m 4 || eqb m 5)) ≡ true → h ≡ false → markRight? mined h m ≡ true
 marked m h x y = rw (x, y) (or-right (eqb m 0))
 
 -- a mark stays right on a record that becomes Mined
 mined-mark : (s : ℕ) (h : Bool) (m : ℕ) → markRight? s h m ≡ true → markRight? mined h m ≡ true
 mined-mark s h m b = or-true (eqb m 0) _ b
     (λ u. rw u)
-    (λ _ u. let x = and-true (eqb m 4 || eqb m 5) (eqb s mined && not h) u in marked m h (x .0) (not-true h (and-true (eqb s mined) (not h) (x .1) .1)))
+    (λ _ u. let x = and-true (eqb m 3 || (eqb m 4 || eqb m 5)) (eqb s mined && not h) u in marked m h (x .0) (not-true h (and-true (eqb s mined) (not h) (x .1) .1)))
 
-confirm-mark : (s : ℕ) (h : Bool) (m : ℕ) → heldRight? s h ≡ true → markRight? s h m ≡ true → markRight? mined h (cond (eqb s cancelled || eqb s expired) s m) ≡ true
-confirm-mark s h m a b = cases (eqb s cancelled || eqb s expired)
-    (λ t. rw t (marked s h t (withdrawn-tomb s h a t)))
-    (λ t. rw t (mined-mark s h m b))
+confirm-mark : (s n : ℕ) (h : Bool) (m : ℕ) → heldRight? s h ≡ true → markRight? s h m ≡ true → markRight? mined h (withdrawnMark s n m) ≡ true
+confirm-mark s n h m a b = cases (eqb s expired && eqb n 3)
+    (λ t. let x = and-true (eqb s expired) (eqb n 3) t .0 in rw t (marked 3 h refl (withdrawn-tomb s h a (rw x (or-right (eqb s cancelled))))))
+    (λ t. cases (eqb s cancelled || eqb s expired)
+    (λ u. rw (t, u) (marked s h (rw u (or-right (eqb s 3))) (withdrawn-tomb s h a u)))
+    (λ u. rw (t, u) (mined-mark s h m b)))
 
 confirm-right : (K c : ℕ) (a : Applied) (r : Rec) → Right K c r → Right K c (confirm a r)
 unfolding confirm
-confirm-right K c a r h = record { held = refl; reason = refl; place = refl; mark = confirm-mark (r .state) (holder? r) (r .mark) (h .held) (h .mark); finish = h .finish; label = h .label; ins = h .ins; outs = h .outs; size = h .size }
+confirm-right K c a r h = record { held = refl; reason = refl; place = refl; mark = confirm-mark (r .state) (r .reason) (holder? r) (r .mark) (h .held) (h .mark); finish = h .finish; label = h .label; ins = h .ins; outs = h .outs; size = h .size }
 
 held-now : (s : ℕ) (h : Bool) → h ≡ true → pending? s ≡ true → heldRight? s h ≡ true
 held-now s h e p = rw (e, p)
@@ -132,7 +134,7 @@ module _ (c : Reconciling) (own : List Id) (ok : All AppliedOk (c .applied)) whe
   pub touched-fields : (r : Rec) → Fields r → Fields (touched r)
   unfolding confirm placeC optC pairC beC
   touched-fields r h = touch-cases Fields c own ok r h
-      (λ a k. record { id = h .id; state = omega arith; reason = omega arith; terms = h .terms; place = k; mark = pick (eqb (r .state) cancelled || eqb (r .state) expired) (r .state) (r .mark) (h .state) (h .mark); finish = h .finish; body = h .body })
+      (λ a k. record { id = h .id; state = omega arith; reason = omega arith; terms = h .terms; place = k; mark = pick (eqb (r .state) expired && eqb (r .reason) 3) 3 _ (omega arith) (pick (eqb (r .state) cancelled || eqb (r .state) expired) (r .state) (r .mark) (h .state) (h .mark)); finish = h .finish; body = h .body })
       (λ p. record { id = h .id; state = omega arith; reason = omega arith; terms = h .terms; place = h .place; mark = h .mark; finish = h .finish; body = h .body })
       (λ p. record { id = h .id; state = omega arith; reason = omega arith; terms = h .terms; place = h .place; mark = h .mark; finish = h .finish; body = h .body })
     where
@@ -252,7 +254,7 @@ mined-place s false n e = false-true (rw n at e)
 tomb-mark : (s : ℕ) (h : Bool) (m : ℕ) → markRight? s h m ≡ true → markRight? mined false m ≡ true
 tomb-mark s h m b = or-true (eqb m 0) _ b
     (λ u. rw u)
-    (λ _ u. marked m false (and-true (eqb m 4 || eqb m 5) (eqb s mined && not h) u .0) refl)
+    (λ _ u. marked m false (and-true (eqb m 3 || (eqb m 4 || eqb m 5)) (eqb s mined && not h) u .0) refl)
 
 released-right : (K c d k : ℕ) (r : Rec) → mined? r ≡ true → 1 ≤ k → k ≤ d → Right K c r → Right K d (finished mined 0 k r)
 unfolding finished

@@ -49,10 +49,10 @@ againQ ids q = committed (q .cursor) (q .tip) (q .counter) (map (again ids) (q .
 
 -- the state and the reason that a record gets
 unfoldable pub stateF : Facts → ℕ
-stateF f = cond (eqb (f .mark) 0) (cond (f .holder) 0 5) (f .mark)
+stateF f = cond (eqb (f .mark) 0) (cond (f .holder) 0 5) (cond (eqb (f .mark) 4) 4 5)
 
 unfoldable pub reasonF : Facts → ℕ
-reasonF f = cond (eqb (f .mark) 0) (cond (f .holder) 4 3) (cond (eqb (f .mark) 4) 1 2)
+reasonF f = cond (eqb (f .mark) 0) (cond (f .holder) 4 3) (cond (eqb (f .mark) 4) 1 (cond (eqb (f .mark) 5) 2 3))
 
 -- a record's bytes up to its terms
 unfoldable pub leadBytes : Id → ℕ → ℕ → Bytes

@@ -10,8 +10,8 @@ use borrow.Author.Tests.{leb-true, le-leb, eqb-true, eqb-false, eq-eqb, ne-eqb, 
 use Rattle.queue.specs.Codec.{cases, All, beC, pairC, mapC, optC}
 use Rattle.queue.specs.Lists.{Pairwise, and-true, and-both, all-of, of-all, all-map}
 use Rattle.queue.specs.ReadLaws.{false-true}
-use Rattle.queue.specs.Frames.{tagC, idC, termsC, placeC, bodyC, recC, limitsC, headC}
-use Rattle.queue.specs.Forms.{storeOf, queueC, store-ok, ok-store, queue-ok, ok-queue}
+use Rattle.queue.specs.Frames.{tagC, idC, termsC, placeC, bodyC, recK, recC, limitsC, headK}
+use Rattle.queue.specs.Forms.{areaForm, storeOf, queueC, store-ok, ok-store, queue-ok, ok-queue}
 use Rattle.queue.specs.Order.{same-is, same-self, below-trans, or-false, or-true}
 use Rattle.queue.specs.paper.Records.{Id, Limits, Rec, Queue}
 use Rattle.queue.specs.paper.Lists.{isSome, one, all?, count, map}
@@ -288,7 +288,7 @@ pub record Fields (r : Rec) : Type 0 where
   pub body : bodyC .ok (r .body)
 
 pub fields-of : (r : Rec) → recC .ok r → Fields r
-unfolding recC mapC pairC beC tagC
+unfolding recK mapC pairC beC tagC
 fields-of r h = record {
   id = h .1 .0;
   state = h .1 .1 .0;
@@ -301,8 +301,8 @@ fields-of r h = record {
 }
 
 pub of-fields : (r : Rec) → Fields r → recC .ok r
-unfolding recC mapC pairC beC tagC
-of-fields r h = (tt, (h .id, (h .state, (h .reason, (h .terms, (h .place, (h .mark, (h .finish, h .body))))))))
+unfolding recK mapC pairC beC tagC
+of-fields r h = (omega arith, (h .id, (h .state, (h .reason, (h .terms, (h .place, (h .mark, (h .finish, h .body))))))))
 
 -- a sound queue whose numbers fit
 pub record Fit (q : Queue) : Type 0 where
@@ -315,10 +315,10 @@ pub record Fit (q : Queue) : Type 0 where
   pub recs : All Fields (q .recs)
 
 pub fit-of : (q : Queue) → sound? q ≡ true → queueC .ok q → Fit q
-unfolding headC mapC pairC beC tagC
+unfolding headK mapC pairC beC tagC
 fit-of q e o =
     let a = ok-queue q o in
-    let b = ok-store false (storeOf q) (a .1) in
+    let b = ok-store areaForm (storeOf q) (a .1) in
     let h = b .0 in
     record {
       sound = sound-of q e;
@@ -343,9 +343,9 @@ pub fit-sound : (q : Queue) → Fit q → sound? q ≡ true
 fit-sound q f = of-sound q (f .sound)
 
 pub fit-ok : (q : Queue) → Fit q → queueC .ok q
-unfolding headC mapC pairC beC tagC
+unfolding headK mapC pairC beC tagC
 fit-ok q f =
     let s = f .sound in
     let n : length (q .recs) < 256 ^ 4 = let a = s .few in let b = s .range .P-high in let c = s .range .T-high in omega arith in
-    queue-ok q (f .persisted) (store-ok false (storeOf q)
-    ((tt, (limits-ok (q .limits) (s .range), (f .revision, (f .cursor, (f .tip, (f .counter, n)))))), all-map (q .recs) of-fields (f .recs)))
+    queue-ok q (f .persisted) (store-ok areaForm (storeOf q)
+    ((omega arith, (limits-ok (q .limits) (s .range), (f .revision, (f .cursor, (f .tip, (f .counter, n)))))), all-map (q .recs) of-fields (f .recs)))

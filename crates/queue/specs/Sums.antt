@@ -4,8 +4,7 @@ use mathlib.Core.Bool.{Bool, true, false, _&&_}
 use mathlib.Core.List.{List}
 use Prim.Native.Nat.{ℕ, _+_, _-_, _*_, _≤_}
 use lib.Dec.{leb}
-use Rattle.queue.specs.Frames.{recC}
-use Rattle.queue.specs.Forms.{formC, Many}
+use Rattle.queue.specs.Forms.{recIn, Many}
 use Rattle.queue.specs.Reads.{listAt}
 use Rattle.queue.specs.Rules.{rightF, weight, sum}
 use Rattle.queue.specs.paper.Ids.{rise?}
@@ -13,6 +12,7 @@ use Rattle.queue.specs.paper.Records.{Bytes, Rec}
 use Rattle.queue.specs.paper.Lists.{all?, map}
 use Rattle.queue.specs.paper.Sound.{right?}
 use Rattle.queue.specs.declared.frame.Facts.{Facts}
+use Rattle.queue.specs.declared.frame.Form.{Form}
 use Rattle.queue.specs.declared.frame.Finish.{Finish}
 use Rattle.queue.specs.declared.scan.Sums.{Sums}
 use Rattle.queue.specs.declared.scan.Read.{Read}
@@ -47,9 +47,9 @@ pub record SumsAs (k : ℕ) (c : Finish) (a : Sums) (l : List Rec) : Type 0 wher
   pub right : a .right ≡ all? (right? k (c .0)) l
   pub rises : a .rises ≡ rise? (map (λ r. r .id) l)
 
-pub record Checked (hex : Bool) (s : Bytes) (at n k : ℕ) (c : Finish) (r : Read) : Type 0 where
-  pub many : Many (formC hex recC) s at n (r .ok) (r .next)
-  pub sums : r .ok ≡ true → SumsAs k c (r .sums) (listAt (formC hex recC) n s at)
+pub record Checked (form : Form) (s : Bytes) (at n k : ℕ) (c : Finish) (r : Read) : Type 0 where
+  pub many : Many (recIn form) s at n (r .ok) (r .next)
+  pub sums : r .ok ≡ true → SumsAs k c (r .sums) (listAt (recIn form) n s at)
 
 -- the counts of n records are within the limits
 unfoldable pub countsN : ℕ → ℕ → ℕ → ℕ → Sums → Bool

@@ -2,6 +2,7 @@ pub mod Records
 pub mod Lists
 pub mod Ids
 pub mod Sound
+pub mod Kinds
 pub mod Area
 pub mod Changing
 pub mod Decisions

@@ -200,7 +200,7 @@ fn put_among(
     let mut o = to;
     let mut placed = false;
     while 0 < left {
-        let y = rec_at(src, false, i);
+        let y = rec_at(src, i);
         let k = y.id;
         let c = cmp_id(id, k);
         let due = both(!placed, c == 0);
@@ -458,7 +458,7 @@ fn admit_found(
     requires { ⌜ FoundIn (now cur) a id at × AskedIn x id (now inputs) (now outputs) (now bytes) (now label) (now tip) (a .open .head .k) × (a .need ≤ length (now next)) ⌝ }
     ensures { λ r. ⌜ FoundTold (now (cur .entry)) (argsOf x id (now (inputs .entry)) (now (outputs .entry)) (now (bytes .entry)) (now (label .entry)) (now (tip .entry))) (outcome r (now (next .exit)) (now (out .exit))) (now (next .entry)) (now (out .entry)) ⌝ }
 {
-    let y = rec_at(cur, false, at);
+    let y = rec_at(cur, at);
     let f = y.facts;
     if either(pending(f.state), f.state == 2) {
         let n = entry_len(y);

@@ -1,7 +1,9 @@
 // A queue found in bytes or in a text, and whether it is sound.
 use super::forms::after_in;
 use super::forms::ends_line;
+use super::frame::AREA;
 use super::frame::Finish;
+use super::frame::Form;
 use super::frame::HeadR;
 use super::frame::Height;
 use super::frame::head_at;
@@ -21,7 +23,7 @@ ghost use Prim.Native.Nat.{_+_, _-_, _*_, _≤_, _<_};
 ghost use lib.Dec.{leb};
 ghost use lib.ListN.{length};
 ghost use Rattle.queue.specs.Frames.{recC};
-ghost use Rattle.queue.specs.Forms.{formC, storeC};
+ghost use Rattle.queue.specs.Forms.{formC, recIn, storeIn};
 ghost use Rattle.queue.specs.Reads.{Reads, whole, listAt};
 ghost use Rattle.queue.specs.Sums.{SumsAs, countsN};
 ghost use Rattle.queue.specs.Opens.{limits, StoreAs, soundL, FilledAs, AreaIs};
@@ -35,7 +37,8 @@ pub struct Open {
     pub sums: Sums,
 }
 
-fn no_store() -> Open {
+// No queue.
+pub fn no_store() -> Open {
     let head = HeadR {
         ok: false,
         p: 0,
@@ -60,12 +63,13 @@ fn no_store() -> Open {
     }
 }
 
-// A header frame at base, and as many record frames as it says.
-pub fn store_at(s: &[u8], hex: bool, base: usize) -> Open
+// A header frame at base, and as many record frames as it says, in one form.
+pub fn store_at(s: &[u8], form: Form, base: usize) -> Open
     requires { ⌜ base ≤ length (now s) ⌝ }
-    ensures { λ r. ⌜ Reads (storeC hex) (now (s .entry)) base (r .ok) (r .next) (StoreAs hex (now (s .entry)) base r) ⌝ }
+    ensures { λ r. ⌜ Reads (storeIn form) (now (s .entry)) base (r .ok) (r .next) (StoreAs form (now (s .entry)) base r) ⌝ }
 {
-    let h = head_at(s, hex, base);
+    let hex = form.hex;
+    let h = head_at(s, form, base);
     if !h.ok {
         return Open {
             ok: false,
@@ -86,7 +90,7 @@ pub fn store_at(s: &[u8], hex: bool, base: usize) -> Open
     }
     let start = after_in(s, hex, base, h.size);
     let c = h.counter;
-    let p = frames(s, hex, start, h.count, h.k, c);
+    let p = frames(s, form, start, h.count, h.k, c);
     let a = p.sums;
     Open {
         ok: p.ok,
@@ -107,9 +111,9 @@ fn counts_ok(n: u64, p: u64, b: u64, t: u64, a: Sums) -> bool
 }
 
 // The rules of a sound queue. Once the counts are right the tables of the last two are large enough.
-pub fn sound_at(s: &[u8], hex: bool, x: Open) -> bool
-    requires { ⌜ (x .start ≤ length (now s)) × (whole (formC hex recC) (x .head .count) (now s) (x .start) ≡ true) × SumsAs (x .head .k) (x .head .counter) (x .sums) (listAt (formC hex recC) (x .head .count) (now s) (x .start)) ⌝ }
-    ensures { λ r. ⌜ r ≡ soundL (limits (x .head .p) (x .head .b) (x .head .t) (x .head .k)) (x .head .counter .0) (listAt (formC hex recC) (x .head .count) (now (s .entry)) (x .start)) ⌝ }
+pub fn sound_at(s: &[u8], form: Form, x: Open) -> bool
+    requires { ⌜ (x .start ≤ length (now s)) × (whole (recIn form) (x .head .count) (now s) (x .start) ≡ true) × SumsAs (x .head .k) (x .head .counter) (x .sums) (listAt (recIn form) (x .head .count) (now s) (x .start)) ⌝ }
+    ensures { λ r. ⌜ r ≡ soundL (limits (x .head .p) (x .head .b) (x .head .t) (x .head .k)) (x .head .counter .0) (listAt (recIn form) (x .head .count) (now (s .entry)) (x .start)) ⌝ }
 {
     let h = x.head;
     let a = x.sums;
@@ -122,8 +126,8 @@ pub fn sound_at(s: &[u8], hex: bool, x: Open) -> bool
     if !both(a.right, a.rises) {
         return false;
     }
-    let d = distinct(s, hex, x.start, h.count, h.count - a.holders);
-    let o = apart(s, hex, x.start, h.count, a.inputs <= 8192);
+    let d = distinct(s, form, x.start, h.count, h.count - a.holders);
+    let o = apart(s, form, x.start, h.count, a.inputs <= 8192);
     both(d, o)
 }
 
@@ -141,7 +145,7 @@ fn filled(s: &[u8], x: Open) -> Span
     ensures { λ r. ⌜ FilledAs (now (s .entry)) x r ⌝ }
 {
     let h = x.head;
-    if !sound_at(s, false, x) {
+    if !sound_at(s, AREA, x) {
         return Span { ok: false, next: 0 };
     }
     let m = Limits::need(h.p, h.b, h.t, h.k);
@@ -170,7 +174,7 @@ pub fn area_at(s: &[u8]) -> Area
             need: 0,
         };
     }
-    let x = store_at(s, false, 4);
+    let x = store_at(s, AREA, 4);
     if !x.ok {
         return Area {
             ok: false,

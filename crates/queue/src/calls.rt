@@ -154,7 +154,7 @@ fn cancel_found(
     requires { ⌜ FoundIn (now cur) a id at × (a .need ≤ length (now next)) ⌝ }
     ensures { λ r. ⌜ CancelTold (now (cur .entry)) id (outcome r (now (next .exit)) (now (out .exit))) (now (next .entry)) (now (out .entry)) ⌝ }
 {
-    let x = rec_at(cur, false, at);
+    let x = rec_at(cur, at);
     let f = x.facts;
     if f.state == 2 {
         return Answer::Refused(14);
@@ -217,7 +217,7 @@ fn put_ids(s: &[u8], at: usize, n: u64, c: Change, id: [u8; 32], dst: &mut [u8],
     let mut left = n;
     let mut o = to;
     while 0 < left {
-        let x = rec_at(s, false, i);
+        let x = rec_at(s, i);
         let y = x.id;
         o = put_id_if(picks(c, id, x), y, dst, o);
         i = i + x.size;

@@ -132,7 +132,7 @@ fn any_input(s: &[u8], at: usize, n: u64, ids: &[u8], m: u64, v: &[u64], ordered
     let mut i = at;
     let mut left = n;
     while 0 < left {
-        let x = rec_at(s, false, i);
+        let x = rec_at(s, i);
         let f = x.facts;
         if any_lent(s, i, x.at, f.ins, ids, m, v, ordered) {
             return true;

@@ -221,7 +221,7 @@ fn candidate_at(s: &[u8], p: usize) -> Candidate
     requires { ⌜ Stands (now s) p ⌝ }
     ensures { λ r. ⌜ (r .size ≡ sizeOf (recAt (now (s .entry)) p)) × (r .fee ≡ feeOf (recAt (now (s .entry)) p)) ⌝ }
 {
-    let x = rec_at(s, false, p);
+    let x = rec_at(s, p);
     let f = x.facts;
     let n = num(s, false, p, x.after - 20, 8);
     Candidate {

@@ -1,4 +1,5 @@
 // Finishing and forgetting: the records of an area, some of them finished, those forgotten left out, written to another area.
+use super::frame::AREA;
 use super::frame::Facts;
 use super::frame::Finish;
 use super::frame::Height;
@@ -139,7 +140,7 @@ pub fn hits(s: &[u8], at: usize, n: u64, c: Change, id: [u8; 32]) -> u64
     let mut left = n;
     let mut total: u64 = 0;
     while 0 < left {
-        let x = rec_at(s, false, i);
+        let x = rec_at(s, i);
         total = total + one_if(picks(c, id, x));
         i = i + x.size;
         left = left - 1;
@@ -153,7 +154,7 @@ pub fn floor(s: &[u8], at: usize, n: u64, num: u64, m: u64, t: u64) -> u64
     ensures { λ r. ⌜ ((sum Query.Tombstones (listAt (formC false recC) n (now (s .entry)) at) + m ≤ t) × (r ≡ 0)) ⊎ ((x : ℕ) → ltb (above num m (listAt (formC false recC) n (now (s .entry)) at) x) t ≡ leb r x) ⌝ }
 {
     let mut v = [0u64; 1024];
-    let k = gather(s, false, at, n, &mut v);
+    let k = gather(s, AREA, at, n, &mut v);
     if k as u64 + m <= t {
         return 0;
     }
@@ -183,7 +184,7 @@ pub fn rewrite(
     let mut kept: u64 = 0;
     let mut given = num.0;
     while 0 < left {
-        let x = rec_at(src, false, i);
+        let x = rec_at(src, i);
         let f = x.facts;
         let hit = picks(c, id, x);
         let t = decide(hit, state, reason, Finish(given), floor, f);

@@ -2,6 +2,7 @@
 use super::logic::all4;
 use super::logic::all8;
 use super::logic::both;
+use super::logic::either;
 use super::near::rec_near;
 use super::view::be;
 use super::view::fetch;
@@ -9,12 +10,14 @@ use super::view::id_at;
 use super::view::size;
 ghost use mathlib.Core.Path.{_≡_};
 ghost use Prim.Native.Nat.{_+_, _≤_, _<_, _^_};
-ghost use lib.ListN.{length};
+ghost use lib.ListN.{length, getD};
 ghost use Rattle.queue.specs.Codec.{beC, optC};
-ghost use Rattle.queue.specs.Frames.{idC, labelC, termsC, placeC, bodyC, restC, recC, limitsC, headC};
+ghost use Rattle.queue.specs.Frames.{idC, labelC, termsC, placeC, bodyC, restK, recK, recC, limitsC, headK};
 ghost use Rattle.queue.specs.Reads.{Reads, Span, OptSpan, Counted, flagC};
-ghost use Rattle.queue.specs.Facts.{TagAt, NumAt, OptAt, PlaceAs, TermsAs, BodyAs, RestAs, SeenAs, LimAs, HeadAs};
+ghost use Rattle.queue.specs.Facts.{TagAt, MarkAt, NumAt, OptAt, PlaceAs, TermsAs, BodyAs, RestAs, SeenAs, LimAs, HeadAs};
+ghost use mathlib.Core.Bool.{false};
 ghost use Rattle.queue.specs.paper.Sound.{labelLen};
+ghost use Rattle.queue.specs.paper.Kinds.{kind?};
 ghost use Rattle.queue.specs.View.{view};
 
 // Milliseconds.
@@ -25,6 +28,21 @@ pub struct Height(pub u64);
 
 // A finish number.
 pub struct Finish(pub u64);
+
+// How the frames of a queue stand: as bytes or as lines of text, and under which header kind.
+pub struct Form {
+    pub hex: bool,
+    pub kind: u8,
+}
+
+// The header kind that is written.
+pub const NEWEST: u8 = 3;
+
+// The frames of an area.
+pub const AREA: Form = Form {
+    hex: false,
+    kind: NEWEST,
+};
 
 pub struct Part {
     pub ok: bool,
@@ -445,11 +463,26 @@ pub fn body_at(s: &[u8], hex: bool, base: usize, at: usize) -> BodyR
     }
 }
 
-pub fn rest_at(s: &[u8], hex: bool, base: usize, at: usize) -> RestR
-    ensures { λ r. ⌜ Reads restC (view hex (now (s .entry)) base) at (r .ok) (r .next) (RestAs (view hex (now (s .entry)) base) at r) ⌝ }
+// The withdrawn mark. Mark 3 came with kind 03.
+fn mark_at(s: &[u8], form: Form, base: usize, at: usize) -> NumR
+    ensures { λ r. ⌜ MarkAt (form .kind) (view (form .hex) (now (s .entry)) base) at (r .ok) (r .next) (r .value) ⌝ }
 {
+    let m = num(s, form.hex, base, at, 1);
+    let said = either(3 <= form.kind, m.value != 3);
+    let ok = both(m.ok, said);
+    NumR {
+        ok: ok,
+        value: m.value,
+        next: m.next,
+    }
+}
+
+fn rest_at(s: &[u8], form: Form, base: usize, at: usize) -> RestR
+    ensures { λ r. ⌜ Reads (restK (form .kind)) (view (form .hex) (now (s .entry)) base) at (r .ok) (r .next) (RestAs (view (form .hex) (now (s .entry)) base) at r) ⌝ }
+{
+    let hex = form.hex;
     let a = place_at(s, hex, base, at);
-    let b = num(s, hex, base, a.next, 1);
+    let b = mark_at(s, form, base, a.next);
     let c = num(s, hex, base, b.next, 8);
     let d = body_at(s, hex, base, c.next);
     let ok = all4(a.ok, b.ok, c.ok, d.ok);
@@ -467,15 +500,16 @@ pub fn rest_at(s: &[u8], hex: bool, base: usize, at: usize) -> RestR
     }
 }
 
-fn rec_any(s: &[u8], hex: bool, base: usize) -> Seen
-    ensures { λ r. ⌜ Reads recC (view hex (now (s .entry)) base) 0 (r .ok) (r .size) (SeenAs (view hex (now (s .entry)) base) r) ⌝ }
+fn rec_any(s: &[u8], form: Form, base: usize) -> Seen
+    ensures { λ r. ⌜ Reads (recK (form .kind)) (view (form .hex) (now (s .entry)) base) 0 (r .ok) (r .size) (SeenAs (view (form .hex) (now (s .entry)) base) r) ⌝ }
 {
+    let hex = form.hex;
     let a = tag_at(s, hex, base, 0, 2);
     let b = id_read(s, hex, base, a.next);
     let c = num(s, hex, base, b.next, 1);
     let d = num(s, hex, base, c.next, 1);
     let t = terms_at(s, hex, base, d.next);
-    let e = rest_at(s, hex, base, t.next);
+    let e = rest_at(s, form, base, t.next);
     let h = e.held;
     let created = t.created;
     let due = t.due;
@@ -518,20 +552,30 @@ fn rec_any(s: &[u8], hex: bool, base: usize) -> Seen
     }
 }
 
-// A record. Most are read the short way.
-pub fn rec_at(s: &[u8], hex: bool, base: usize) -> Seen
-    ensures { λ r. ⌜ Reads recC (view hex (now (s .entry)) base) 0 (r .ok) (r .size) (SeenAs (view hex (now (s .entry)) base) r) ⌝ }
+// A record of an area. Most are read the short way.
+pub fn rec_at(s: &[u8], base: usize) -> Seen
+    ensures { λ r. ⌜ Reads recC (view false (now (s .entry)) base) 0 (r .ok) (r .size) (SeenAs (view false (now (s .entry)) base) r) ⌝ }
 {
-    if hex {
-        return rec_any(s, true, base);
-    }
     if size(s, false, base) < 400 {
-        return rec_any(s, false, base);
+        return rec_any(s, AREA, base);
     }
     if fetch(s, false, base, 0) != 2 {
-        return rec_any(s, false, base);
+        return rec_any(s, AREA, base);
     }
     rec_near(s, base)
+}
+
+// A record in any form.
+pub fn rec_in(s: &[u8], form: Form, base: usize) -> Seen
+    ensures { λ r. ⌜ Reads (recK (form .kind)) (view (form .hex) (now (s .entry)) base) 0 (r .ok) (r .size) (SeenAs (view (form .hex) (now (s .entry)) base) r) ⌝ }
+{
+    if form.hex {
+        return rec_any(s, form, base);
+    }
+    if form.kind != NEWEST {
+        return rec_any(s, form, base);
+    }
+    rec_at(s, base)
 }
 
 pub fn limits_at(s: &[u8], hex: bool, base: usize, at: usize) -> Lim
@@ -552,10 +596,28 @@ pub fn limits_at(s: &[u8], hex: bool, base: usize, at: usize) -> Lim
     }
 }
 
-pub fn head_at(s: &[u8], hex: bool, base: usize) -> HeadR
-    ensures { λ r. ⌜ Reads headC (view hex (now (s .entry)) base) 0 (r .ok) (r .size) (HeadAs (view hex (now (s .entry)) base) r) ⌝ }
+// The first byte of the frame at base, which tells the header kind; 0 if there is none.
+pub fn kind_at(s: &[u8], hex: bool, base: usize) -> u8
+    ensures { λ r. ⌜ r ≡ getD (view hex (now (s .entry)) base) 0 0 ⌝ }
 {
-    let a = tag_at(s, hex, base, 0, 1);
+    if size(s, hex, base) == 0 {
+        return 0;
+    }
+    fetch(s, hex, base, 0)
+}
+
+// Is it a header kind?
+pub fn known(kind: u8) -> bool
+    ensures { λ r. ⌜ r ≡ kind? kind ⌝ }
+{
+    either(kind == 1, kind == 3)
+}
+
+pub fn head_at(s: &[u8], form: Form, base: usize) -> HeadR
+    ensures { λ r. ⌜ Reads (headK (form .kind)) (view (form .hex) (now (s .entry)) base) 0 (r .ok) (r .size) (HeadAs (view (form .hex) (now (s .entry)) base) r) ⌝ }
+{
+    let hex = form.hex;
+    let a = tag_at(s, hex, base, 0, form.kind);
     let m = limits_at(s, hex, base, a.next);
     let r = num(s, hex, base, m.next, 8);
     let c = num(s, hex, base, r.next, 4);

@@ -1,6 +1,7 @@
 // The front of an area: the persisted height and the header.
 use super::frame::Finish;
 use super::frame::Height;
+use super::frame::NEWEST;
 use super::put::put_be;
 use super::put::put_id;
 use super::put::put_u8;
@@ -55,7 +56,7 @@ fn put_start(p: u64, b: u64, t: u64, k: u64, height: Height, revision: u64, dst:
     ensures { λ r. ⌜ Put (now (dst .entry)) 0 (startBytes (limits p b t k) (height .0) revision) 29 r (now (dst .exit)) ⌝ }
 {
     let a = put_be(dst, 0, 4, height.0);
-    let c = put_u8(dst, a, 1);
+    let c = put_u8(dst, a, NEWEST);
     let d = put_limits(p, b, t, k, dst, c);
     put_be(dst, d, 8, revision)
 }

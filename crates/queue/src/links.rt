@@ -126,7 +126,7 @@ fn keep_rows(
             return Block { next: b, len: k };
         }
         let p = at[b];
-        let x = rec_at(s, false, p);
+        let x = rec_at(s, p);
         let f = x.facts;
         k = keep_ids(s, p, x.at, f.ins, b as u64, slots, t, v, k);
         b += 1;
@@ -281,7 +281,7 @@ fn link_all(
     let mut o: usize = 0;
     while i < at.len() {
         let p = at[i];
-        let x = rec_at(s, false, p);
+        let x = rec_at(s, p);
         let f = x.facts;
         let l = Line {
             width: w,

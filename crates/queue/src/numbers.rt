@@ -3,7 +3,8 @@ use super::filter::mark;
 use super::filter::seen;
 use super::forms::after_in;
 use super::frame::Facts;
-use super::frame::rec_at;
+use super::frame::Form;
+use super::frame::rec_in;
 use super::logic::one_if;
 use super::suspects::Order;
 use super::suspects::order_rows;
@@ -14,8 +15,7 @@ ghost use Prim.Native.Nat.{ℕ, _+_, _≤_, _<_};
 ghost use lib.Dec.{ltb, leb, eqb};
 ghost use lib.ListN.{length, take};
 ghost use Rattle.queue.specs.Codec.{All};
-ghost use Rattle.queue.specs.Frames.{recC};
-ghost use Rattle.queue.specs.Forms.{formC};
+ghost use Rattle.queue.specs.Forms.{recIn};
 ghost use Rattle.queue.specs.Reads.{whole, listAt};
 ghost use Rattle.queue.specs.Finishing.{newAbove};
 ghost use Rattle.queue.specs.Numbers.{numberF, numbersOf, timesIn, overIn, Differ, Steps};
@@ -35,18 +35,18 @@ fn add_number(f: Facts, v: &mut [u64], k: usize) -> usize
 }
 
 // The numbers of the tombstones among n records at `at`, and how many there are.
-pub fn gather(s: &[u8], hex: bool, at: usize, n: u64, v: &mut [u64]) -> usize
-    requires { ⌜ (at ≤ length (now s)) × (whole (formC hex recC) n (now s) at ≡ true) × (tombstones (listAt (formC hex recC) n (now s) at) ≤ length (now v)) ⌝ }
-    ensures { λ r. ⌜ (take r (now (v .exit)) ≡ numbersOf (listAt (formC hex recC) n (now (s .entry)) at)) × (r ≤ length (now (v .entry))) × (length (now (v .exit)) ≡ length (now (v .entry))) ⌝ }
+pub fn gather(s: &[u8], form: Form, at: usize, n: u64, v: &mut [u64]) -> usize
+    requires { ⌜ (at ≤ length (now s)) × (whole (recIn form) n (now s) at ≡ true) × (tombstones (listAt (recIn form) n (now s) at) ≤ length (now v)) ⌝ }
+    ensures { λ r. ⌜ (take r (now (v .exit)) ≡ numbersOf (listAt (recIn form) n (now (s .entry)) at)) × (r ≤ length (now (v .entry))) × (length (now (v .exit)) ≡ length (now (v .entry))) ⌝ }
 {
     let mut i = at;
     let mut left = n;
     let mut k: usize = 0;
     while 0 < left {
-        let x = rec_at(s, hex, i);
+        let x = rec_in(s, form, i);
         let f = x.facts;
         k = add_number(f, v, k);
-        i = after_in(s, hex, i, x.size);
+        i = after_in(s, form.hex, i, x.size);
         left = left - 1;
     }
     k
@@ -149,15 +149,15 @@ fn differ(v: &mut [u64]) -> bool
 }
 
 // Are the finish numbers of the m tombstones among n records at `at` distinct?
-pub fn distinct(s: &[u8], hex: bool, at: usize, n: u64, m: u64) -> bool
-    requires { ⌜ (at ≤ length (now s)) × (whole (formC hex recC) n (now s) at ≡ true) × (tombstones (listAt (formC hex recC) n (now s) at) ≡ m) × (m ≤ 1024) ⌝ }
-    ensures { λ r. ⌜ r ≡ distinct? (listAt (formC hex recC) n (now (s .entry)) at) ⌝ }
+pub fn distinct(s: &[u8], form: Form, at: usize, n: u64, m: u64) -> bool
+    requires { ⌜ (at ≤ length (now s)) × (whole (recIn form) n (now s) at ≡ true) × (tombstones (listAt (recIn form) n (now s) at) ≡ m) × (m ≤ 1024) ⌝ }
+    ensures { λ r. ⌜ r ≡ distinct? (listAt (recIn form) n (now (s .entry)) at) ⌝ }
 {
     if m == 0 {
         return true;
     }
     let mut v = [0u64; 1024];
-    let k = gather(s, hex, at, n, &mut v);
+    let k = gather(s, form, at, n, &mut v);
     differ(&mut v[..k])
 }
 

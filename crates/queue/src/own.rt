@@ -39,7 +39,7 @@ pub fn count_inputs(s: &[u8], at: usize, n: u64) -> u64
     let mut left = n;
     let mut total: u64 = 0;
     while 0 < left {
-        let x = rec_at(s, false, i);
+        let x = rec_at(s, i);
         let f = x.facts;
         total = total + f.ins;
         i = after_in(s, false, i, x.size);
@@ -147,7 +147,7 @@ fn mark_all(
     let mut left = n;
     let mut g: usize = 0;
     while 0 < left {
-        let x = rec_at(s, false, i);
+        let x = rec_at(s, i);
         let f = x.facts;
         mark_ids(s, i, x.at, f.ins, first, ids, m, v, ordered, flags, g);
         g = g + f.ins as usize;
@@ -260,7 +260,7 @@ fn add_queued(
     let mut left = n;
     let mut k: usize = 0;
     while 0 < left {
-        let x = rec_at(s, false, i);
+        let x = rec_at(s, i);
         k = add_outputs(s, at, n, ids, m, v, flags, k, i, x);
         i = after_in(s, false, i, x.size);
         left = left - 1;

@@ -121,7 +121,7 @@ pub fn measure(s: &[u8], at: usize, n: u64, w: What) -> Sizes
     let mut count: u64 = 0;
     let mut size: usize = 0;
     while 0 < left {
-        let x = rec_at(s, false, i);
+        let x = rec_at(s, i);
         let f = x.facts;
         let p = passes(w, f);
         count = count + one_if(p);
@@ -143,7 +143,7 @@ pub fn put_pieces(s: &[u8], from: usize, n: u64, w: What, dst: &mut [u8], at: us
     let mut left = n;
     let mut o = at;
     while 0 < left {
-        let x = rec_at(s, false, i);
+        let x = rec_at(s, i);
         o = add_piece(s, i, x, w, dst, o);
         i = after_in(s, false, i, x.size);
         left = left - 1;

@@ -42,7 +42,7 @@ pub fn find_id(s: &[u8], at: usize, n: u64, id: [u8; 32]) -> Found
     let mut i = at;
     let mut left = n;
     while 0 < left {
-        let x = rec_at(s, false, i);
+        let x = rec_at(s, i);
         let y = x.id;
         if cmp_id(id, y) == 1 {
             return Found { found: true, at: i };
@@ -105,7 +105,7 @@ pub fn signed_place(area: &[u8], id: &[u8]) -> Place
         };
     }
     let at = l.at;
-    let x = rec_at(area, false, at);
+    let x = rec_at(area, at);
     let f = x.facts;
     if !f.holder {
         return Place {
@@ -162,7 +162,7 @@ pub fn entry(area: &[u8], id: &[u8], out: &mut [u8]) -> Answer
         return Answer::Refused(l.refusal);
     }
     let at = l.at;
-    let x = rec_at(area, false, at);
+    let x = rec_at(area, at);
     let n = entry_len(x);
     if out.len() < n {
         return Answer::Refused(4);
@@ -222,7 +222,7 @@ pub fn deadline_due(area: &[u8], time: Time, height: Height, value: &mut u64) ->
     }
     let o = a.open;
     let h = o.head;
-    let n = tally(area, false, o.start, h.count, Query::Due(time, height));
+    let n = tally(area, o.start, h.count, Query::Due(time, height));
     *value = one_if(0 < n);
     Answer::Done(Kind::Nothing)
 }

@@ -148,7 +148,13 @@ fn mark_next(what: u64, f: Facts) -> u64
     requires { ⌜ (f .state < 256) × (f .mark < 256) ⌝ }
     ensures { λ r. ⌜ (r ≡ markN what f) × (r < 256) ⌝ }
 {
-    if both(what == 1, either(f.state == 4, f.state == 5)) {
+    if what != 1 {
+        return f.mark;
+    }
+    if both(f.state == 5, f.reason == 3) {
+        return 3;
+    }
+    if either(f.state == 4, f.state == 5) {
         return f.state;
     }
     f.mark
@@ -281,7 +287,7 @@ pub fn put_all(
     let mut o = to;
     let mut kept: u64 = 0;
     while 0 < left {
-        let x = rec_at(src, false, i);
+        let x = rec_at(src, i);
         let f = x.facts;
         let id = x.id;
         let v = verdict_of(t, vs[j]);

@@ -61,7 +61,7 @@ pub fn gather_mined(
     let mut j: usize = 0;
     let mut c: usize = 0;
     while 0 < left {
-        let x = rec_at(s, false, i);
+        let x = rec_at(s, i);
         let f = x.facts;
         let v = verdict_of(t, vs[j]);
         let sel = mined_after(v.what, f);
@@ -79,7 +79,7 @@ fn bytes_at(s: &[u8], p: usize) -> u64
     requires { ⌜ Stands (now s) p ⌝ }
     ensures { λ r. ⌜ (r ≡ bytesAt (now (s .entry)) p) × (r < 4294967296) ⌝ }
 {
-    let x = rec_at(s, false, p);
+    let x = rec_at(s, p);
     let f = x.facts;
     f.bytes
 }

@@ -106,7 +106,7 @@ fn any_listed(s: &[u8], at: usize, n: u64, ids: &[u8], k: u64) -> bool
     let mut i = at;
     let mut left = n;
     while 0 < left {
-        let x = rec_at(s, false, i);
+        let x = rec_at(s, i);
         if listed(ids, k, x) {
             return true;
         }
@@ -119,10 +119,13 @@ fn any_listed(s: &[u8], at: usize, n: u64, ids: &[u8], k: u64) -> bool
 fn state_again(f: Facts) -> u64
     ensures { λ r. ⌜ r ≡ stateF f ⌝ }
 {
-    if f.mark != 0 {
-        return f.mark;
+    if f.mark == 0 {
+        if f.holder {
+            return 0;
+        }
+        return 5;
     }
-    if f.holder { 0 } else { 5 }
+    if f.mark == 4 { 4 } else { 5 }
 }
 
 fn reason_again(f: Facts) -> u64
@@ -134,7 +137,10 @@ fn reason_again(f: Facts) -> u64
         }
         return 3;
     }
-    if f.mark == 4 { 1 } else { 2 }
+    if f.mark == 4 {
+        return 1;
+    }
+    if f.mark == 5 { 2 } else { 3 }
 }
 
 // A record's bytes up to its terms.
@@ -191,7 +197,7 @@ fn put_records(
     let mut left = n;
     let mut o = to;
     while 0 < left {
-        let x = rec_at(src, false, i);
+        let x = rec_at(src, i);
         let hit = listed(ids, k, x);
         o = put_again(src, i, x, hit, dst, o);
         i = i + x.size;

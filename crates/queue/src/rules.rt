@@ -59,7 +59,10 @@ fn mark_right(state: u64, holder: bool, mark: u64) -> bool
 {
     either(
         mark == 0,
-        both(either(mark == 4, mark == 5), both(state == 2, !holder)),
+        both(
+            either(mark == 3, either(mark == 4, mark == 5)),
+            both(state == 2, !holder),
+        ),
     )
 }
 

@@ -6,8 +6,10 @@ use super::forms::after_in;
 use super::forms::ends_line;
 use super::frame::Facts;
 use super::frame::Finish;
+use super::frame::Form;
 use super::frame::id_read;
 use super::frame::rec_at;
+use super::frame::rec_in;
 use super::logic::both;
 use super::logic::either;
 use super::logic::one_if;
@@ -23,7 +25,7 @@ ghost use mathlib.Core.Bool.{true, false};
 ghost use Prim.Native.Nat.{_+_, _-_, _*_, _≤_, _<_};
 ghost use lib.ListN.{length, take, drop};
 ghost use Rattle.queue.specs.Frames.{recC, idC};
-ghost use Rattle.queue.specs.Forms.{formC};
+ghost use Rattle.queue.specs.Forms.{formC, recIn};
 ghost use Rattle.queue.specs.View.{view};
 ghost use Rattle.queue.specs.Reads.{whole, listAt};
 ghost use Rattle.queue.specs.Rules.{sum};
@@ -39,18 +41,18 @@ pub struct Span {
 }
 
 // What the records count for, for one question.
-pub fn tally(s: &[u8], hex: bool, at: usize, n: u64, q: Query) -> u64
-    requires { ⌜ (at ≤ length (now s)) × (whole (formC hex recC) n (now s) at ≡ true) × (n < 4294967296) ⌝ }
-    ensures { λ r. ⌜ (r ≡ sum q (listAt (formC hex recC) n (now (s .entry)) at)) × (r ≤ n * 4294967295) ⌝ }
+pub fn tally(s: &[u8], at: usize, n: u64, q: Query) -> u64
+    requires { ⌜ (at ≤ length (now s)) × (whole (formC false recC) n (now s) at ≡ true) × (n < 4294967296) ⌝ }
+    ensures { λ r. ⌜ (r ≡ sum q (listAt (formC false recC) n (now (s .entry)) at)) × (r ≤ n * 4294967295) ⌝ }
 {
     let mut i = at;
     let mut left = n;
     let mut total: u64 = 0;
     while 0 < left {
-        let x = rec_at(s, hex, i);
+        let x = rec_at(s, i);
         let f = x.facts;
         total = total + weigh(q, f);
-        i = after_in(s, hex, i, x.size);
+        i = after_in(s, false, i, x.size);
         left = left - 1;
     }
     total
@@ -116,9 +118,9 @@ pub struct Read {
 }
 
 // The one pass of the check over n records at `at`.
-pub fn frames(s: &[u8], hex: bool, at: usize, n: u64, k: u64, c: Finish) -> Read
+pub fn frames(s: &[u8], form: Form, at: usize, n: u64, k: u64, c: Finish) -> Read
     requires { ⌜ (at ≤ length (now s)) × (n < 4294967296) ⌝ }
-    ensures { λ r. ⌜ Checked hex (now (s .entry)) at n k c r ⌝ }
+    ensures { λ r. ⌜ Checked form (now (s .entry)) at n k c r ⌝ }
 {
     let mut i = at;
     let mut left = n;
@@ -126,7 +128,7 @@ pub fn frames(s: &[u8], hex: bool, at: usize, n: u64, k: u64, c: Finish) -> Read
     let mut prev = no_id();
     let mut first = true;
     while 0 < left {
-        let x = rec_at(s, hex, i);
+        let x = rec_in(s, form, i);
         if !x.ok {
             return Read {
                 ok: false,
@@ -134,7 +136,7 @@ pub fn frames(s: &[u8], hex: bool, at: usize, n: u64, k: u64, c: Finish) -> Read
                 sums: a,
             };
         }
-        if !ends_line(s, hex, i, x.size) {
+        if !ends_line(s, form.hex, i, x.size) {
             return Read {
                 ok: false,
                 next: 0,
@@ -147,7 +149,7 @@ pub fn frames(s: &[u8], hex: bool, at: usize, n: u64, k: u64, c: Finish) -> Read
         a = add_sums(a, k, c, f, up);
         prev = id;
         first = false;
-        i = after_in(s, hex, i, x.size);
+        i = after_in(s, form.hex, i, x.size);
         left = left - 1;
     }
     Read {
@@ -177,32 +179,32 @@ pub fn has_id(s: &[u8], hex: bool, base: usize, at: usize, n: u64, id: [u8; 32])
 }
 
 // How many of the n records at `at` have the input id?
-fn held_by(s: &[u8], hex: bool, at: usize, n: u64, id: [u8; 32]) -> u64
-    requires { ⌜ (at ≤ length (now s)) × (whole (formC hex recC) n (now s) at ≡ true) ⌝ }
-    ensures { λ r. ⌜ r ≡ heldBy (listAt (formC hex recC) n (now (s .entry)) at) id ⌝ }
+fn held_by(s: &[u8], form: Form, at: usize, n: u64, id: [u8; 32]) -> u64
+    requires { ⌜ (at ≤ length (now s)) × (whole (recIn form) n (now s) at ≡ true) ⌝ }
+    ensures { λ r. ⌜ r ≡ heldBy (listAt (recIn form) n (now (s .entry)) at) id ⌝ }
 {
     let mut i = at;
     let mut left = n;
     let mut total: u64 = 0;
     while 0 < left {
-        let x = rec_at(s, hex, i);
+        let x = rec_in(s, form, i);
         let f = x.facts;
-        let b = has_id(s, hex, i, x.at, f.ins, id);
+        let b = has_id(s, form.hex, i, x.at, f.ins, id);
         total = total + one_if(b);
-        i = after_in(s, hex, i, x.size);
+        i = after_in(s, form.hex, i, x.size);
         left = left - 1;
     }
     total
 }
 
 // Is the id in two or more records? Only an id that the filter has is looked for; another is marked.
-fn shared(s: &[u8], hex: bool, at: usize, n: u64, id: [u8; 32], t: &mut [u64]) -> bool
-    requires { ⌜ (at ≤ length (now s)) × (whole (formC hex recC) n (now s) at ≡ true) × (0 < length (now t)) ⌝ }
-    ensures { λ r. ⌜ Passed (same? id) hashL (heldBy (listAt (formC hex recC) n (now (s .entry)) at)) (now (t .entry)) r (now (t .exit)) ⌝ }
+fn shared(s: &[u8], form: Form, at: usize, n: u64, id: [u8; 32], t: &mut [u64]) -> bool
+    requires { ⌜ (at ≤ length (now s)) × (whole (recIn form) n (now s) at ≡ true) × (0 < length (now t)) ⌝ }
+    ensures { λ r. ⌜ Passed (same? id) hashL (heldBy (listAt (recIn form) n (now (s .entry)) at)) (now (t .entry)) r (now (t .exit)) ⌝ }
 {
     let h = hash(id);
     if seen(t, h) {
-        let c = held_by(s, hex, at, n, id);
+        let c = held_by(s, form, at, n, id);
         return 1 < c;
     }
     mark(t, h);
@@ -212,7 +214,7 @@ fn shared(s: &[u8], hex: bool, at: usize, n: u64, id: [u8; 32], t: &mut [u64]) -
 // Is one of the m ids at offset `ids` of the frame at base in two or more records?
 fn any_shared(
     s: &[u8],
-    hex: bool,
+    form: Form,
     at: usize,
     n: u64,
     base: usize,
@@ -220,15 +222,15 @@ fn any_shared(
     m: u64,
     t: &mut [u64],
 ) -> bool
-    requires { ⌜ (at ≤ length (now s)) × (whole (formC hex recC) n (now s) at ≡ true) × (ids ≤ length (view hex (now s) base)) × (whole idC m (view hex (now s) base) ids ≡ true) × (0 < length (now t)) ⌝ }
-    ensures { λ r. ⌜ Passed (λ z. among? z (listAt idC m (view hex (now (s .entry)) base) ids)) hashL (heldBy (listAt (formC hex recC) n (now (s .entry)) at)) (now (t .entry)) r (now (t .exit)) ⌝ }
+    requires { ⌜ (at ≤ length (now s)) × (whole (recIn form) n (now s) at ≡ true) × (ids ≤ length (view (form .hex) (now s) base)) × (whole idC m (view (form .hex) (now s) base) ids ≡ true) × (0 < length (now t)) ⌝ }
+    ensures { λ r. ⌜ Passed (λ z. among? z (listAt idC m (view (form .hex) (now (s .entry)) base) ids)) hashL (heldBy (listAt (recIn form) n (now (s .entry)) at)) (now (t .entry)) r (now (t .exit)) ⌝ }
 {
     let mut i = ids;
     let mut left = m;
     while 0 < left {
-        let x = id_read(s, hex, base, i);
+        let x = id_read(s, form.hex, base, i);
         let id = x.id;
-        if shared(s, hex, at, n, id, t) {
+        if shared(s, form, at, n, id, t) {
             return true;
         }
         i = x.next;
@@ -238,62 +240,62 @@ fn any_shared(
 }
 
 // Whatever t holds: what it holds too much only costs time.
-fn apart_by(s: &[u8], hex: bool, at: usize, n: u64, t: &mut [u64]) -> bool
-    requires { ⌜ (at ≤ length (now s)) × (whole (formC hex recC) n (now s) at ≡ true) × (0 < length (now t)) ⌝ }
-    ensures { λ r. ⌜ r ≡ apart? (listAt (formC hex recC) n (now (s .entry)) at) ⌝ }
+fn apart_by(s: &[u8], form: Form, at: usize, n: u64, t: &mut [u64]) -> bool
+    requires { ⌜ (at ≤ length (now s)) × (whole (recIn form) n (now s) at ≡ true) × (0 < length (now t)) ⌝ }
+    ensures { λ r. ⌜ r ≡ apart? (listAt (recIn form) n (now (s .entry)) at) ⌝ }
 {
     let mut i = at;
     let mut left = n;
     while 0 < left {
-        let x = rec_at(s, hex, i);
+        let x = rec_in(s, form, i);
         let f = x.facts;
-        if any_shared(s, hex, at, n, i, x.at, f.ins, t) {
+        if any_shared(s, form, at, n, i, x.at, f.ins, t) {
             return false;
         }
-        i = after_in(s, hex, i, x.size);
+        i = after_in(s, form.hex, i, x.size);
         left = left - 1;
     }
     true
 }
 
 // A pass for each id that the filter has: slow where these are many, but for an area of any size.
-fn apart_passes(s: &[u8], hex: bool, at: usize, n: u64) -> bool
-    requires { ⌜ (at ≤ length (now s)) × (whole (formC hex recC) n (now s) at ≡ true) ⌝ }
-    ensures { λ r. ⌜ r ≡ apart? (listAt (formC hex recC) n (now (s .entry)) at) ⌝ }
+fn apart_passes(s: &[u8], form: Form, at: usize, n: u64) -> bool
+    requires { ⌜ (at ≤ length (now s)) × (whole (recIn form) n (now s) at ≡ true) ⌝ }
+    ensures { λ r. ⌜ r ≡ apart? (listAt (recIn form) n (now (s .entry)) at) ⌝ }
 {
     let mut t = [0u64; 2048];
-    apart_by(s, hex, at, n, &mut t)
+    apart_by(s, form, at, n, &mut t)
 }
 
 // Where room for few suspects is not enough: with `room` rows for them.
-fn apart_long(s: &[u8], hex: bool, at: usize, n: u64, room: usize) -> bool
-    requires { ⌜ (at ≤ length (now s)) × (whole (formC hex recC) n (now s) at ≡ true) × (0 < room) × (room ≤ 65536) ⌝ }
-    ensures { λ r. ⌜ r ≡ apart? (listAt (formC hex recC) n (now (s .entry)) at) ⌝ }
+fn apart_long(s: &[u8], form: Form, at: usize, n: u64, room: usize) -> bool
+    requires { ⌜ (at ≤ length (now s)) × (whole (recIn form) n (now s) at ≡ true) × (0 < room) × (room ≤ 65536) ⌝ }
+    ensures { λ r. ⌜ r ≡ apart? (listAt (recIn form) n (now (s .entry)) at) ⌝ }
 {
     if both(s.len() < 4294967296, n < 4294967296) {
-        return apart_many(s, hex, at, n, room) == 1;
+        return apart_many(s, form, at, n, room) == 1;
     }
-    apart_passes(s, hex, at, n)
+    apart_passes(s, form, at, n)
 }
 
 // Is no input in two records? Few inputs are looked at with small tables, as often as needed.
 // The long way is called at two places that differ in two numbers: the compiler then makes no single call of them, which it
 // would take in here together with the large tables.
-pub fn apart(s: &[u8], hex: bool, at: usize, n: u64, few: bool) -> bool
-    requires { ⌜ (at ≤ length (now s)) × (whole (formC hex recC) n (now s) at ≡ true) ⌝ }
-    ensures { λ r. ⌜ r ≡ apart? (listAt (formC hex recC) n (now (s .entry)) at) ⌝ }
+pub fn apart(s: &[u8], form: Form, at: usize, n: u64, few: bool) -> bool
+    requires { ⌜ (at ≤ length (now s)) × (whole (recIn form) n (now s) at ≡ true) ⌝ }
+    ensures { λ r. ⌜ r ≡ apart? (listAt (recIn form) n (now (s .entry)) at) ⌝ }
 {
-    let r = apart_few(s, hex, at, n, few);
+    let r = apart_few(s, form, at, n, few);
     if r == 1 {
         return true;
     }
     if r == 0 {
         return false;
     }
-    if hex {
-        return apart_long(s, true, at, n, 32768);
+    if form.hex {
+        return apart_long(s, form, at, n, 32768);
     }
-    apart_long(s, false, at, n, 65536)
+    apart_long(s, form, at, n, 65536)
 }
 
 // No early way out, so that the loop can be done many bytes at a time.

@@ -4,8 +4,9 @@ use super::filter::hash;
 use super::filter::mark;
 use super::filter::seen;
 use super::forms::after_in;
+use super::frame::Form;
 use super::frame::id_read;
-use super::frame::rec_at;
+use super::frame::rec_in;
 use super::logic::both;
 use super::logic::either;
 use super::view::cmp_at;
@@ -15,8 +16,8 @@ ghost use mathlib.Core.Bool.{Bool, true, false};
 ghost use Prim.Native.Nat.{_+_, _/_, _%_, _≤_, _<_};
 ghost use lib.ListN.{length, take, drop, getD};
 ghost use Rattle.queue.specs.Ids.{part};
-ghost use Rattle.queue.specs.Frames.{recC, idC};
-ghost use Rattle.queue.specs.Forms.{formC};
+ghost use Rattle.queue.specs.Frames.{idC};
+ghost use Rattle.queue.specs.Forms.{recIn};
 ghost use Rattle.queue.specs.View.{view};
 ghost use Rattle.queue.specs.Reads.{whole, listAt};
 ghost use Rattle.queue.specs.Suspects.{idR, noR, upTo, later, meets, crosses, held?, first?, Shuffled, InOrder, Cut, Looked, Grown, Noted, Said, Owned};
@@ -246,20 +247,20 @@ fn pass_ids(
 }
 
 // Is an id of a record a row's of a later one?
-fn pass(s: &[u8], hex: bool, at: usize, n: u64, v: &[u64], ordered: bool) -> bool
-    requires { ⌜ (at ≤ length (now s)) × (whole (formC hex recC) n (now s) at ≡ true) × (length (now s) < 4294967296) × (n < 4294967296) × (ordered ≡ true → InOrder hex (now s) (now v)) ⌝ }
-    ensures { λ r. ⌜ r ≡ crosses hex (now (s .entry)) (now (v .entry)) 0 (listAt (formC hex recC) n (now (s .entry)) at) ⌝ }
+fn pass(s: &[u8], form: Form, at: usize, n: u64, v: &[u64], ordered: bool) -> bool
+    requires { ⌜ (at ≤ length (now s)) × (whole (recIn form) n (now s) at ≡ true) × (length (now s) < 4294967296) × (n < 4294967296) × (ordered ≡ true → InOrder (form .hex) (now s) (now v)) ⌝ }
+    ensures { λ r. ⌜ r ≡ crosses (form .hex) (now (s .entry)) (now (v .entry)) 0 (listAt (recIn form) n (now (s .entry)) at) ⌝ }
 {
     let mut i = at;
     let mut left = n;
     let mut k: u64 = 0;
     while 0 < left {
-        let x = rec_at(s, hex, i);
+        let x = rec_in(s, form, i);
         let f = x.facts;
-        if pass_ids(s, hex, v, ordered, i, x.at, f.ins, k) {
+        if pass_ids(s, form.hex, v, ordered, i, x.at, f.ins, k) {
             return true;
         }
-        i = after_in(s, hex, i, x.size);
+        i = after_in(s, form.hex, i, x.size);
         left = left - 1;
         k = k + 1;
     }
@@ -267,16 +268,16 @@ fn pass(s: &[u8], hex: bool, at: usize, n: u64, v: &[u64], ordered: bool) -> boo
 }
 
 // Is the id of a row in a record before its own?
-fn crossed(s: &[u8], hex: bool, at: usize, n: u64, v: &mut [u64]) -> bool
-    requires { ⌜ (at ≤ length (now s)) × (whole (formC hex recC) n (now s) at ≡ true) × (length (now s) < 4294967296) × (n < 4294967296) ⌝ }
-    ensures { λ r. ⌜ Looked hex (now (s .entry)) (listAt (formC hex recC) n (now (s .entry)) at) (now (v .entry)) r (now (v .exit)) ⌝ }
+fn crossed(s: &[u8], form: Form, at: usize, n: u64, v: &mut [u64]) -> bool
+    requires { ⌜ (at ≤ length (now s)) × (whole (recIn form) n (now s) at ≡ true) × (length (now s) < 4294967296) × (n < 4294967296) ⌝ }
+    ensures { λ r. ⌜ Looked (form .hex) (now (s .entry)) (listAt (recIn form) n (now (s .entry)) at) (now (v .entry)) r (now (v .exit)) ⌝ }
 {
     if v.len() == 0 {
         return false;
     }
-    order_rows(s, Order::Ids(hex), v);
-    let o = in_order(s, hex, v);
-    pass(s, hex, at, n, v, o)
+    order_rows(s, Order::Ids(form.hex), v);
+    let o = in_order(s, form.hex, v);
+    pass(s, form, at, n, v, o)
 }
 
 // How many rows there are; not ok: an id is in two records, or the table is full and not the last one.
@@ -286,9 +287,9 @@ struct Rows {
 }
 
 // The row w behind m others. Full, the last table is looked through and begun anew.
-fn add(s: &[u8], hex: bool, at: usize, n: u64, v: &mut [u64], last: bool, m: usize, w: u64) -> Rows
-    requires { ⌜ (at ≤ length (now s)) × (whole (formC hex recC) n (now s) at ≡ true) × (length (now s) < 4294967296) × (n < 4294967296) × (m ≤ length (now v)) × (0 < length (now v)) × (all? (held? hex (now s) (listAt (formC hex recC) n (now s) at)) (take m (now v)) ≡ true) × (held? hex (now s) (listAt (formC hex recC) n (now s) at) w ≡ true) ⌝ }
-    ensures { λ r. ⌜ Grown last hex (now (s .entry)) (listAt (formC hex recC) n (now (s .entry)) at) (take m (now (v .entry))) w (r .ok) (take (r .len) (now (v .exit))) × (r .len ≤ length (now (v .entry))) ⌝ }
+fn add(s: &[u8], form: Form, at: usize, n: u64, v: &mut [u64], last: bool, m: usize, w: u64) -> Rows
+    requires { ⌜ (at ≤ length (now s)) × (whole (recIn form) n (now s) at ≡ true) × (length (now s) < 4294967296) × (n < 4294967296) × (m ≤ length (now v)) × (0 < length (now v)) × (all? (held? (form .hex) (now s) (listAt (recIn form) n (now s) at)) (take m (now v)) ≡ true) × (held? (form .hex) (now s) (listAt (recIn form) n (now s) at) w ≡ true) ⌝ }
+    ensures { λ r. ⌜ Grown last (form .hex) (now (s .entry)) (listAt (recIn form) n (now (s .entry)) at) (take m (now (v .entry))) w (r .ok) (take (r .len) (now (v .exit))) × (r .len ≤ length (now (v .entry))) ⌝ }
 {
     if m < v.len() {
         v[m] = w;
@@ -300,7 +301,7 @@ fn add(s: &[u8], hex: bool, at: usize, n: u64, v: &mut [u64], last: bool, m: usi
     if !last {
         return Rows { ok: false, len: 0 };
     }
-    if crossed(s, hex, at, n, v) {
+    if crossed(s, form, at, n, v) {
         return Rows { ok: false, len: 0 };
     }
     v[0] = w;
@@ -310,7 +311,7 @@ fn add(s: &[u8], hex: bool, at: usize, n: u64, v: &mut [u64], last: bool, m: usi
 // An id at offset i of the frame at base, that of record number k: marked, or a suspect.
 fn note(
     s: &[u8],
-    hex: bool,
+    form: Form,
     at: usize,
     n: u64,
     base: usize,
@@ -322,13 +323,13 @@ fn note(
     last: bool,
     m: usize,
 ) -> Rows
-    requires { ⌜ (at ≤ length (now s)) × (whole (formC hex recC) n (now s) at ≡ true) × (length (now s) < 4294967296) × (n < 4294967296) × (m ≤ length (now v)) × (0 < length (now v)) × (0 < length (now t)) × (k < 4294967296) × (i + 32 ≤ length (view hex (now s) base)) × (part 32 (view hex (now s) base) i ≡ id) × (all? (held? hex (now s) (listAt (formC hex recC) n (now s) at)) (take m (now v)) ≡ true) × Owned (listAt (formC hex recC) n (now s) at) k (same? id) ⌝ }
-    ensures { λ r. ⌜ Noted last hex (now (s .entry)) (listAt (formC hex recC) n (now (s .entry)) at) k (same? id) (now (t .entry)) (take m (now (v .entry))) (r .ok) (now (t .exit)) (take (r .len) (now (v .exit))) × (r .len ≤ length (now (v .entry))) ⌝ }
+    requires { ⌜ (at ≤ length (now s)) × (whole (recIn form) n (now s) at ≡ true) × (length (now s) < 4294967296) × (n < 4294967296) × (m ≤ length (now v)) × (0 < length (now v)) × (0 < length (now t)) × (k < 4294967296) × (i + 32 ≤ length (view (form .hex) (now s) base)) × (part 32 (view (form .hex) (now s) base) i ≡ id) × (all? (held? (form .hex) (now s) (listAt (recIn form) n (now s) at)) (take m (now v)) ≡ true) × Owned (listAt (recIn form) n (now s) at) k (same? id) ⌝ }
+    ensures { λ r. ⌜ Noted last (form .hex) (now (s .entry)) (listAt (recIn form) n (now (s .entry)) at) k (same? id) (now (t .entry)) (take m (now (v .entry))) (r .ok) (now (t .exit)) (take (r .len) (now (v .exit))) × (r .len ≤ length (now (v .entry))) ⌝ }
 {
     let h = hash(id);
     if seen(t, h) {
-        let w = row_at(s, hex, base, i, k);
-        return add(s, hex, at, n, v, last, m, w);
+        let w = row_at(s, form.hex, base, i, k);
+        return add(s, form, at, n, v, last, m, w);
     }
     mark(t, h);
     Rows { ok: true, len: m }
@@ -337,7 +338,7 @@ fn note(
 // The c ids at offset `ids` of the frame at base, that of record number k.
 fn note_all(
     s: &[u8],
-    hex: bool,
+    form: Form,
     at: usize,
     n: u64,
     base: usize,
@@ -349,16 +350,16 @@ fn note_all(
     last: bool,
     m: usize,
 ) -> Rows
-    requires { ⌜ (at ≤ length (now s)) × (whole (formC hex recC) n (now s) at ≡ true) × (length (now s) < 4294967296) × (n < 4294967296) × (m ≤ length (now v)) × (0 < length (now v)) × (0 < length (now t)) × (k < 4294967296) × (ids ≤ length (view hex (now s) base)) × (whole idC c (view hex (now s) base) ids ≡ true) × (all? (held? hex (now s) (listAt (formC hex recC) n (now s) at)) (take m (now v)) ≡ true) × Owned (listAt (formC hex recC) n (now s) at) k (λ z. among? z (listAt idC c (view hex (now s) base) ids)) ⌝ }
-    ensures { λ r. ⌜ Noted last hex (now (s .entry)) (listAt (formC hex recC) n (now (s .entry)) at) k (λ z. among? z (listAt idC c (view hex (now (s .entry)) base) ids)) (now (t .entry)) (take m (now (v .entry))) (r .ok) (now (t .exit)) (take (r .len) (now (v .exit))) × (r .len ≤ length (now (v .entry))) ⌝ }
+    requires { ⌜ (at ≤ length (now s)) × (whole (recIn form) n (now s) at ≡ true) × (length (now s) < 4294967296) × (n < 4294967296) × (m ≤ length (now v)) × (0 < length (now v)) × (0 < length (now t)) × (k < 4294967296) × (ids ≤ length (view (form .hex) (now s) base)) × (whole idC c (view (form .hex) (now s) base) ids ≡ true) × (all? (held? (form .hex) (now s) (listAt (recIn form) n (now s) at)) (take m (now v)) ≡ true) × Owned (listAt (recIn form) n (now s) at) k (λ z. among? z (listAt idC c (view (form .hex) (now s) base) ids)) ⌝ }
+    ensures { λ r. ⌜ Noted last (form .hex) (now (s .entry)) (listAt (recIn form) n (now (s .entry)) at) k (λ z. among? z (listAt idC c (view (form .hex) (now (s .entry)) base) ids)) (now (t .entry)) (take m (now (v .entry))) (r .ok) (now (t .exit)) (take (r .len) (now (v .exit))) × (r .len ≤ length (now (v .entry))) ⌝ }
 {
     let mut i = ids;
     let mut left = c;
     let mut len = m;
     while 0 < left {
-        let x = id_read(s, hex, base, i);
+        let x = id_read(s, form.hex, base, i);
         let id = x.id;
-        let r = note(s, hex, at, n, base, i, id, k, t, v, last, len);
+        let r = note(s, form, at, n, base, i, id, k, t, v, last, len);
         if !r.ok {
             return r;
         }
@@ -371,18 +372,18 @@ fn note_all(
 
 // 1: the records are apart; 0: they are not; 2: not known, the table is full and not the last one.
 // Whatever t holds: what it holds too much only costs time.
-fn apart_by(s: &[u8], hex: bool, at: usize, n: u64, t: &mut [u64], v: &mut [u64], last: bool) -> u8
-    requires { ⌜ (at ≤ length (now s)) × (whole (formC hex recC) n (now s) at ≡ true) × (length (now s) < 4294967296) × (n < 4294967296) × (0 < length (now v)) × (0 < length (now t)) ⌝ }
-    ensures { λ r. ⌜ Said last (listAt (formC hex recC) n (now (s .entry)) at) r ⌝ }
+fn apart_by(s: &[u8], form: Form, at: usize, n: u64, t: &mut [u64], v: &mut [u64], last: bool) -> u8
+    requires { ⌜ (at ≤ length (now s)) × (whole (recIn form) n (now s) at ≡ true) × (length (now s) < 4294967296) × (n < 4294967296) × (0 < length (now v)) × (0 < length (now t)) ⌝ }
+    ensures { λ r. ⌜ Said last (listAt (recIn form) n (now (s .entry)) at) r ⌝ }
 {
     let mut i = at;
     let mut left = n;
     let mut k: u64 = 0;
     let mut m: usize = 0;
     while 0 < left {
-        let x = rec_at(s, hex, i);
+        let x = rec_in(s, form, i);
         let f = x.facts;
-        let r = note_all(s, hex, at, n, i, x.at, f.ins, k, t, v, last, m);
+        let r = note_all(s, form, at, n, i, x.at, f.ins, k, t, v, last, m);
         if !r.ok {
             if last {
                 return 0;
@@ -390,35 +391,35 @@ fn apart_by(s: &[u8], hex: bool, at: usize, n: u64, t: &mut [u64], v: &mut [u64]
             return 2;
         }
         m = r.len;
-        i = after_in(s, hex, i, x.size);
+        i = after_in(s, form.hex, i, x.size);
         left = left - 1;
         k = k + 1;
     }
-    if crossed(s, hex, at, n, &mut v[..m]) {
+    if crossed(s, form, at, n, &mut v[..m]) {
         return 0;
     }
     1
 }
 
 // With room for few suspects; as often as needed, where it is the last table.
-pub fn apart_few(s: &[u8], hex: bool, at: usize, n: u64, last: bool) -> u8
-    requires { ⌜ (at ≤ length (now s)) × (whole (formC hex recC) n (now s) at ≡ true) ⌝ }
-    ensures { λ r. ⌜ Said false (listAt (formC hex recC) n (now (s .entry)) at) r ⌝ }
+pub fn apart_few(s: &[u8], form: Form, at: usize, n: u64, last: bool) -> u8
+    requires { ⌜ (at ≤ length (now s)) × (whole (recIn form) n (now s) at ≡ true) ⌝ }
+    ensures { λ r. ⌜ Said false (listAt (recIn form) n (now (s .entry)) at) r ⌝ }
 {
     if !both(s.len() < 4294967296, n < 4294967296) {
         return 2;
     }
     let mut t = [0u64; 2048];
     let mut v = [0u64; 2048];
-    apart_by(s, hex, at, n, &mut t, &mut v, last)
+    apart_by(s, form, at, n, &mut t, &mut v, last)
 }
 
 // With room for many, as often as needed.
-pub fn apart_many(s: &[u8], hex: bool, at: usize, n: u64, room: usize) -> u8
-    requires { ⌜ (at ≤ length (now s)) × (whole (formC hex recC) n (now s) at ≡ true) × (length (now s) < 4294967296) × (n < 4294967296) × (0 < room) × (room ≤ 65536) ⌝ }
-    ensures { λ r. ⌜ Said true (listAt (formC hex recC) n (now (s .entry)) at) r ⌝ }
+pub fn apart_many(s: &[u8], form: Form, at: usize, n: u64, room: usize) -> u8
+    requires { ⌜ (at ≤ length (now s)) × (whole (recIn form) n (now s) at ≡ true) × (length (now s) < 4294967296) × (n < 4294967296) × (0 < room) × (room ≤ 65536) ⌝ }
+    ensures { λ r. ⌜ Said true (listAt (recIn form) n (now (s .entry)) at) r ⌝ }
 {
     let mut t = [0u64; 16384];
     let mut v = [0u64; 65536];
-    apart_by(s, hex, at, n, &mut t, &mut v[..room], true)
+    apart_by(s, form, at, n, &mut t, &mut v[..room], true)
 }

@@ -83,7 +83,7 @@ fn is_output(s: &[u8], at: usize, n: u64, id: [u8; 32]) -> bool
     let mut i = at;
     let mut left = n;
     while 0 < left {
-        let x = rec_at(s, false, i);
+        let x = rec_at(s, i);
         if in_outputs(s, i, x, id) {
             return true;
         }
@@ -254,7 +254,7 @@ pub fn judge_all(
     let mut j: usize = 0;
     let mut g: usize = 0;
     while 0 < left {
-        let x = rec_at(s, false, i);
+        let x = rec_at(s, i);
         let f = x.facts;
         let c = touched(s, at, n, i, x, t, k, caught, ids, m, quick, flags, g);
         vs[j] = c;

@@ -6,6 +6,7 @@ use lib.ListN.{length, drop, replicate}
 use Rattle.queue.specs.paper.Records.{Bytes, Id, Limits, Terms, Held, Rec, Queue}
 use Rattle.queue.specs.paper.Lists.{maybe, map, concat}
 use Rattle.queue.specs.paper.Sound.{need}
+use Rattle.queue.specs.paper.Kinds.{newest}
 use Rattle.queue.specs.Codec.{be}
 use Rattle.queue.specs.Hex.{textOf}
 
@@ -39,14 +40,18 @@ recBytes r =
     ++ (be 1 (r .reason)
     ++ (termsBytes (r .terms) ++ (placeBytes (r .place) ++ (be 1 (r .mark) ++ (be 8 (r .finish) ++ flagged heldBytes (r .body))))))))
 
--- "Header: kind 01; P, B, T, K 4 each; revision 8; cursor height 4; tip flag, tip 32; counter 8; record count 4."
-unfoldable pub headBytes : Queue → Bytes
-headBytes q =
-    1 ∷ (be 4 (q .limits .P)
+-- "Header: kind 01; P, B, T, K 4 each; revision 8; cursor height 4; tip flag, tip 32; counter 8; record count 4." Document 02, P4:
+-- "header kind 03"
+unfoldable pub headUnder : ℕ → Queue → Bytes
+headUnder k q =
+    k ∷ (be 4 (q .limits .P)
     ++ (be 4 (q .limits .B)
     ++ (be 4 (q .limits .T)
     ++ (be 4 (q .limits .K)
     ++ (be 8 (q .revision) ++ (be 4 (q .cursor) ++ (flagged (λ i. i) (q .tip) ++ (be 8 (q .counter) ++ be 4 (length (q .recs))))))))))
+
+abbrev pub headBytes : Queue → Bytes
+headBytes q = headUnder newest q
 
 -- The persisted height, the header and the records.
 unfoldable pub queueBytes : Queue → Bytes
@@ -69,6 +74,10 @@ over bs d = bs ++ drop (length bs) d
 abbrev pub line : Bytes → Bytes
 line frame = textOf frame ++ (10 ∷ [])
 
--- "Header .. Then records by id"
-unfoldable pub imageBytes : Queue → Bytes
-imageBytes q = line (headBytes q) ++ concat (map (λ r. line (recBytes r)) (q .recs))
+-- "Header .. Then records by id", under a header kind; a record's frame is the same under 01 and 03
+unfoldable pub imageUnder : ℕ → Queue → Bytes
+imageUnder k q = line (headUnder k q) ++ concat (map (λ r. line (recBytes r)) (q .recs))
+
+-- the image that is written
+abbrev pub imageBytes : Queue → Bytes
+imageBytes q = imageUnder newest q
