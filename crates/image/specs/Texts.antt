@@ -1,30 +1,29 @@
--- What a queue that was read from a text says of the queue, and a frame in the other form.
+-- What a queue that was read from a text says of the queue, and what the writers of the other form need and ensure.
 use mathlib.Core.Path.{_≡_}
-use mathlib.Core.Bool.{Bool, true, false, cond, not}
+use mathlib.Core.Bool.{true, false}
 use mathlib.Core.Option.{none, some}
-use Prim.Native.Nat.{ℕ, _+_, _*_, _≤_}
+use Prim.Native.Nat.{ℕ, _+_, _≤_}
 use lib.ListN.{length}
-use Rattle.queue.specs.Forms.{Store, storeC, storeOf, queueC}
+use Rattle.queue.specs.Frames.{Head, headK, recK}
+use Rattle.queue.specs.Forms.{Framed, Store, headIn, recIn, storeIn, areaForm, storeOf, queueC}
+use Rattle.queue.specs.Facts.{SeenAs, HeadAs}
+use Rattle.queue.specs.View.{view}
 use Rattle.queue.specs.Areas.{readImage}
 use Rattle.queue.specs.Opens.{StoreAs, AreaAs}
 use Rattle.queue.specs.Splice.{Put}
+use Rattle.queue.specs.declared.frame.Form.{Form}
+use Rattle.queue.specs.declared.frame.HeadR.{HeadR}
+use Rattle.queue.specs.declared.frame.Seen.{Seen}
 use Rattle.queue.specs.declared.area.Open.{Open}
 use Rattle.queue.specs.declared.area.Area.{Area}
-use Rattle.queue.specs.paper.Records.{Bytes, Queue}
+use Rattle.queue.specs.paper.Records.{Bytes, Rec, Queue}
 use Rattle.queue.specs.paper.Sound.{need, sound?}
-use Rattle.queue.specs.paper.Area.{areaBytes, line, imageBytes}
+use Rattle.queue.specs.paper.Area.{areaBytes, imageBytes}
 use Rattle.image.specs.declared.text.Text.{Text}
 
--- a frame that stands in digits is written as its bytes, one that stands as bytes as its line
-abbrev pub turned : Bool → Bytes → Bytes
-turned hex frame = cond hex frame (line frame)
-
-abbrev pub turnedLen : Bool → ℕ → ℕ
-turnedLen hex n = cond hex n (2 * n + 1)
-
--- x was read from the text s, which is the image of q
+-- x was read from the text s, which is the image of q under the kind that it tells
 pub record TextAs (s : Bytes) (x : Text) (q : Queue) : Type 0 where
-  pub store : StoreAs true s 0 (x .open) (storeOf q)
+  pub store : StoreAs (x .form) s 0 (x .open) (storeOf q)
   pub need : x .need ≡ need (q .limits)
   pub small : x .need ≤ 51905024
   pub sound : sound? q ≡ true
@@ -35,16 +34,39 @@ pub record TextIs (s : Bytes) (x : Text) : Type 0 where
   pub good : x .ok ≡ true → (q : Queue) × (readImage s ≡ some q) × TextAs s x q
   pub bad : x .ok ≡ false → readImage s ≡ none
 
--- what was read at base of s is a queue, whose frames in the other form fit from `at` on into m bytes
-pub record StoreRoom (hex : Bool) (s : Bytes) (base : ℕ) (x : Open) (at m : ℕ) : Type 0 where
-  pub store : Store
-  pub is : StoreAs hex s base x store
-  pub here : base ≤ length s
-  pub room : at + length (storeC (not hex) .enc store) ≤ m
+-- ---- under the newest kind: a header, a record, a queue that was read at base of s in a form fits from `at` on into m bytes; and
+-- d′ is d with it at `at`
+pub record HeadRoom (form : Form) (s : Bytes) (base : ℕ) (x : HeadR) (at m : ℕ) : Type 0 where
+  pub head : Head
+  pub is : HeadAs (view (form .hex) s base) x head
+  pub frame : Framed (headK (form .kind)) (form .hex) s base (x .ok) (x .size) head
+  pub room : at + length (headIn areaForm .enc head) ≤ m
 
--- d′ is d with these frames at `at`
-abbrev pub StorePut : Bool → Bytes → ℕ → Open → Bytes → ℕ → ℕ → Bytes → Type 0
-StorePut hex s base x d at r d′ = (st : Store) → StoreAs hex s base x st → Put d at (storeC (not hex) .enc st) (length (storeC (not hex) .enc st)) r d′
+abbrev pub HeadPut : Form → Bytes → ℕ → HeadR → Bytes → ℕ → ℕ → Bytes → Type 0
+HeadPut form s base x d at r d′ =
+    (h : Head) → HeadAs (view (form .hex) s base) x h → Framed (headK (form .kind)) (form .hex) s base (x .ok) (x .size) h
+    → Put d at (headIn areaForm .enc h) (length (headIn areaForm .enc h)) r d′
+
+pub record RecRoom (form : Form) (s : Bytes) (base : ℕ) (x : Seen) (at m : ℕ) : Type 0 where
+  pub rec : Rec
+  pub is : SeenAs (view (form .hex) s base) x rec
+  pub frame : Framed (recK (form .kind)) (form .hex) s base (x .ok) (x .size) rec
+  pub room : at + length (recIn areaForm .enc rec) ≤ m
+
+abbrev pub RecPut : Form → Bytes → ℕ → Seen → Bytes → ℕ → ℕ → Bytes → Type 0
+RecPut form s base x d at r d′ =
+    (y : Rec) → SeenAs (view (form .hex) s base) x y → Framed (recK (form .kind)) (form .hex) s base (x .ok) (x .size) y
+    → Put d at (recIn areaForm .enc y) (length (recIn areaForm .enc y)) r d′
+
+-- read in one form, written in another
+pub record StoreRoom (from to : Form) (s : Bytes) (base : ℕ) (x : Open) (at m : ℕ) : Type 0 where
+  pub store : Store
+  pub is : StoreAs from s base x store
+  pub here : base ≤ length s
+  pub room : at + length (storeIn to .enc store) ≤ m
+
+abbrev pub StorePut : Form → Form → Bytes → ℕ → Open → Bytes → ℕ → ℕ → Bytes → Type 0
+StorePut from to s base x d at r d′ = (st : Store) → StoreAs from s base x st → Put d at (storeIn to .enc st) (length (storeIn to .enc st)) r d′
 
 -- a was read from some area
 pub record AreaHeld (a : Area) : Type 0 where

@@ -1,57 +1,103 @@
-// The frames of a queue, written in the other form: bytes as lines of text, lines of text as bytes.
+// The frames of a queue in the other form: those of an area as lines of text, those of a text, under whatever kind, as an area's.
 use queue::area::Open;
 use queue::forms::after_in;
+use queue::frame::Form;
+use queue::frame::HeadR;
+use queue::frame::NEWEST;
+use queue::frame::Seen;
 use queue::frame::rec_at;
+use queue::frame::rec_in;
 use queue::put::copy_view;
 use queue::put::put_text;
 use queue::put::put_u8;
 ghost use mathlib.Core.Path.{_≡_};
-ghost use mathlib.Core.Bool.{true, not};
-ghost use Prim.Native.Nat.{_+_, _≤_};
-ghost use lib.ListN.{length, take};
+ghost use mathlib.Core.Bool.{true};
+ghost use Prim.Native.Nat.{_+_, _*_, _≤_};
+ghost use lib.ListN.{length, take, drop};
 ghost use Rattle.queue.specs.Codec.{encs};
-ghost use Rattle.queue.specs.Frames.{recC};
-ghost use Rattle.queue.specs.Forms.{formC};
+ghost use Rattle.queue.specs.Forms.{recIn, areaForm, textForm};
 ghost use Rattle.queue.specs.Reads.{whole, listAt};
 ghost use Rattle.queue.specs.Splice.{Put};
-ghost use Rattle.queue.specs.View.{view};
-ghost use Rattle.image.specs.Texts.{turned, turnedLen, StoreRoom, StorePut};
+ghost use Rattle.queue.specs.paper.Area.{line};
+ghost use Rattle.queue.specs.paper.Kinds.{newest};
+ghost use Rattle.image.specs.Texts.{HeadRoom, HeadPut, RecRoom, RecPut, StoreRoom, StorePut};
 
-// The frame of n bytes at base.
-fn put_frame(s: &[u8], hex: bool, base: usize, n: usize, dst: &mut [u8], at: usize) -> usize
-    requires { ⌜ (base ≤ length (now s)) × (n ≤ length (view hex (now s) base)) × (at + turnedLen hex n ≤ length (now dst)) ⌝ }
-    ensures { λ r. ⌜ Put (now (dst .entry)) at (turned hex (take n (view hex (now (s .entry)) base))) (turnedLen hex n) r (now (dst .exit)) ⌝ }
+// The frame of n bytes at base as a line.
+fn put_line(s: &[u8], base: usize, n: usize, dst: &mut [u8], at: usize) -> usize
+    requires { ⌜ (base + n ≤ length (now s)) × (at + (2 * n + 1) ≤ length (now dst)) ⌝ }
+    ensures { λ r. ⌜ Put (now (dst .entry)) at (line (take n (drop base (now (s .entry))))) (2 * n + 1) r (now (dst .exit)) ⌝ }
 {
-    if hex {
-        return copy_view(s, hex, base, 0, n, dst, at);
-    }
     let e = put_text(s, base, n, dst, at);
     put_u8(dst, e, 10)
 }
 
-// The n record frames at `at`.
-fn put_frames(s: &[u8], hex: bool, at: usize, n: u64, dst: &mut [u8], to: usize) -> usize
-    requires { ⌜ (at ≤ length (now s)) × (whole (formC hex recC) n (now s) at ≡ true) × (to + length (encs (formC (not hex) recC) (listAt (formC hex recC) n (now s) at)) ≤ length (now dst)) ⌝ }
-    ensures { λ r. ⌜ Put (now (dst .entry)) to (encs (formC (not hex) recC) (listAt (formC hex recC) n (now (s .entry)) at)) (length (encs (formC (not hex) recC) (listAt (formC hex recC) n (now (s .entry)) at))) r (now (dst .exit)) ⌝ }
+// The n record frames at `at` of an area as lines.
+fn put_lines(s: &[u8], at: usize, n: u64, dst: &mut [u8], to: usize) -> usize
+    requires { ⌜ (at ≤ length (now s)) × (whole (recIn areaForm) n (now s) at ≡ true) × (to + length (encs (recIn (textForm newest)) (listAt (recIn areaForm) n (now s) at)) ≤ length (now dst)) ⌝ }
+    ensures { λ r. ⌜ Put (now (dst .entry)) to (encs (recIn (textForm newest)) (listAt (recIn areaForm) n (now (s .entry)) at)) (length (encs (recIn (textForm newest)) (listAt (recIn areaForm) n (now (s .entry)) at))) r (now (dst .exit)) ⌝ }
 {
     let mut i = at;
     let mut left = n;
     let mut o = to;
     while 0 < left {
-        let x = rec_at(s, hex, i);
-        o = put_frame(s, hex, i, x.size, dst, o);
-        i = after_in(s, hex, i, x.size);
+        let x = rec_at(s, i);
+        o = put_line(s, i, x.size, dst, o);
+        i = after_in(s, false, i, x.size);
         left = left - 1;
     }
     o
 }
 
-// The header frame and the record frames of the queue that was read at base.
-pub fn put_store(s: &[u8], hex: bool, base: usize, x: Open, dst: &mut [u8], at: usize) -> usize
-    requires { ⌜ StoreRoom hex (now s) base x at (length (now dst)) ⌝ }
-    ensures { λ r. ⌜ StorePut hex (now (s .entry)) base x (now (dst .entry)) at r (now (dst .exit)) ⌝ }
+// The header frame and the record frames of the queue that was read at base of an area, as lines.
+pub fn put_image(s: &[u8], base: usize, x: Open, dst: &mut [u8], at: usize) -> usize
+    requires { ⌜ StoreRoom areaForm (textForm newest) (now s) base x at (length (now dst)) ⌝ }
+    ensures { λ r. ⌜ StorePut areaForm (textForm newest) (now (s .entry)) base x (now (dst .entry)) at r (now (dst .exit)) ⌝ }
 {
     let h = x.head;
-    let e = put_frame(s, hex, base, h.size, dst, at);
-    put_frames(s, hex, x.start, h.count, dst, e)
+    let e = put_line(s, base, h.size, dst, at);
+    put_lines(s, x.start, h.count, dst, e)
+}
+
+// The header that was read at base, under the newest kind.
+fn put_head(s: &[u8], form: Form, base: usize, h: HeadR, dst: &mut [u8], at: usize) -> usize
+    requires { ⌜ HeadRoom form (now s) base h at (length (now dst)) ⌝ }
+    ensures { λ r. ⌜ HeadPut form (now (s .entry)) base h (now (dst .entry)) at r (now (dst .exit)) ⌝ }
+{
+    let a = put_u8(dst, at, NEWEST);
+    copy_view(s, form.hex, base, 1, h.size - 1, dst, a)
+}
+
+// The record that was read at base, under the newest kind: it has the same bytes under all.
+fn put_rec(s: &[u8], form: Form, base: usize, x: Seen, dst: &mut [u8], at: usize) -> usize
+    requires { ⌜ RecRoom form (now s) base x at (length (now dst)) ⌝ }
+    ensures { λ r. ⌜ RecPut form (now (s .entry)) base x (now (dst .entry)) at r (now (dst .exit)) ⌝ }
+{
+    copy_view(s, form.hex, base, 0, x.size, dst, at)
+}
+
+// The n records at `at` under the newest kind.
+fn put_recs(s: &[u8], form: Form, at: usize, n: u64, dst: &mut [u8], to: usize) -> usize
+    requires { ⌜ (at ≤ length (now s)) × (whole (recIn form) n (now s) at ≡ true) × (to + length (encs (recIn areaForm) (listAt (recIn form) n (now s) at)) ≤ length (now dst)) ⌝ }
+    ensures { λ r. ⌜ Put (now (dst .entry)) to (encs (recIn areaForm) (listAt (recIn form) n (now (s .entry)) at)) (length (encs (recIn areaForm) (listAt (recIn form) n (now (s .entry)) at))) r (now (dst .exit)) ⌝ }
+{
+    let mut i = at;
+    let mut left = n;
+    let mut o = to;
+    while 0 < left {
+        let x = rec_in(s, form, i);
+        o = put_rec(s, form, i, x, dst, o);
+        i = after_in(s, form.hex, i, x.size);
+        left = left - 1;
+    }
+    o
+}
+
+// The header and the records of the queue that was read at base in a form, as an area has them.
+pub fn put_queue(s: &[u8], form: Form, base: usize, x: Open, dst: &mut [u8], at: usize) -> usize
+    requires { ⌜ StoreRoom form areaForm (now s) base x at (length (now dst)) ⌝ }
+    ensures { λ r. ⌜ StorePut form areaForm (now (s .entry)) base x (now (dst .entry)) at r (now (dst .exit)) ⌝ }
+{
+    let h = x.head;
+    let e = put_head(s, form, base, h, dst, at);
+    put_recs(s, form, x.start, h.count, dst, e)
 }

@@ -1,5 +1,6 @@
 // The stored image of a queue: lines of hexadecimal, one frame a line.
-use frames::put_store;
+use frames::put_image;
+use frames::put_queue;
 use queue::Answer;
 use queue::Kind;
 use queue::area::Area;
@@ -42,7 +43,7 @@ pub fn write(area: &[u8], out: &mut [u8], size: &mut u64) -> Answer
         return Answer::Refused(4);
     }
     let x = a.open;
-    put_store(area, false, 4, x, out, 0);
+    put_image(area, 4, x, out, 0);
     *size = n as u64;
     Answer::Done(Kind::Nothing)
 }
@@ -56,7 +57,7 @@ fn put_area(s: &[u8], t: Text, dst: &mut [u8]) -> usize
     let h = x.head;
     let c = h.cursor;
     let a = put_be(dst, 0, 4, c.0);
-    let e = put_store(s, true, 0, x, dst, a);
+    let e = put_queue(s, t.form, 0, x, dst, a);
     fill_zero(dst, e, t.need)
 }
 

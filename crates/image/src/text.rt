@@ -1,25 +1,43 @@
 // A queue found in the text of an image.
 use queue::area::Open;
+use queue::area::no_store;
 use queue::area::sound_at;
 use queue::area::store_at;
+use queue::frame::Form;
+use queue::frame::kind_at;
+use queue::frame::known;
 use queue::limits::Limits;
 ghost use Rattle.image.specs.Texts.{TextIs};
 
-// ok says that the text is the image of a sound queue, need how long an area that queue needs.
+// ok says that the text is the image of a sound queue, form how it stands there, need how long an area that queue needs.
 pub struct Text {
     pub ok: bool,
+    pub form: Form,
     pub open: Open,
     pub need: usize,
 }
 
-// Refusal 16, exactly.
+// Refusal 16, exactly. The text tells its kind.
 pub fn text_at(s: &[u8]) -> Text
     ensures { λ r. ⌜ TextIs (now (s .entry)) r ⌝ }
 {
-    let x = store_at(s, true, 0);
+    let form = Form {
+        hex: true,
+        kind: kind_at(s, true, 0),
+    };
+    if !known(form.kind) {
+        return Text {
+            ok: false,
+            form: form,
+            open: no_store(),
+            need: 0,
+        };
+    }
+    let x = store_at(s, form, 0);
     if !x.ok {
         return Text {
             ok: false,
+            form: form,
             open: x,
             need: 0,
         };
@@ -27,14 +45,16 @@ pub fn text_at(s: &[u8]) -> Text
     if x.next != s.len() {
         return Text {
             ok: false,
+            form: form,
             open: x,
             need: 0,
         };
     }
     let h = x.head;
-    if !sound_at(s, true, x) {
+    if !sound_at(s, form, x) {
         return Text {
             ok: false,
+            form: form,
             open: x,
             need: 0,
         };
@@ -42,6 +62,7 @@ pub fn text_at(s: &[u8]) -> Text
     let m = Limits::need(h.p, h.b, h.t, h.k);
     Text {
         ok: true,
+        form: form,
         open: x,
         need: m,
     }

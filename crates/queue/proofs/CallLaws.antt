@@ -31,7 +31,7 @@ use Rattle.queue.specs.Writes.{MovedFrom, MovedTo}
 use Rattle.queue.specs.paper.Records.{Bytes, Id, Limits, Rec, Queue}
 use Rattle.queue.specs.paper.Lists.{map, concat}
 use Rattle.queue.specs.paper.Sound.{inRange, need}
-use Rattle.queue.specs.paper.Area.{headBytes, recBytes, queueBytes, areaBytes, over}
+use Rattle.queue.specs.paper.Area.{headUnder, headBytes, recBytes, queueBytes, areaBytes, over}
 use Rattle.queue.specs.paper.Changing.{moved, setCursor}
 use Rattle.queue.specs.Checked.{Outcome, outcome, Written, written, setCursorOf}
 use Rattle.queue.specs.paper.Calls.{id?, fresh, freshOf, settleShape?, settleOf}
@@ -161,7 +161,7 @@ unfolding moved
 persistedBytes p q = codec.be 4 (moved p (q .cursor) (q .tip) q .persisted)
 
 moved-rest : (p : ℕ) (q : Queue) → restBytes (moved p (q .cursor) (q .tip) q) ≡ restBytes q
-unfolding restBytes moved headBytes
+unfolding restBytes moved headUnder
 moved-rest p q = refl
 
 over-is : (b d r l : Bytes) → d ≡ (b ++ r) ++ l → (b′ : Bytes) → length b′ ≡ length b → over b′ d ≡ b′ ++ (r ++ l)

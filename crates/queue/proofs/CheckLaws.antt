@@ -23,7 +23,7 @@ use Rattle.queue.specs.declared.frame.Seen.{Seen}
 use Rattle.queue.specs.declared.scan.Sums.{Sums}
 use Rattle.queue.specs.declared.rules.Query.{Query}
 use Rattle.queue.specs.declared.rules.Query.the-variants.{Holders, HeldBytes, MinedHolders, MinedBytes}
-use Rattle.queue.proofs.Turns.{ReadsAt}
+use Rattle.queue.proofs.Turns.{ReadsForm}
 use Rattle.queue.proofs.ScanLaws.{Framing, frames-in, frames-go, frames-short, frames-line, frames-end}
 
 and-assoc : (a b c : Bool) → ((a && b) && c) ≡ (a && (b && c))
@@ -130,7 +130,7 @@ module _ (form : Form) (s : Bytes) (n at k : ℕ) (c : Finish) where
     rest = λ _. rest-start k c prev (listAt (recIn form) n s at) e;
   }
 
-  module _ {i left m : ℕ} {a : Sums} {prev : Id} {first ok : Bool} {y : Seen} (x : Checking i left a prev first) (p : 0 < left) (r : ReadsAt (form .kind) (form .hex) s i ok m y) where
+  module _ {i left m : ℕ} {a : Sums} {prev : Id} {first ok : Bool} {y : Seen} (x : Checking i left a prev first) (p : 0 < left) (r : ReadsForm form s i ok m y) where
     pub check-room : n < 4294967296 → Under a 18446744069414584319
     check-room h = under-more (omega (arith, x .few)) (x .under)
 

@@ -18,7 +18,7 @@ use Rattle.queue.specs.Frames.{recC}
 use Rattle.queue.specs.View.{view}
 use Rattle.queue.specs.Reads.{Reads, whole, listAt}
 use Rattle.queue.specs.ReadLaws.{Turn, false-true, none-left}
-use Rattle.queue.specs.Forms.{formC, queueC, turn-in, ok-queue, ok-store, storeOf}
+use Rattle.queue.specs.Forms.{areaForm, formC, queueC, turn-in, ok-queue, ok-store, storeOf}
 use Rattle.queue.specs.Areas.{readArea}
 use Rattle.queue.specs.Bound.{fits-need}
 use Rattle.queue.specs.Sounds.{Fit, Right, fit-sound, fit-ok}
@@ -133,7 +133,7 @@ module _ {s : Bytes} {a : Area} (w : AreaIn s a) where
   hits-asks = let g = w .read .store in (omega (arith, g .up, g .ends), g .all)
 
   ids-32 : All (λ r. length (r .id) ≡ 32) (w .q .recs)
-  ids-32 = all-map (w .q .recs) id-32 (ok-store false (storeOf (w .q)) (ok-queue (w .q) (w .read .range) .1) .1)
+  ids-32 = all-map (w .q .recs) id-32 (ok-store areaForm (storeOf (w .q)) (ok-queue (w .q) (w .read .range) .1) .1)
 
   due-held : (K n : ℕ) (l : List Rec) (time height : ℕ) → All (Right K n) l → All (λ r. due? time height r ≡ true → holder? r ≡ true) l
   unfolding due?

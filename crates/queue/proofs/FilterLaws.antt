@@ -14,8 +14,8 @@ use borrow.Author.Tests.{eqb-true, eqb-false, eq-eqb, ne-eqb, ltb-true, ltb-fals
 use Rattle.queue.specs.Codec.{cases}
 use Rattle.queue.specs.Lists.{and-true}
 use Rattle.queue.specs.Order.{same-is, same-self, same-sym}
-use Rattle.queue.specs.Frames.{recK, idC}
-use Rattle.queue.specs.Forms.{formC, afterIn}
+use Rattle.queue.specs.Frames.{idC}
+use Rattle.queue.specs.Forms.{recIn, afterIn}
 use Rattle.queue.specs.View.{view}
 use Rattle.queue.specs.Reads.{Reads, whole, listAt}
 use Rattle.queue.specs.ReadLaws.{turn, none-left, false-true}
@@ -24,8 +24,9 @@ use Rattle.queue.specs.paper.Records.{Bytes, Id, Rec}
 use Rattle.queue.specs.paper.Lists.{one, count}
 use Rattle.queue.specs.paper.Ids.{same?}
 use Rattle.queue.specs.paper.Sound.{holder?, inputs, stamped?, distinct?, among?, used?, clash?, apart?}
+use Rattle.queue.specs.declared.frame.Form.{Form}
 use Rattle.queue.specs.declared.frame.Seen.{Seen}
-use Rattle.queue.proofs.Turns.{Scan, on, end, ReadsAt, see}
+use Rattle.queue.proofs.Turns.{Scan, on, end, ReadsForm, see-in}
 use Rattle.queue.proofs.ScanLaws.{nothingF}
 
 -- ---- bits
@@ -263,16 +264,16 @@ distinct-no (r ∷ l) m e = cases (stamped? m r)
 unfoldable pub heldF : Id → ℕ → List Rec → ℕ
 heldF x acc l = acc + heldBy l x
 
-module _ (hex : Bool) {kind : ℕ} (z : Id) {s : Bytes} {n at i left acc : ℕ} (x : Scan (formC hex (recK kind)) (heldF z) s n at 0 i left acc) where
-  pub held-go : {m w j : ℕ} {ok b : Bool} {y : Seen} → 0 < left → ReadsAt kind hex s i ok m y → j ≡ afterIn hex s i m → b ≡ among? z (listAt idC (y .facts .ins) (view hex s i) (y .at)) → w ≡ cond b 1 0
-      → Scan (formC hex (recK kind)) (heldF z) s n at 0 j (left - 1) (acc + w)
+module _ (form : Form) (z : Id) {s : Bytes} {n at i left acc : ℕ} (x : Scan (recIn form) (heldF z) s n at 0 i left acc) where
+  pub held-go : {m w j : ℕ} {ok b : Bool} {y : Seen} → 0 < left → ReadsForm form s i ok m y → j ≡ afterIn (form .hex) s i m → b ≡ among? z (listAt idC (y .facts .ins) (view (form .hex) s i) (y .at)) → w ≡ cond b 1 0
+      → Scan (recIn form) (heldF z) s n at 0 j (left - 1) (acc + w)
   unfolding heldF heldBy
   held-go {m} {w} p r g e f =
-      let t = see hex x p r g in
+      let t = see-in form x p r g in
       let k : w ≡ one (hasIn z (t .item)) = f ∙ ap one (e ∙ ap (among? z) (t .is .0 .insList)) in
       on x (acc + w) p t (omega arith)
 
-  pub held-end : left ≡ 0 → acc ≡ heldBy (listAt (formC hex (recK kind)) n s at) z
+  pub held-end : left ≡ 0 → acc ≡ heldBy (listAt (recIn form) n s at) z
   unfolding heldF heldBy
   held-end e = let q = end x e in omega arith
 
@@ -280,21 +281,21 @@ module _ (hex : Bool) {kind : ℕ} (z : Id) {s : Bytes} {n at i left acc : ℕ} 
 pass-own : {K : Type 0} {own : K → Bool} (own′ : K → Bool) {hash H : K → ℕ} {t t′ : List ℕ} {b : Bool} → ((x : K) → own x ≡ own′ x) → Passed own hash H t b t′ → Passed own′ hash H t b t′
 pass-own own′ e g = record { size = g .size; old = g .old; two = g .two; one = λ f x o. g .one f x (e x ∙ o); new = λ f x o. g .new f x (e x ∙ o) }
 
-module _ (hex : Bool) {kind : ℕ} {s : Bytes} {n at i left : ℕ} {t : List ℕ} (x : Scan (formC hex (recK kind)) nothingF s n at tt i left tt) (w : Walk hasIn hashL (listAt (formC hex (recK kind)) n s at) (listAt (formC hex (recK kind)) left s i) t) where
-  module _ {m : ℕ} {ok b : Bool} {y : Seen} {t′ : List ℕ} (p : 0 < left) (r : ReadsAt kind hex s i ok m y)
-      (g : Passed (λ z. among? z (listAt idC (y .facts .ins) (view hex s i) (y .at))) hashL (heldBy (listAt (formC hex (recK kind)) n s at)) t b t′) where
-    pub apart-go : {j : ℕ} → j ≡ afterIn hex s i m → b ≡ false → Scan (formC hex (recK kind)) nothingF s n at tt j (left - 1) tt × Walk hasIn hashL (listAt (formC hex (recK kind)) n s at) (listAt (formC hex (recK kind)) (left - 1) s j) t′
+module _ (form : Form) {s : Bytes} {n at i left : ℕ} {t : List ℕ} (x : Scan (recIn form) nothingF s n at tt i left tt) (w : Walk hasIn hashL (listAt (recIn form) n s at) (listAt (recIn form) left s i) t) where
+  module _ {m : ℕ} {ok b : Bool} {y : Seen} {t′ : List ℕ} (p : 0 < left) (r : ReadsForm form s i ok m y)
+      (g : Passed (λ z. among? z (listAt idC (y .facts .ins) (view (form .hex) s i) (y .at))) hashL (heldBy (listAt (recIn form) n s at)) t b t′) where
+    pub apart-go : {j : ℕ} → j ≡ afterIn (form .hex) s i m → b ≡ false → Scan (recIn form) nothingF s n at tt j (left - 1) tt × Walk hasIn hashL (listAt (recIn form) n s at) (listAt (recIn form) (left - 1) s j) t′
     unfolding nothingF heldBy
     apart-go {j} e f =
-        let u = see hex x p r e in
-        (on x tt p u refl, walk-go hasIn hashL (listAt (formC hex (recK kind)) n s at) (u .item) (listAt (formC hex (recK kind)) (left - 1) s j) (rw (u .list) at w) (pass-own (λ z. hasIn z (u .item)) (λ z. ap (among? z) (u .is .0 .insList)) g) f)
+        let u = see-in form x p r e in
+        (on x tt p u refl, walk-go hasIn hashL (listAt (recIn form) n s at) (u .item) (listAt (recIn form) (left - 1) s j) (rw (u .list) at w) (pass-own (λ z. hasIn z (u .item)) (λ z. ap (among? z) (u .is .0 .insList)) g) f)
 
-    pub apart-stop : b ≡ true → false ≡ apart? (listAt (formC hex (recK kind)) n s at)
+    pub apart-stop : b ≡ true → false ≡ apart? (listAt (recIn form) n s at)
     unfolding heldBy
-    apart-stop f = let u = g .two f in apart-no (listAt (formC hex (recK kind)) n s at) (u .0) (u .1)
+    apart-stop f = let u = g .two f in apart-no (listAt (recIn form) n s at) (u .0) (u .1)
 
-  pub apart-end : left ≡ 0 → true ≡ apart? (listAt (formC hex (recK kind)) n s at)
-  apart-end e = apart-yes (listAt (formC hex (recK kind)) n s at) (walk-end (rw (none-left (formC hex (recK kind)) s left i e .0) at w))
+  pub apart-end : left ≡ 0 → true ≡ apart? (listAt (recIn form) n s at)
+  apart-end e = apart-yes (listAt (recIn form) n s at) (walk-end (rw (none-left (recIn form) s left i e .0) at w))
 
 -- ---- an id's bytes
 pub id-room : (x : Id) (at : ℕ) → length x ≡ 32 → at ≤ 24 → (8 ≤ 8) × (at + 8 ≤ length (view false x 0))

@@ -106,19 +106,19 @@ and-none : (a : Bool) → (a && false) ≡ false
 and-none true = refl
 and-none false = refl
 
-pub tag-none : {n : ℕ} {s : Bytes} {at : ℕ} → length s ≤ at → TagAt n s at false 0
+pub tag-none : (n : ℕ) {s : Bytes} {at : ℕ} → length s ≤ at → TagAt n s at false 0
 unfolding tagC tagDec
-tag-none {n} {s} {at} k = record { good = λ p z. false-true z; bad = λ p z. rw (drop-none s at k) }
+tag-none n {s} {at} k = record { good = λ p z. false-true z; bad = λ p z. rw (drop-none s at k) }
 
-pub tag-good : {n : ℕ} {s : Bytes} {at b : ℕ} → at < length s → getD s at 0 < 256 → b ≡ getD s at 0 → b ≡ n → TagAt n s at true (at + 1)
+pub tag-good : (n : ℕ) {s : Bytes} {at b : ℕ} → at < length s → getD s at 0 < 256 → b ≡ getD s at 0 → b ≡ n → TagAt n s at true (at + 1)
 unfolding tagC tagDec
-tag-good {n} {s} {at} {b} k l e q =
+tag-good n {s} {at} {b} k l e q =
     let h : ltb n 256 ≡ true = lt-ltb n 256 (omega arith) in
     record { good = λ p z. (tt, rw (drop-cons s at 0 k, ← e, h, eq-eqb b n q, add-one), omega arith, omega arith, tt); bad = λ p z. false-true (sym z) }
 
-pub tag-other : {n : ℕ} {s : Bytes} {at b : ℕ} → at < length s → b ≡ getD s at 0 → (b ≡ n → ⊥) → TagAt n s at false 0
+pub tag-other : (n : ℕ) {s : Bytes} {at b : ℕ} → at < length s → b ≡ getD s at 0 → (b ≡ n → ⊥) → TagAt n s at false 0
 unfolding tagC tagDec
-tag-other {n} {s} {at} {b} k e q = record { good = λ p z. false-true z; bad = λ p z. rw (drop-cons s at 0 k, ← e, ne-eqb b n q) (rw (and-none (ltb n 256))) }
+tag-other n {s} {at} {b} k e q = record { good = λ p z. false-true z; bad = λ p z. rw (drop-cons s at 0 k, ← e, ne-eqb b n q) (rw (and-none (ltb n 256))) }
 
 pub tag-size : (n : ℕ) (a : Unit {0}) → tagC n .ok a → length (tagC n .enc a) ≡ 1
 unfolding tagC
@@ -317,9 +317,9 @@ body-long o = opt-long heldC o
 guarded : {A : Type 0} (t : A → Bool) {𝓐 : Codec A} {s : Bytes} {at next : ℕ} {ok : Bool} (W : A → Type 0) (b : Bool) → ((a : A) → W a → t a ≡ b) → Reads 𝓐 s at ok next W → Reads (guardC t 𝓐) s at (ok && b) next W
 unfolding guardC guardDec
 guarded t {𝓐} {s} {at} {next} {ok} W b e x = record {
-  good = λ h z. let k = and-true ok b z in let u = x .good h (k .0) in (u .0, rw (u .1, e (u .0) (u .4), k .1), u .2, u .3, u .4);
+  good = λ h z. let k = and-true ok b z in let u = x .good h (k .0) in let f = e (u .0) (u .4) ∙ k .1 in (u .0, rw (u .1, f), u .2, u .3, u .4);
   bad = λ h z. cases ok
-      (λ o. let f : b ≡ false = rw o at z in let u = x .good h o in rw (u .1, e (u .0) (u .4), f))
+      (λ o. let u = x .good h o in let f = e (u .0) (u .4) ∙ rw o at z in rw (u .1, f))
       (λ o. rw (x .bad h o));
 }
 

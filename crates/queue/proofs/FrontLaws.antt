@@ -9,6 +9,7 @@ use lib.ListN.{length, drop, take, replicate, length-append, length-replicate}
 use Rattle.queue.specs.Codec as codec
 use Rattle.queue.specs.Codec.{Codec, beC, pairC, mapC, optC, optEnc, vecC, byteC, encs}
 use Rattle.queue.specs.Splice.{Put, splice, be}
+use Rattle.queue.specs.paper.Kinds.{newest}
 use Rattle.queue.specs.Frames.{Head, idC, limitsC, headK, headC, tagC}
 use Rattle.queue.specs.Forms.{queueC, queue-enc, storeOf, headFor}
 use Rattle.queue.specs.Frames.{recC}
@@ -43,7 +44,7 @@ pub tip-none : {d d₁ : Bytes} {at r : ℕ} {has : Bool} (id : Id) → has ≡ 
 unfolding optC optEnc
 tip-none id e x = rw e x
 
-pub head-enc : (h : Head) → headC .enc h ≡ (1 ∷ []) ++ (limitsC .enc (h .limits) ++ (codec.be 8 (h .revision) ++ (codec.be 4 (h .cursor) ++ (optC idC .enc (h .tip) ++ (codec.be 8 (h .counter) ++ codec.be 4 (h .count))))))
+pub head-enc : (h : Head) → headC .enc h ≡ (newest ∷ []) ++ (limitsC .enc (h .limits) ++ (codec.be 8 (h .revision) ++ (codec.be 4 (h .cursor) ++ (optC idC .enc (h .tip) ++ (codec.be 8 (h .counter) ++ codec.be 4 (h .count))))))
 unfolding headK mapC pairC beC tagC
 head-enc h = refl
 
@@ -58,8 +59,8 @@ eight c {a} {a′} {d} {d′} {e} {e′} {f} {f′} {g} {g′} {h} {h′} {i} {i
 split-front : (l : Limits) (m : Marks) (tip : Id) → Small m → startBytes l (m .persisted .0) (m .revision) ++ marksBytes m tip ≡ frontBytes l m tip
 unfolding frontBytes startBytes marksBytes
 split-front l m tip h =
-    two (be 4 (m .persisted .0)) (1 ∷ []) (limitsC .enc l) (be 8 (m .revision)) (be 4 (m .cursor .0)) (optC idC .enc (tipOf (m .tip) tip)) (be 8 (m .counter .0)) (be 4 (m .count))
-    ∙ eight (1 ∷ []) {d = limitsC .enc l} {g = optC idC .enc (tipOf (m .tip) tip)} (be-same 4 (m .persisted .0) (h .persisted)) refl (be-same 8 (m .revision) (h .revision)) (be-same 4 (m .cursor .0) (h .cursor)) refl (be-same 8 (m .counter .0) (h .counter)) (be-same 4 (m .count) (h .count))
+    two (be 4 (m .persisted .0)) (newest ∷ []) (limitsC .enc l) (be 8 (m .revision)) (be 4 (m .cursor .0)) (optC idC .enc (tipOf (m .tip) tip)) (be 8 (m .counter .0)) (be 4 (m .count))
+    ∙ eight (newest ∷ []) {d = limitsC .enc l} {g = optC idC .enc (tipOf (m .tip) tip)} (be-same 4 (m .persisted .0) (h .persisted)) refl (be-same 8 (m .revision) (h .revision)) (be-same 4 (m .cursor .0) (h .cursor)) refl (be-same 8 (m .counter .0) (h .counter)) (be-same 4 (m .count) (h .count))
     ∙ ap (λ (k : Bytes). codec.be 4 (m .persisted .0) ++ k) (sym (head-enc (headWith l m tip)))
   where
     two : (a c d e f g h i : Bytes) → (((a ++ c) ++ d) ++ e) ++ (((f ++ g) ++ h) ++ i) ≡ ((((((a ++ c) ++ d) ++ e) ++ f) ++ g) ++ h) ++ i

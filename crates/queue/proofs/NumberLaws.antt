@@ -12,8 +12,7 @@ use lib.Seq.{drop-cons, take-suc-set, length-take-le}
 use borrow.Author.Tests.{eqb-true, eqb-false, eq-eqb, ltb-true, ltb-false, lt-ltb, le-ltb, leb-true, leb-false}
 use Rattle.queue.specs.Codec.{cases, All}
 use Rattle.queue.specs.Lists.{and-true}
-use Rattle.queue.specs.Frames.{recK}
-use Rattle.queue.specs.Forms.{formC, afterIn}
+use Rattle.queue.specs.Forms.{recIn, afterIn}
 use Rattle.queue.specs.Reads.{whole, listAt}
 use Rattle.queue.specs.ReadLaws.{false-true, none-left}
 use Rattle.queue.specs.Facts.{factsOf}
@@ -26,9 +25,10 @@ use Rattle.queue.specs.paper.Records.{Bytes, Rec}
 use Rattle.queue.specs.paper.Lists.{one, count}
 use Rattle.queue.specs.paper.Sound.{holder?, tombstones, stamped?, distinct?}
 use Rattle.queue.specs.declared.frame.Facts.{Facts}
+use Rattle.queue.specs.declared.frame.Form.{Form}
 use Rattle.queue.specs.declared.frame.Seen.{Seen}
 use Rattle.queue.specs.declared.rules.Query.the-variants.{Tombstones}
-use Rattle.queue.proofs.Turns.{Scan, on, end, ReadsAt, seen, see}
+use Rattle.queue.proofs.Turns.{Scan, on, end, ReadsForm, seen-in, see-in}
 use Rattle.queue.proofs.FilterLaws.{mark-here, mark-old, mark-size, distinct-yes, distinct-no}
 
 -- ---- what the numbers say of the records
@@ -73,29 +73,29 @@ add-new f v k e h = rw (e, add-one) (take-suc-set v k (f .finish .0) h)
 unfoldable pub numbersFrom : List ℕ → List Rec → List ℕ
 numbersFrom z l = z ++ numbersOf l
 
-module _ (hex : Bool) {kind : ℕ} {s : Bytes} {n at i left : ℕ} {z : List ℕ} (x : Scan (formC hex (recK kind)) numbersFrom s n at [] i left z) where
-  module _ {m : ℕ} {ok : Bool} {y : Seen} (p : 0 < left) (r : ReadsAt kind hex s i ok m y) where
-    pub gather-go : {j : ℕ} {z′ : List ℕ} → j ≡ afterIn hex s i m → z′ ≡ z ++ numberF (y .facts) → Scan (formC hex (recK kind)) numbersFrom s n at [] j (left - 1) z′
+module _ (form : Form) {s : Bytes} {n at i left : ℕ} {z : List ℕ} (x : Scan (recIn form) numbersFrom s n at [] i left z) where
+  module _ {m : ℕ} {ok : Bool} {y : Seen} (p : 0 < left) (r : ReadsForm form s i ok m y) where
+    pub gather-go : {j : ℕ} {z′ : List ℕ} → j ≡ afterIn (form .hex) s i m → z′ ≡ z ++ numberF (y .facts) → Scan (recIn form) numbersFrom s n at [] j (left - 1) z′
     unfolding numbersFrom numbersOf factsOf
     gather-go {j} {z′} g e =
-        let t = see hex x p r g in
+        let t = see-in form x p r g in
         let f : z′ ≡ z ++ numberF (factsOf (t .item)) = e ∙ ap (λ (u : Facts). z ++ numberF u) (t .is .0 .facts) in
-        let rest = numbersOf (listAt (formC hex (recK kind)) (left - 1) s j) in
+        let rest = numbersOf (listAt (recIn form) (left - 1) s j) in
         on x z′ p t (sym (append-assoc z (numberF (factsOf (t .item))) rest) ∙ ap (λ (w : List ℕ). w ++ rest) (sym f))
 
     -- there is room for a tombstone's number
-    pub gather-room : {c : ℕ} → tombstones (listAt (formC hex (recK kind)) n s at) ≤ c → y .facts .holder ≡ false → length z < c
+    pub gather-room : {c : ℕ} → tombstones (listAt (recIn form) n s at) ≤ c → y .facts .holder ≡ false → length z < c
     unfolding numbersFrom numbersOf factsOf
     gather-room h e =
-        let t = seen hex x p r in
+        let t = seen-in form x p r in
         let f : holder? (t .item) ≡ false = ap (λ (u : Facts). u .holder) (sym (t .is .0 .facts)) ∙ e in
-        let u = numbers-long (listAt (formC hex (recK kind)) n s at) in
+        let u = numbers-long (listAt (recIn form) n s at) in
         let v = ap length (x .same) ∙ u in
-        let w = length-append z (numbersOf (listAt (formC hex (recK kind)) left s i)) in
-        let a : 0 < length (numbersOf (listAt (formC hex (recK kind)) left s i)) = rw (t .list, f) (omega arith) in
+        let w = length-append z (numbersOf (listAt (recIn form) left s i)) in
+        let a : 0 < length (numbersOf (listAt (recIn form) left s i)) = rw (t .list, f) (omega arith) in
         omega arith
 
-  pub gather-end : left ≡ 0 → z ≡ numbersOf (listAt (formC hex (recK kind)) n s at)
+  pub gather-end : left ≡ 0 → z ≡ numbersOf (listAt (recIn form) n s at)
   unfolding numbersFrom numbersOf
   gather-end e = sym (append-nil z) ∙ end x e
 

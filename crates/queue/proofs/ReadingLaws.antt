@@ -14,6 +14,7 @@ use Rattle.queue.specs.Codec as codec
 use Rattle.queue.specs.Codec.{All, cases, Got, fail, got, Codec, decs, encs, byteC, beC, be-length, pairC, mapC, optC, vecC, countedC, vecMost, vec-bwd}
 use Rattle.queue.specs.Splice.{Put, be}
 use Rattle.queue.specs.Plain.{opt-plain, terms-plain, place-plain, ids-plain, id-plain, rec-plain, body-plain, head-plain}
+use Rattle.queue.specs.paper.Kinds.{newest}
 use Rattle.queue.specs.Frames.{tagC, recK, recC, idC, termsC, labelC, placeC, bodyC}
 use Rattle.queue.specs.Reads.{Reads, isGot, valOf, whole, listAt}
 use Rattle.queue.specs.ReadLaws.{Turn, turn, false-true, Spans, spans-id, spans-vec}
@@ -145,7 +146,7 @@ module _ (s id : Bytes) {x : Area} (a : AreaIs s x) (t : x .ok ≡ true) where
         let u = a .good t in
         let w = u .2 .store in
         let d : u .0 ≡ q = some-same (sym (u .1) ∙ c) in
-        let e1 : length (headBytes (u .0)) ≡ x .open .head .size = ap length (sym (head-plain (u .0))) ∙ w .frame .size in
+        let e1 : length (headBytes (u .0)) ≡ x .open .head .size = ap length (sym (head-plain newest (u .0))) ∙ w .frame .size in
         let e2 : endOf k (listAt (formC false recC) (x .open .head .count) s (x .open .start)) ≡ endOf id (u .0 .recs) = rw (w .list, key h e) in
         let e3 : y .at + length (recBytes r) ≡ 4 + length (headBytes (u .0)) + endOf id (u .0 .recs) = omega (arith, f .1 r z g, w .start, e1, e2) in
         rw (← d) e3

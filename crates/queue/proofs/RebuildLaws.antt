@@ -36,7 +36,7 @@ use Rattle.queue.specs.paper.Lists.{isSome, one, filter, map, maybe}
 use Rattle.queue.specs.paper.Ids.{cmpL, same?}
 use Rattle.queue.specs.paper.Sound.{holder?}
 use Rattle.queue.specs.paper.Area.{beVal, flagged, termsBytes, placeBytes, heldBytes, recBytes}
-use Rattle.queue.specs.paper.Changing.{confirm, finished, onePast, placeIn, releaseOne}
+use Rattle.queue.specs.paper.Changing.{withdrawnMark, confirm, finished, onePast, placeIn, releaseOne}
 use Rattle.queue.specs.declared.frame.Seen.{Seen}
 use Rattle.queue.specs.declared.frame.Facts.{Facts}
 use Rattle.queue.specs.declared.touch.Verdict.{Verdict}
@@ -236,7 +236,7 @@ module _ (t : Bytes) (v : Verdict) (r : Rec) where
   one-not : eqb (v .what) 0 ≡ true → eqb (v .what) 1 ≡ false
   one-not a = let z = eqb-true (v .what) 0 a in ne-eqb (v .what) 1 (λ e. let y : ⊥ = omega arith in y)
 
-  to-mark : R′ .mark ≡ cond (eqb (v .what) 1 && (eqb (r .state) 4 || eqb (r .state) 5)) (r .state) (r .mark)
+  to-mark : R′ .mark ≡ cond (eqb (v .what) 1) (withdrawnMark (r .state) (r .reason) (r .mark)) (r .mark)
   unfolding asTouched confirm
   to-mark = cases (eqb (v .what) 0) (λ a. rw (a, one-not a)) (λ a. cases (eqb (v .what) 1) (λ b. rw (a, b)) (λ b. cases (eqb (v .what) 2) (λ c. rw (a, b, c)) (λ c. rw (a, b, c))))
 

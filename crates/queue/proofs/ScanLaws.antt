@@ -26,7 +26,7 @@ use Rattle.queue.specs.paper.Sound.{among?}
 use Rattle.queue.specs.declared.frame.Form.{Form}
 use Rattle.queue.specs.declared.frame.Seen.{Seen}
 use Rattle.queue.specs.declared.rules.Query.{Query}
-use Rattle.queue.proofs.Turns.{Scan, start, here, on, stop, end, SeenIn, ReadsAt, ReadsRec, seen, see}
+use Rattle.queue.proofs.Turns.{Scan, start, here, on, stop, end, SeenIn, ReadsForm, ReadsRec, seen, see}
 
 -- ---- counts
 unfoldable pub sumFrom : Query → ℕ → List Rec → ℕ
@@ -49,7 +49,7 @@ pub record Framing (form : Form) (s : Bytes) (n at i left : ℕ) : Type 0 where
   pub all : whole (recIn form) left s i ≡ whole (recIn form) n s at
   pub rest : behind (recIn form) left s i ≡ behind (recIn form) n s at
 
-module _ {form : Form} {s : Bytes} {n at i left m : ℕ} {ok : Bool} {y : Seen} (x : Framing form s n at i left) (p : 0 < left) (r : ReadsAt (form .kind) (form .hex) s i ok m y) where
+module _ {form : Form} {s : Bytes} {n at i left m : ℕ} {ok : Bool} {y : Seen} (x : Framing form s n at i left) (p : 0 < left) (r : ReadsForm form s i ok m y) where
   pub frames-in : ok ≡ true → m ≤ length (view (form .hex) s i)
   frames-in t = r .good (omega arith) t .3
 

@@ -13,8 +13,8 @@ use Rattle.queue.specs.Codec.{cases, encs, byteC, vecC}
 use Rattle.queue.specs.Ids.{part}
 use Rattle.queue.specs.Lists.{and-true, and-both}
 use Rattle.queue.specs.Order.{same-is, same-self, same-sym, or-true, or-false}
-use Rattle.queue.specs.Frames.{recK, idC}
-use Rattle.queue.specs.Forms.{formC, afterIn}
+use Rattle.queue.specs.Frames.{idC}
+use Rattle.queue.specs.Forms.{recIn, afterIn}
 use Rattle.queue.specs.View.{view}
 use Rattle.queue.specs.Reads.{Reads, whole, listAt}
 use Rattle.queue.specs.ReadLaws.{Turn, turn, none-left, false-true, spans-id}
@@ -24,9 +24,10 @@ use Rattle.queue.specs.paper.Records.{Bytes, Id, Rec}
 use Rattle.queue.specs.paper.Ids.{same?}
 use Rattle.queue.specs.paper.Lists.{one, any?, all?, total, count}
 use Rattle.queue.specs.paper.Sound.{inputs, among?, apart?}
+use Rattle.queue.specs.declared.frame.Form.{Form}
 use Rattle.queue.specs.declared.frame.Seen.{Seen}
 use Rattle.queue.proofs.FrameLaws.{bytes-enc}
-use Rattle.queue.proofs.Turns.{Scan, here, on, stop, end, ReadsAt, seen, see}
+use Rattle.queue.proofs.Turns.{Scan, here, on, stop, end, ReadsForm, seen-in, see-in}
 use Rattle.queue.proofs.ScanLaws.{nothingF}
 use Rattle.queue.proofs.RowLaws.{shuffled-self}
 use Rattle.queue.proofs.FilterLaws.{mark-size, mark-here, mark-old, apart-yes, apart-no}
@@ -180,17 +181,17 @@ module _ (hex : Bool) (s : Bytes) (w : List ℕ) (k : ℕ) {v : Bytes} {n at i l
   unfolding meetsF meets
   meets-end e = end x e
 
-module _ (hex : Bool) {kind : ℕ} (w : List ℕ) {s : Bytes} {n at i left k : ℕ} (x : Scan (formC hex (recK kind)) (crosses hex s w) s n at 0 i left k) where
-  module _ {m : ℕ} {ok b : Bool} {y : Seen} (h : 0 < left) (r : ReadsAt kind hex s i ok m y) (e : b ≡ meets hex s w k (listAt idC (y .facts .ins) (view hex s i) (y .at))) where
-    pub crosses-go : {j : ℕ} → j ≡ afterIn hex s i m → b ≡ false → Scan (formC hex (recK kind)) (crosses hex s w) s n at 0 j (left - 1) (k + 1)
+module _ (form : Form) (w : List ℕ) {s : Bytes} {n at i left k : ℕ} (x : Scan (recIn form) (crosses (form .hex) s w) s n at 0 i left k) where
+  module _ {m : ℕ} {ok b : Bool} {y : Seen} (h : 0 < left) (r : ReadsForm form s i ok m y) (e : b ≡ meets (form .hex) s w k (listAt idC (y .facts .ins) (view (form .hex) s i) (y .at))) where
+    pub crosses-go : {j : ℕ} → j ≡ afterIn (form .hex) s i m → b ≡ false → Scan (recIn form) (crosses (form .hex) s w) s n at 0 j (left - 1) (k + 1)
     unfolding crosses
-    crosses-go g f = let t = see hex x h r g in on x (k + 1) h t (rw (← (t .is .0 .insList), ← e, f))
+    crosses-go g f = let t = see-in form x h r g in on x (k + 1) h t (rw (← (t .is .0 .insList), ← e, f))
 
-    pub crosses-stop : b ≡ true → true ≡ crosses hex s w 0 (listAt (formC hex (recK kind)) n s at)
+    pub crosses-stop : b ≡ true → true ≡ crosses (form .hex) s w 0 (listAt (recIn form) n s at)
     unfolding crosses
-    crosses-stop f = let t = seen hex x h r in stop x t (rw (← (t .is .0 .insList), ← e, f))
+    crosses-stop f = let t = seen-in form x h r in stop x t (rw (← (t .is .0 .insList), ← e, f))
 
-  pub crosses-end : left ≡ 0 → false ≡ crosses hex s w 0 (listAt (formC hex (recK kind)) n s at)
+  pub crosses-end : left ≡ 0 → false ≡ crosses (form .hex) s w 0 (listAt (recIn form) n s at)
   unfolding crosses
   crosses-end e = end x e
 
@@ -351,27 +352,27 @@ gone-end {hex} {s} {all} {b = false} w l = apart-yes all (λ x. let h = w .few (
 noted-own : {last hex : Bool} {s : Bytes} {all : List Rec} {k : ℕ} {own : Id → Bool} (own′ : Id → Bool) {t z t′ z′ : List ℕ} {b : Bool} → ((x : Id) → own x ≡ own′ x) → Noted last hex s all k own t z b t′ z′ → Noted last hex s all k own′ t z b t′ z′
 noted-own own′ e g = record { size = g .size; old = g .old; bad = g .bad; held = g .held; back = g .back; one = λ f a x o. g .one f a x (e x ∙ o); new = λ f x o. g .new f x (e x ∙ o) }
 
-module _ (hex : Bool) {kind : ℕ} {s : Bytes} {n at i left : ℕ} (k : ℕ) (x : Scan (formC hex (recK kind)) nothingF s n at tt i left tt) (d : drop k (listAt (formC hex (recK kind)) n s at) ≡ listAt (formC hex (recK kind)) left s i) where
-  module _ {m : ℕ} {ok : Bool} {y : Seen} (p : 0 < left) (r : ReadsAt kind hex s i ok m y) where
-    pub gone-own : Owned (listAt (formC hex (recK kind)) n s at) k (λ z. among? z (listAt idC (y .facts .ins) (view hex s i) (y .at)))
+module _ (form : Form) {s : Bytes} {n at i left : ℕ} (k : ℕ) (x : Scan (recIn form) nothingF s n at tt i left tt) (d : drop k (listAt (recIn form) n s at) ≡ listAt (recIn form) left s i) where
+  module _ {m : ℕ} {ok : Bool} {y : Seen} (p : 0 < left) (r : ReadsForm form s i ok m y) where
+    pub gone-own : Owned (listAt (recIn form) n s at) k (λ z. among? z (listAt idC (y .facts .ins) (view (form .hex) s i) (y .at)))
     gone-own z e =
-        let u = seen hex x p r in
+        let u = seen-in form x p r in
         let a : hasIn z (u .item) ≡ true = ap (among? z) (sym (u .is .0 .insList)) ∙ e in
         rw (d, u .list, a) (omega arith)
 
-    module _ {last b : Bool} {t z t′ z′ : List ℕ} (w : Gone hex s (listAt (formC hex (recK kind)) n s at) (listAt (formC hex (recK kind)) left s i) t z)
-        (g : Noted last hex s (listAt (formC hex (recK kind)) n s at) k (λ c. among? c (listAt idC (y .facts .ins) (view hex s i) (y .at))) t z b t′ z′) (f : b ≡ true) where
-      pub gone-on : {j : ℕ} → j ≡ afterIn hex s i m → Scan (formC hex (recK kind)) nothingF s n at tt j (left - 1) tt × (drop (k + 1) (listAt (formC hex (recK kind)) n s at) ≡ listAt (formC hex (recK kind)) (left - 1) s j) × Gone hex s (listAt (formC hex (recK kind)) n s at) (listAt (formC hex (recK kind)) (left - 1) s j) t′ z′
+    module _ {last b : Bool} {t z t′ z′ : List ℕ} (w : Gone (form .hex) s (listAt (recIn form) n s at) (listAt (recIn form) left s i) t z)
+        (g : Noted last (form .hex) s (listAt (recIn form) n s at) k (λ c. among? c (listAt idC (y .facts .ins) (view (form .hex) s i) (y .at))) t z b t′ z′) (f : b ≡ true) where
+      pub gone-on : {j : ℕ} → j ≡ afterIn (form .hex) s i m → Scan (recIn form) nothingF s n at tt j (left - 1) tt × (drop (k + 1) (listAt (recIn form) n s at) ≡ listAt (recIn form) (left - 1) s j) × Gone (form .hex) s (listAt (recIn form) n s at) (listAt (recIn form) (left - 1) s j) t′ z′
       unfolding nothingF
       gone-on {j} e =
-          let u = see hex x p r e in (
+          let u = see-in form x p r e in (
             on x tt p u refl,
-            drop-next k (listAt (formC hex (recK kind)) n s at) (d ∙ u .list),
-            gone-go (u .item) (listAt (formC hex (recK kind)) (left - 1) s j) (d ∙ u .list) (rw (u .list) at w) (noted-own (λ c. hasIn c (u .item)) (λ c. ap (among? c) (u .is .0 .insList)) g) f,
+            drop-next k (listAt (recIn form) n s at) (d ∙ u .list),
+            gone-go (u .item) (listAt (recIn form) (left - 1) s j) (d ∙ u .list) (rw (u .list) at w) (noted-own (λ c. hasIn c (u .item)) (λ c. ap (among? c) (u .is .0 .insList)) g) f,
           )
 
-  pub gone-last : {t z z′ : List ℕ} {b : Bool} → left ≡ 0 → Gone hex s (listAt (formC hex (recK kind)) n s at) (listAt (formC hex (recK kind)) left s i) t z → Looked hex s (listAt (formC hex (recK kind)) n s at) z b z′ → not b ≡ apart? (listAt (formC hex (recK kind)) n s at)
-  gone-last e w l = gone-end (rw (none-left (formC hex (recK kind)) s left i e .0) at w) l
+  pub gone-last : {t z z′ : List ℕ} {b : Bool} → left ≡ 0 → Gone (form .hex) s (listAt (recIn form) n s at) (listAt (recIn form) left s i) t z → Looked (form .hex) s (listAt (recIn form) n s at) z b z′ → not b ≡ apart? (listAt (recIn form) n s at)
+  gone-last e w l = gone-end (rw (none-left (recIn form) s left i e .0) at w) l
 
 -- ---- what is said in the end
 module _ {last : Bool} {all : List Rec} where

@@ -9,12 +9,13 @@ use native.Mathlib.Nat.{le-refl}
 use Rattle.queue.specs.Codec.{Bytes, Codec}
 use Rattle.queue.specs.Reads.{Reads, whole, listAt, behind}
 use Rattle.queue.specs.ReadLaws.{Turn, turn, none-left}
-use Rattle.queue.specs.Frames.{recK}
-use Rattle.queue.specs.Forms.{formC, afterIn, Framed, turn-in}
+use Rattle.queue.specs.Frames.{recK, recC}
+use Rattle.queue.specs.Forms.{formC, afterIn, Framed, turn-in, recIn}
 use Rattle.queue.specs.View.{view}
 use Rattle.queue.specs.Facts.{SeenAs}
 use Rattle.queue.specs.paper.Records.{Rec}
 use Rattle.queue.specs.paper.Kinds.{newest}
+use Rattle.queue.specs.declared.frame.Form.{Form}
 use Rattle.queue.specs.declared.frame.Seen.{Seen}
 
 pub record Scan {A S X : Type 0} (𝓐 : Codec A) (F : S → List A → X) (s : Bytes) (n at : ℕ) (st₀ : S) (i left : ℕ) (st : S) : Type 0 where
@@ -39,23 +40,30 @@ module _ {A S X : Type 0} {𝓐 : Codec A} {F : S → List A → X} {s : Bytes} 
 pub start : {A S X : Type 0} (𝓐 : Codec A) (F : S → List A → X) (s : Bytes) (n at : ℕ) (st : S) → at ≤ length s → whole 𝓐 n s at ≡ true → Scan 𝓐 F s n at st at n st
 start 𝓐 F s n at st h w = record { within = h; all = w; few = le-refl n; same = refl }
 
--- ---- the records of a queue, in either form and under a header kind, each read from its view; j is where the next one starts
-abbrev pub SeenAt : ℕ → Bool → Bytes → ℕ → Bool → ℕ → Seen → Rec → Type 0
-SeenAt kind hex s i ok m y r = SeenAs (view hex s i) y r × Framed (recK kind) hex s i ok m r
+-- ---- the records of a queue in a form, each read from its view; j is where the next one starts
+abbrev pub SeenForm : Form → Bytes → ℕ → Bool → ℕ → Seen → Rec → Type 0
+SeenForm form s i ok m y r = SeenAs (view (form .hex) s i) y r × Framed (recK (form .kind)) (form .hex) s i ok m r
 
-abbrev pub ReadsAt : ℕ → Bool → Bytes → ℕ → Bool → ℕ → Seen → Type 0
-ReadsAt kind hex s i ok m y = Reads (recK kind) (view hex s i) 0 ok m (SeenAs (view hex s i) y)
+abbrev pub ReadsForm : Form → Bytes → ℕ → Bool → ℕ → Seen → Type 0
+ReadsForm form s i ok m y = Reads (recK (form .kind)) (view (form .hex) s i) 0 ok m (SeenAs (view (form .hex) s i) y)
 
--- under the newest kind
+module _ {S X : Type 0} (form : Form) {F : S → List Rec → X} {s : Bytes} {n at : ℕ} {st₀ st : S} {i left : ℕ} (x : Scan (recIn form) F s n at st₀ i left st) where
+  pub seen-in : {ok : Bool} {m : ℕ} {y : Seen} → 0 < left → ReadsForm form s i ok m y → Turn (recIn form) s left i (afterIn (form .hex) s i m) (SeenForm form s i ok m y)
+  seen-in p r = turn-in (form .hex) left (x .within) (x .all) p r
+
+  pub see-in : {ok : Bool} {m j : ℕ} {y : Seen} → 0 < left → ReadsForm form s i ok m y → j ≡ afterIn (form .hex) s i m → Turn (recIn form) s left i j (SeenForm form s i ok m y)
+  see-in p r e = rw e (seen-in p r)
+
+-- ---- under the newest kind
 abbrev pub SeenIn : Bool → Bytes → ℕ → Bool → ℕ → Seen → Rec → Type 0
-SeenIn = SeenAt newest
+SeenIn hex s i ok m y r = SeenAs (view hex s i) y r × Framed recC hex s i ok m r
 
 abbrev pub ReadsRec : Bool → Bytes → ℕ → Bool → ℕ → Seen → Type 0
-ReadsRec = ReadsAt newest
+ReadsRec hex s i ok m y = Reads recC (view hex s i) 0 ok m (SeenAs (view hex s i) y)
 
-module _ {S X : Type 0} (hex : Bool) {kind : ℕ} {F : S → List Rec → X} {s : Bytes} {n at : ℕ} {st₀ st : S} {i left : ℕ} (x : Scan (formC hex (recK kind)) F s n at st₀ i left st) where
-  pub seen : {ok : Bool} {m : ℕ} {y : Seen} → 0 < left → ReadsAt kind hex s i ok m y → Turn (formC hex (recK kind)) s left i (afterIn hex s i m) (SeenAt kind hex s i ok m y)
-  seen p r = turn-in hex left (x .within) (x .all) p r
+module _ {S X : Type 0} (hex : Bool) {F : S → List Rec → X} {s : Bytes} {n at : ℕ} {st₀ st : S} {i left : ℕ} (x : Scan (formC hex recC) F s n at st₀ i left st) where
+  pub seen : {ok : Bool} {m : ℕ} {y : Seen} → 0 < left → ReadsRec hex s i ok m y → Turn (formC hex recC) s left i (afterIn hex s i m) (SeenIn hex s i ok m y)
+  seen p r = seen-in (record { hex = hex; kind = newest }) x p r
 
-  pub see : {ok : Bool} {m j : ℕ} {y : Seen} → 0 < left → ReadsAt kind hex s i ok m y → j ≡ afterIn hex s i m → Turn (formC hex (recK kind)) s left i j (SeenAt kind hex s i ok m y)
-  see p r e = rw e (seen p r)
+  pub see : {ok : Bool} {m j : ℕ} {y : Seen} → 0 < left → ReadsRec hex s i ok m y → j ≡ afterIn hex s i m → Turn (formC hex recC) s left i j (SeenIn hex s i ok m y)
+  see p r e = see-in (record { hex = hex; kind = newest }) x p r e

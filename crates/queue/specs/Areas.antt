@@ -9,15 +9,15 @@ use lib.Dec.{ltb, leb, eqb}
 use lib.ListN.{length, take, drop, getD, replicate, take-append-drop, length-append, length-drop, length-replicate}
 use lib.Seq.{take-at, length-take-le, drop-cons}
 use borrow.Author.Tests.{ltb-true, ltb-false, leb-true, le-leb, eqb-true, eq-eqb, ne-eqb}
-use Rattle.queue.specs.Codec.{Got, fail, got, cases, cond-cases, pairC, mapC, encs}
+use Rattle.queue.specs.Codec.{Got, fail, got, cases, cond-cases, encs}
 use Rattle.queue.specs.Lists.{and-true}
 use Rattle.queue.specs.Reads.{Reads}
 use Rattle.queue.specs.ReadLaws.{false-true, drop-none}
 use Rattle.queue.specs.Hex.{textOf, text-pairs}
 use Rattle.queue.specs.View.{pairs, view}
-use Rattle.queue.specs.Frames.{Head, tagC, headK}
+use Rattle.queue.specs.Frames.{headK}
 use Rattle.queue.specs.Forms.{Store, headFor, lineEnc, recIn, storeIn, areaForm, textForm, queueC, storeOf, queueWith, image-enc, store-ok, ok-store, queue-ok, ok-queue, head-cursor}
-use Rattle.queue.specs.Kinds.{recs-up, queue-said, said-queue, head-up, head-down, kind-byte}
+use Rattle.queue.specs.Kinds.{recs-up, queue-said, said-queue, head-first, head-up, head-down, kind-byte}
 use Rattle.queue.specs.paper.Records.{Bytes, Limits, Queue}
 use Rattle.queue.specs.paper.Sound.{sound?, need}
 use Rattle.queue.specs.paper.Kinds.{kind?, says?}
@@ -141,11 +141,6 @@ pub record Shows (t : Bytes) (q : Queue) : Type 0 where
 chosen : (x q : Queue) → x ≡ q → sound? q ≡ true → cond (sound? x) (some x) none ≡ some q
 chosen x q e h = rw (e, h)
 
--- the kind stands first
-head-first : (k : ℕ) (h : Head) → (rest : Bytes) × (headK k .enc h ≡ k ∷ rest)
-unfolding headK mapC pairC tagC
-head-first k h = (_, refl)
-
 image-kind : (k : ℕ) (q : Queue) → headK k .ok (headFor (storeOf q)) → kindOf (image k q) ≡ k
 unfolding kindOf image view lineEnc
 image-kind k q h =
@@ -153,7 +148,7 @@ image-kind k q h =
     let b = headK k .enc (headFor (storeOf q)) in
     let r = (10 ∷ []) ++ encs (recIn (textForm k)) (q .recs) in
     let e = image-enc k (storeOf q) ∙ append-assoc (textOf b) (10 ∷ []) (encs (recIn (textForm k)) (q .recs)) in
-    ap (λ (x : Bytes). getD (pairs x) 0 0) e ∙ ap (λ (x : Bytes). getD x 0 0) (text-pairs b r (headK k .small (headFor (storeOf q)) h) ∙ ap (λ (x : Bytes). x ++ pairs r) (f .1))
+    ap (λ (x : Bytes). getD (pairs x) 0 0) e ∙ ap (λ (x : Bytes). getD x 0 0) (text-pairs b r (headK k .small (headFor (storeOf q)) h) ∙ ap (λ (x : Bytes). x ++ pairs r) f)
 
 pub shows-reads : (t : Bytes) (q : Queue) → Shows t q → readImage t ≡ some q
 unfolding readImage image
@@ -217,6 +212,6 @@ pub image-none : {s : Bytes} {next : ℕ} {ok : Bool} {W : Store → Type 0} (k 
 unfolding readImage
 image-none k e g x t = rw (← e, g, x .bad (omega arith) t)
 
-pub image-unknown : {s : Bytes} (k : ℕ) → k ≡ kindOf s → kind? k ≡ false → readImage s ≡ none
+pub image-unknown : (s : Bytes) (k : ℕ) → k ≡ kindOf s → kind? k ≡ false → readImage s ≡ none
 unfolding readImage
-image-unknown k e g = rw (← e, g)
+image-unknown s k e g = rw (← e, g)

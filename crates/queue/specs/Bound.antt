@@ -17,7 +17,9 @@ use Rattle.queue.specs.Sounds.{Right, sound-of, Fit, fit-of, fit-sound, 
 use Rattle.queue.specs.paper.Records.{Bytes, Id, Terms, Held, Rec, Queue}
 use Rattle.queue.specs.paper.Lists.{isSome, one, map, concat}
 use Rattle.queue.specs.paper.Sound.{sound?, need, holder?, inputs, outputs, content, labelLen, holders, holderBytes, tombstones}
-use Rattle.queue.specs.paper.Area.{areaBytes, imageBytes, over}
+use Rattle.queue.specs.paper.Area.{areaBytes, imageUnder, imageBytes, over}
+use Rattle.queue.specs.paper.Kinds.{newest, kind?, says?}
+use Rattle.queue.specs.Kinds.{newest-says}
 
 bytes-most : (s : Bytes) → vecMost byteC s ≡ length s
 unfolding byteC
@@ -152,11 +154,14 @@ reads-size s q e =
     let z = area-size q (w .0) (w .1 .0) in
     omega (arith, simp length-append at (ap length (w .1 .1)))
 
-pub image-reads : (q : Queue) → sound? q ≡ true → queueC .ok q → q .persisted ≡ q .cursor → readImage (imageBytes q) ≡ some q
-image-reads q e o h = shows-reads (imageBytes q) q (record { sound = e; range = o; level = h; is = sym (image-plain q) })
+-- under every kind that can say it, the image of a sound queue is read as that queue
+pub image-reads : (k : ℕ) (q : Queue) → kind? k ≡ true → says? k q ≡ true → sound? q ≡ true → queueC .ok q → q .persisted ≡ q .cursor → readImage (imageUnder k q) ≡ some q
+image-reads k q g s e o h = shows-reads (imageUnder k q) q (record { sound = e; range = o; level = h; kind = k; known = g; says = s; is = sym (image-plain k q) })
 
-pub reads-image : (t : Bytes) (q : Queue) → readImage t ≡ some q → (sound? q ≡ true) × (queueC .ok q × ((q .persisted ≡ q .cursor) × (t ≡ imageBytes q)))
-reads-image t q e = let w = reads-shows t q e in (w .sound, (w .range, (w .level, w .is ∙ image-plain q)))
+-- what is read is a sound queue, and the text its image under a kind that can say it
+pub reads-image : (t : Bytes) (q : Queue) → readImage t ≡ some q
+    → (sound? q ≡ true) × (queueC .ok q × ((q .persisted ≡ q .cursor) × ((k : ℕ) × (kind? k ≡ true) × (says? k q ≡ true) × (t ≡ imageUnder k q))))
+reads-image t q e = let w = reads-shows t q e in (w .sound, (w .range, (w .level, (w .kind, w .known, w .says, w .is ∙ image-plain (w .kind) q))))
 
 -- ---- the same of a queue that fits
 
@@ -167,7 +172,7 @@ pub fit-over : (q : Queue) → Fit q → (d : Bytes) → readArea (over (areaByt
 fit-over q f d = over-reads q (fit-sound q f) (fit-ok q f) d
 
 pub fit-image : (q : Queue) → Fit q → q .persisted ≡ q .cursor → readImage (imageBytes q) ≡ some q
-fit-image q f h = image-reads q (fit-sound q f) (fit-ok q f) h
+fit-image q f h = image-reads newest q refl (newest-says q) (fit-sound q f) (fit-ok q f) h
 
 pub reads-fit : (s : Bytes) (q : Queue) → readArea s ≡ some q → Fit q
 reads-fit s q e = let w = reads-area s q e in fit-of q (w .0) (w .1 .0)

@@ -1,19 +1,20 @@
 -- Document 01's bench cards, its worked image and docs/AREA.md's worked areas, and the cards of document 02's requests, as one table
 -- of tests.
 use mathlib.Core.Path.{_≡_, refl}
-use mathlib.Core.Bool.{Bool, true, false, _&&_}
+use mathlib.Core.Bool.{Bool, true, false, cond, not, _&&_}
 use mathlib.Core.Option.{Option, none, some}
 use mathlib.Core.List.{List, [], _∷_, _++_}
 use Prim.Native.Nat.{ℕ, _+_, _-_}
 use lib.Dec.{eqb}
-use lib.ListN.{length, take, replicate}
+use lib.ListN.{length, take, drop, replicate}
 use Rattle.queue.specs.declared.Answer.{Answer}
 use Rattle.queue.specs.Hex.{textOf, digOf}
 use Rattle.queue.specs.paper.Records.{Bytes, Id, Limits, Rec, Queue, queued, mined, conflicted}
 use Rattle.queue.specs.paper.Lists.{one, all?, find, map, concat}
 use Rattle.queue.specs.paper.Ids.{cmpL, same?, rise?}
-use Rattle.queue.specs.paper.Sound.{need, sound?, inRange, counts?, right?, distinct?, apart?, used?, clash?}
-use Rattle.queue.specs.paper.Area.{termsBytes, placeBytes, heldBytes, recBytes, headBytes, queueBytes, areaBytes, imageBytes, over}
+use Rattle.queue.specs.paper.Sound.{need, mined?, sound?, inRange, counts?, right?, distinct?, apart?, used?, clash?}
+use Rattle.queue.specs.paper.Area.{termsBytes, placeBytes, heldBytes, recBytes, headUnder, queueBytes, areaBytes, imageUnder, imageBytes, over}
+use Rattle.queue.specs.paper.Kinds.{kind?, says?}
 use Rattle.queue.specs.paper.Changing.{Out, refused, done, top, named?, committed, moved, newRec, admit, finished, finishThose, forget, cancel, due?, expire, Applied, Reconciling, confirm, touch, releases, reconcile, reopened, reopen, setCursor, touchedRecs, toRelease}
 use Rattle.queue.specs.paper.Calls.{kindNumber, number, idsBytes, fresh, settleNext}
 use Rattle.queue.specs.paper.Fees.{Best, bestFees, bestBytes, searchOf}
@@ -206,6 +207,46 @@ decides? height window applied q numbers gone =
 abbrev oneMined : Queue
 oneMined = after (enter 2 3 0 none none) (after (watch 50 100 (mined50 1)) (after (enter 1 3 0 none none) (fresh (limits 1 10 1 1))))
 
+-- document 02, P4: the withdrawn mark of an id
+abbrev marked? : ℕ → Id → Queue → Bool
+marked? mark i q = shown (find (named? i) (q .recs))
+  where
+    shown : Option Rec → Bool
+    shown none = false
+    shown (some r) = mined? r && eqb (r .mark) mark
+
+-- released and rolled back: Expired, reason 3; and confirmed again
+abbrev rolledBack : Queue
+rolledBack = after (reopen (id 1 ∷ [])) (after (watch 50 0 []) confirmed)
+
+abbrev confirmedAgain : Queue
+confirmedAgain = after (watch 50 100 (mined50 1)) rolledBack
+
+-- past its deadline, 6: Expired, reason 2
+abbrev overdue : Queue
+overdue = after (expire 6 0) (after (enter 1 3 5 (some 6) none) small)
+
+-- one record, a tombstone or a holder, with that mark
+abbrev withMark : ℕ → ℕ → Bool → ℕ → Queue
+withMark state reason holds mark = record {
+  persisted = 0;
+  limits = limits 2 10 1 1;
+  revision = 0;
+  cursor = 0;
+  tip = none;
+  counter = 1;
+  recs = record {
+    id = id 1;
+    state = state;
+    reason = reason;
+    terms = record { created = 0; due = none; dueHeight = none; priority = 0; label = none; fee = 0; size = 0; cost = 0 };
+    place = cond (eqb state mined) (some (50, id 7)) none;
+    mark = mark;
+    finish = cond holds 0 1;
+    body = cond holds (some (record { ins = []; outs = []; bytes = [] })) none;
+  } ∷ [];
+}
+
 abbrev numbered : ℕ → Queue → Queue
 numbered n q = record { persisted = q .persisted; limits = q .limits; revision = q .revision; cursor = q .cursor; tip = q .tip; counter = n; recs = q .recs }
 
@@ -247,7 +288,7 @@ cards =
     ∷ eqb (gives (watch 132 100 [] (moved 100 132 (some (id 8)) at100))) 103
     -- "Fresh with P 2, B 10, T 1, K 1, whole, 85 bytes": each digit's byte, and the end byte
     ∷ same? (imageBytes small)
-    ((48 ∷ 49 ∷ [])
+    ((48 ∷ 51 ∷ [])
     ++ ((48 ∷ 48 ∷ 48 ∷ 48 ∷ 48 ∷ 48 ∷ 48 ∷ 50 ∷ [])
     ++ ((48 ∷ 48 ∷ 48 ∷ 48 ∷ 48 ∷ 48 ∷ 48 ∷ 97 ∷ [])
     ++ ((48 ∷ 48 ∷ 48 ∷ 48 ∷ 48 ∷ 48 ∷ 48 ∷ 49 ∷ [])
@@ -258,13 +299,13 @@ cards =
     ∷ eqb (need (limits 2 10 1 1)) 3348
     ∷ same? (areaBytes small)
     ((0 ∷ 0 ∷ 0 ∷ 0 ∷ [])
-    ++ ((1 ∷ 0 ∷ 0 ∷ 0 ∷ 2 ∷ 0 ∷ 0 ∷ 0 ∷ 10 ∷ 0 ∷ 0 ∷ 0 ∷ 1 ∷ 0 ∷ 0 ∷ 0 ∷ 1 ∷ [])
+    ++ ((3 ∷ 0 ∷ 0 ∷ 0 ∷ 2 ∷ 0 ∷ 0 ∷ 0 ∷ 10 ∷ 0 ∷ 0 ∷ 0 ∷ 1 ∷ 0 ∷ 0 ∷ 0 ∷ 1 ∷ [])
     ++ (replicate 8 0 ++ (replicate 4 0 ++ (replicate 1 0 ++ (replicate 8 0 ++ (replicate 4 0 ++ replicate 3302 0)))))))
     -- "The same queue with one cancelled record .. starts with"
     ∷ sound? worked
     ∷ same? (queueBytes worked)
     ((0 ∷ 0 ∷ 0 ∷ 6 ∷ [])
-    ++ ((1 ∷ 0 ∷ 0 ∷ 0 ∷ 2 ∷ 0 ∷ 0 ∷ 0 ∷ 10 ∷ 0 ∷ 0 ∷ 0 ∷ 1 ∷ 0 ∷ 0 ∷ 0 ∷ 1 ∷ [])
+    ++ ((3 ∷ 0 ∷ 0 ∷ 0 ∷ 2 ∷ 0 ∷ 0 ∷ 0 ∷ 10 ∷ 0 ∷ 0 ∷ 0 ∷ 1 ∷ 0 ∷ 0 ∷ 0 ∷ 1 ∷ [])
     ++ ((0 ∷ 0 ∷ 0 ∷ 0 ∷ 0 ∷ 0 ∷ 0 ∷ 2 ∷ [])
     ++ ((0 ∷ 0 ∷ 0 ∷ 6 ∷ 0 ∷ [])
     ++ ((0 ∷ 0 ∷ 0 ∷ 0 ∷ 0 ∷ 0 ∷ 0 ∷ 1 ∷ 0 ∷ 0 ∷ 0 ∷ 1 ∷ [])
@@ -352,8 +393,36 @@ cards =
     ∷ eqb (gives (watch 150 100 [] (numbered (top - 1) twoMined))) 15
     ∷ eqb (gives (watch 150 100 [] (numbered (top - 2) twoMined))) 102
     ∷ eqb (gives (watch 149 100 [] (numbered top twoMined))) 103
+    -- P4: "Confirmed and rolled back again": mark 3, and Expired with reason 3 as before, any number of times
+    ∷ is? 5 3 (id 1) rolledBack
+    ∷ marked? 3 (id 1) confirmedAgain
+    ∷ is? 5 3 (id 1) (after (reopen (id 1 ∷ [])) confirmedAgain)
+    ∷ marked? 3 (id 1) (after (watch 50 100 (mined50 1)) (after (reopen (id 1 ∷ [])) confirmedAgain))
+    -- confirmed at another place while it is Mined: the mark stays
+    ∷ marked? 3 (id 1) (after (watch 51 100 (record { id = id 1; height = 51; block = id 7 } ∷ [])) confirmedAgain)
+    -- one past its deadline: mark 5, reason 2; a cancelled one: mark 4, reason 1; one that is released: none
+    ∷ is? 5 2 (id 1) overdue
+    ∷ marked? 5 (id 1) (after (watch 50 100 (mined50 1)) overdue)
+    ∷ is? 5 2 (id 1) (after (reopen (id 1 ∷ [])) (after (watch 50 100 (mined50 1)) overdue))
+    ∷ marked? 4 (id 1) (after (watch 50 1 (mined50 1)) (after (cancel (id 1)) (after (enter 1 3 0 none none) small)))
+    ∷ marked? 0 (id 1) (after (watch 50 0 []) confirmed)
+    -- admitted anew: a record like any other
+    ∷ is? 0 0 (id 1) (after (enter 1 3 0 none none) (after (reopen (id 1 ∷ [])) confirmedAgain))
+    -- sound: 0, 3, 4 or 5, other than 0 only on a Mined tombstone
+    ∷ all? (λ m. sound? (withMark 2 0 false m)) (0 ∷ 3 ∷ 4 ∷ 5 ∷ [])
+    ∷ all? (λ m. not (sound? (withMark 2 0 false m))) (1 ∷ 2 ∷ 6 ∷ 255 ∷ [])
+    ∷ (sound? (withMark 2 0 true 0) && not (sound? (withMark 2 0 true 3)))
+    ∷ (sound? (withMark 5 3 false 0) && not (sound? (withMark 5 3 false 3)))
+    ∷ (sound? (withMark 4 1 false 0) && not (sound? (withMark 4 1 false 3)))
+    -- "header kind 03": 01 and 03 are read; 01 can't say mark 3
+    ∷ all? kind? (1 ∷ 3 ∷ [])
+    ∷ all? (λ k. not (kind? k)) (0 ∷ 2 ∷ 4 ∷ 5 ∷ 6 ∷ 255 ∷ [])
+    ∷ (says? 3 (withMark 2 0 false 3) && not (says? 1 (withMark 2 0 false 3)))
+    ∷ (says? 1 (withMark 2 0 false 5) && says? 3 (withMark 2 0 false 5))
+    -- the worked image under 01 differs in its second digit alone
+    ∷ same? (imageUnder 1 small) (48 ∷ 49 ∷ drop 2 (imageBytes small))
     ∷ []
 
 pub all-cards : all? (λ b. b) cards ≡ true
-unfolding cmpL over need sound? inRange counts? right? rise? distinct? apart? used? clash? termsBytes placeBytes heldBytes recBytes headBytes queueBytes areaBytes imageBytes committed moved newRec admit finished finishThose forget cancel due? expire confirm touch releases touchedRecs toRelease reconcile entered decide decisions reopened reopen setCursor textOf digOf idsBytes bestBytes searchOf listed waitsFor?
+unfolding says? cmpL over need sound? inRange counts? right? rise? distinct? apart? used? clash? termsBytes placeBytes heldBytes recBytes headUnder queueBytes areaBytes imageUnder committed moved newRec admit finished finishThose forget cancel due? expire confirm touch releases touchedRecs toRelease reconcile entered decide decisions reopened reopen setCursor textOf digOf idsBytes bestBytes searchOf listed waitsFor?
 all-cards = refl

@@ -105,7 +105,7 @@ unmined-place s false n e = refl
 pub unmined-mark : (s : ℕ) (h : Bool) (m : ℕ) → eqb s mined ≡ false → markRight? s h m ≡ true → m ≡ 0
 unmined-mark s h m n e = or-true (eqb m 0) _ e
     (λ t. eqb-true m 0 t)
-    (λ _ t. let a = and-true (eqb m 4 || eqb m 5) (eqb s mined && not h) t in false-true (sym (rw n) ∙ a .1))
+    (λ _ t. let a = and-true (eqb m 3 || (eqb m 4 || eqb m 5)) (eqb s mined && not h) t in false-true (sym (rw n) ∙ a .1))
 
 -- a later counter
 pub finish-later : (c d : ℕ) (h : Bool) (n : ℕ) → c ≤ d → finishRight? c h n ≡ true → finishRight? d h n ≡ true

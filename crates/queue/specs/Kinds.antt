@@ -6,13 +6,13 @@ use Prim.Native.Nat.{ℕ, _<_}
 use native.Mathlib.Omega.{arith}
 use lib.Dec.{leb, eqb}
 use borrow.Author.Tests.{eqb-true}
-use Rattle.queue.specs.Codec.{All, Codec, beC, pairC, mapC, encs}
+use Rattle.queue.specs.Codec.{All, Codec, beC, pairC, mapC, optC}
 use Rattle.queue.specs.Choice.{pickC, guardC}
-use Rattle.queue.specs.Frames.{Head, tagC, markC, recK, headK, recC, headC}
+use Rattle.queue.specs.Frames.{Head, tagC, idC, limitsC, markC, recK, headK, recC, headC}
 use Rattle.queue.specs.Lists.{and-true, and-both}
 use Rattle.queue.specs.paper.Records.{Bytes, Rec, Queue}
 use Rattle.queue.specs.paper.Lists.{all?}
-use Rattle.queue.specs.paper.Kinds.{kind?, markSaid?, says?}
+use Rattle.queue.specs.paper.Kinds.{newest, kind?, markSaid?, says?}
 
 -- ---- the withdrawn mark; since: whether the kind has mark 3
 abbrev marks : Bool → Codec ℕ
@@ -82,7 +82,24 @@ pub said-queue : (k : ℕ) (q : Queue) → says? k q ≡ true → All (recC .ok)
 unfolding says?
 said-queue k q s h = recs-down k (q .recs) s h
 
+-- the newest kind can say every queue
+pub newest-says : (q : Queue) → says? newest q ≡ true
+unfolding says?
+newest-says q = go (q .recs)
+  where
+    go : (l : List Rec) → all? (λ r. markSaid? newest (r .mark)) l ≡ true
+    go [] = refl
+    go (r ∷ l) = go l
+
 -- ---- a header
+unfoldable pub headTail : Head → Bytes
+headTail h = limitsC .enc (h .limits) ++ (beC 8 .enc (h .revision) ++ (beC 4 .enc (h .cursor) ++ (optC idC .enc (h .tip) ++ (beC 8 .enc (h .counter) ++ beC 4 .enc (h .count)))))
+
+-- its kind stands first, and nothing else of it depends on the kind
+pub head-first : (k : ℕ) (h : Head) → headK k .enc h ≡ k ∷ headTail h
+unfolding headK headTail mapC pairC tagC
+head-first k h = refl
+
 pub head-up : (k : ℕ) (h : Head) → headK k .ok h → headC .ok h
 unfolding headK mapC pairC tagC
 head-up k h x = (omega arith, x .1)

@@ -1,7 +1,6 @@
 -- Filled from its answers by tools/proofkit.py: change those, and fill it again.
 use Rattle.queue.proofs.OpenLaws.{few-tombs, held-few, list-length, ranged, sound-in, sound-many, sound-out, sound-wrong, tombs-are}
-use Rattle.queue.specs.Forms.{formC}
-use Rattle.queue.specs.Frames.{recC}
+use Rattle.queue.specs.Forms.{recIn}
 use Rattle.queue.specs.Reads.{listAt}
 use borrow.Author.Needs.{needs}
 use borrow.Author.Tests.{not-false, not-true}
@@ -12,8 +11,8 @@ use Rattle.queue.proofs.area.sound_at.Tie as tie
 use Rattle.queue.proofs.area.sound_at.Reads as reads
 use Rattle.queue.proofs.area.sound_at.Lts as lts
 
-abbrev len : (c : tie.Start) → length (listAt (formC (c .args .hex) recC) (c .args .x .head .count) (c .args .s .now) (c .args .x .start)) ≡ c .args .x .head .count
-len c = list-length (formC (c .args .hex) recC) _ _ _ (c .pre .1)
+abbrev len : (c : tie.Start) → length (listAt (recIn (c .args .form)) (c .args .x .head .count) (c .args .s .now) (c .args .x .start)) ≡ c .args .x .head .count
+len c = list-length (recIn (c .args .form)) _ _ _ (c .pre .1)
 
 check-requires : tie.Need-check-requires
 check-requires c κs = search needs

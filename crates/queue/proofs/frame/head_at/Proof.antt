@@ -40,7 +40,7 @@ all4-requires-2 : tie.Need-all4-requires-2
 all4-requires-2 c κs = search needs
 
 returns : tie.Need-returns
-returns c = head-read _ _ (c .before .before .before .before .before .before .before .before .tag-at .ensures) (c .before .before .before .before .before .before .before .limits-at .ensures) (c .before .before .before .before .before .before .num .ensures) (c .before .before .before .before .before .num2 .ensures) (c .before .before .before .before .opt-span .ensures) (c .before .before .before .num3 .ensures) (c .before .before .num4 .ensures) (c .all42 .ensures ∙ rw (c .before .all4 .ensures)) refl refl refl refl refl refl refl
+returns c = head-read (c .before .before .before .before .before .before .before .before .before .before .args .form .kind) _ _ (c .before .before .before .before .before .before .before .before .tag-at .ensures) (c .before .before .before .before .before .before .before .limits-at .ensures) (c .before .before .before .before .before .before .num .ensures) (c .before .before .before .before .before .num2 .ensures) (c .before .before .before .before .opt-span .ensures) (c .before .before .before .num3 .ensures) (c .before .before .num4 .ensures) (c .all42 .ensures ∙ rw (c .before .all4 .ensures)) refl refl refl refl refl refl refl
 
 pub head-at-spec : {M : Type 1} → statement M
 head-at-spec =

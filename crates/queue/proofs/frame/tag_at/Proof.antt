@@ -13,7 +13,7 @@ size-requires : tie.Need-size-requires
 size-requires c κs = search needs
 
 returns : tie.Need-returns
-returns c = tag-none (omega arith)
+returns c = tag-none (c .before .before .before .args .n) (omega arith)
 
 fetch-requires : tie.Need-fetch-requires
 fetch-requires c κs = search needs
@@ -22,10 +22,10 @@ add-t9 : tie.Need-add-t9
 add-t9 c = search needs
 
 returns-2 : tie.Need-returns-2
-returns-2 c = tag-good (omega arith) (c .before .fetch .ensures) (c .if2 .taken)
+returns-2 c = tag-good (c .before .before .before .before .before .args .n) (omega arith) (c .before .before .before .size .ensures .2 _ (omega arith)) (c .before .fetch .ensures) (c .if2 .taken)
 
 returns-3 : tie.Need-returns-3
-returns-3 c = tag-other (omega arith) (c .before .fetch .ensures) (c .if2 .left)
+returns-3 c = tag-other (c .before .before .before .before .before .args .n) (omega arith) (c .before .fetch .ensures) (c .if2 .left)
 
 pub tag-at-spec : {M : Type 1} → statement M
 tag-at-spec = tie.close (tie.spec size-requires returns fetch-requires add-t9 returns-2 returns-3)

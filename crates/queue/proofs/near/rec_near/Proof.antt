@@ -1,6 +1,7 @@
 -- Filled from its answers by tools/proofkit.py: change those, and fill it again.
 use Rattle.queue.proofs.FrameLaws.{id-good, rec-read, tag-good}
 use Rattle.queue.proofs.NearLaws.{span-near}
+use Rattle.queue.specs.paper.Kinds.{newest}
 use borrow.Author.Needs.{needs}
 use mathlib.Core.Path.{_∙_, refl}
 use native.Mathlib.Omega.{arith}
@@ -8,6 +9,11 @@ use Rattle.queue.proofs.near.rec_near.Statement.{statement}
 use Rattle.queue.proofs.near.rec_near.Tie as tie
 use Rattle.queue.proofs.near.rec_near.Reads as reads
 use Rattle.queue.proofs.near.rec_near.Lts as lts
+use Rattle.queue.proofs.logic.all4.Reads as all4-reads
+use Rattle.queue.proofs.near.num_near.Reads as num-near-reads
+use Rattle.queue.proofs.near.rest_near.Reads as rest-near-reads
+use Rattle.queue.proofs.near.terms_near.Reads as terms-near-reads
+use Rattle.queue.proofs.view.id_at.Reads as id-at-reads
 
 id-at-requires : tie.Need-id-at-requires
 id-at-requires c κs = omega (arith, c .before .pre .0 .1)
@@ -31,7 +37,7 @@ all4-requires-2 : tie.Need-all4-requires-2
 all4-requires-2 c κs = search needs
 
 returns : tie.Need-returns
-returns c = rec-read _ _ _ (tag-good (omega (arith, c .before .before .before .before .before .before .before .before .before .before .before .before .before .before .pre .0 .1)) refl (c .before .before .before .before .before .before .before .before .before .before .before .before .before .before .pre .1)) (id-good (span-near (omega (arith, c .before .before .before .before .before .before .before .before .before .before .before .before .before .before .pre .0 .1)) (c .before .before .before .before .before .before .before .before .before .before .before .before .before .before .pre .0 .2)) refl (c .before .before .before .before .before .before .before .before .before .before .before .before .id-at .ensures)) (c .before .before .before .before .before .before .before .before .before .before .before .num-near .ensures .0) (c .before .before .before .before .before .before .before .before .before .before .num-near2 .ensures .0) (c .before .before .before .before .before .before .before .before .before .terms-near .ensures .0) (c .before .before .before .before .before .before .before .before .rest-near .ensures) (c .all42 .ensures ∙ rw (c .before .all4 .ensures)) refl refl refl refl refl refl refl refl refl refl
+returns c = rec-read newest _ _ _ (tag-good 2 (omega (arith, c .before .before .before .before .before .before .before .before .before .before .before .before .before .before .pre .0 .1)) (c .before .before .before .before .before .before .before .before .before .before .before .before .before .before .pre .0 .2 _ (omega (arith, c .before .before .before .before .before .before .before .before .before .before .before .before .before .before .pre .0 .1))) refl (c .before .before .before .before .before .before .before .before .before .before .before .before .before .before .pre .1)) (id-good (span-near (omega (arith, c .before .before .before .before .before .before .before .before .before .before .before .before .before .before .pre .0 .1)) (c .before .before .before .before .before .before .before .before .before .before .before .before .before .before .pre .0 .2)) refl (c .before .before .before .before .before .before .before .before .before .before .before .before .id-at .ensures)) (c .before .before .before .before .before .before .before .before .before .before .before .num-near .ensures .0) (c .before .before .before .before .before .before .before .before .before .before .num-near2 .ensures .0) (c .before .before .before .before .before .before .before .before .before .terms-near .ensures .0) (c .before .before .before .before .before .before .before .before .rest-near .ensures) (c .all42 .ensures ∙ rw (c .before .all4 .ensures)) refl refl refl refl refl refl refl refl refl refl
 
 pub rec-near-spec : {M : Type 1} → statement M
 rec-near-spec =

@@ -1,5 +1,6 @@
 -- Filled from its answers by tools/proofkit.py: change those, and fill it again.
 use Rattle.queue.proofs.FrameLaws.{rest-read}
+use Rattle.queue.specs.paper.Kinds.{newest}
 use borrow.Author.Needs.{needs}
 use mathlib.Core.Path.{refl}
 use native.Mathlib.Omega.{arith}
@@ -7,6 +8,10 @@ use Rattle.queue.proofs.near.rest_near.Statement.{statement}
 use Rattle.queue.proofs.near.rest_near.Tie as tie
 use Rattle.queue.proofs.near.rest_near.Reads as reads
 use Rattle.queue.proofs.near.rest_near.Lts as lts
+use Rattle.queue.proofs.frame.body_at.Reads as body-at-reads
+use Rattle.queue.proofs.logic.all4.Reads as all4-reads
+use Rattle.queue.proofs.near.num_near.Reads as num-near-reads
+use Rattle.queue.proofs.near.place_near.Reads as place-near-reads
 
 place-near-requires : tie.Need-place-near-requires
 place-near-requires c κs = (omega (arith, c .before .pre .0), omega (arith, c .before .pre .1), c .before .pre .2)
@@ -24,7 +29,7 @@ all4-requires : tie.Need-all4-requires
 all4-requires c κs = search needs
 
 returns : tie.Need-returns
-returns c = rest-read _ _ (c .before .before .before .before .before .place-near .ensures .0) (c .before .before .before .before .num-near .ensures .0) (c .before .before .before .num-near2 .ensures .0) (c .before .before .body-at .ensures) (c .before .all4 .ensures) refl refl refl refl refl
+returns c = rest-read newest _ _ (c .before .before .before .before .before .place-near .ensures .0) (c .before .before .before .before .num-near .ensures .0) (c .before .before .before .num-near2 .ensures .0) (c .before .before .body-at .ensures) (c .before .all4 .ensures) refl refl refl refl refl
 
 pub rest-near-spec : {M : Type 1} → statement M
 rest-near-spec =

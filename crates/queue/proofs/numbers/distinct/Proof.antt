@@ -8,6 +8,8 @@ use Rattle.queue.proofs.numbers.distinct.Statement.{statement}
 use Rattle.queue.proofs.numbers.distinct.Tie as tie
 use Rattle.queue.proofs.numbers.distinct.Reads as reads
 use Rattle.queue.proofs.numbers.distinct.Lts as lts
+use Rattle.queue.proofs.numbers.differ.Reads as differ-reads
+use Rattle.queue.proofs.numbers.gather.Reads as gather-reads
 
 returns : tie.Need-returns
 returns c = distinct-none _ (c .before .before .pre .2) (c .if1 .taken)

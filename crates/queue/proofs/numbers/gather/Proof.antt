@@ -1,9 +1,8 @@
 -- Filled from its answers by tools/proofkit.py: change those, and fill it again.
 use Prim.Native.Nat.{_≤_}
 use Rattle.queue.proofs.NumberLaws.{filled-long, gather-end, gather-go, gather-room, numbersFrom}
-use Rattle.queue.proofs.Turns.{Scan, seen, start}
-use Rattle.queue.specs.Forms.{formC}
-use Rattle.queue.specs.Frames.{recC}
+use Rattle.queue.proofs.Turns.{Scan, seen-in, start}
+use Rattle.queue.specs.Forms.{recIn}
 use borrow.Author.Needs.{needs}
 use lib.ListN.{length, take}
 use mathlib.Core.List.{[]}
@@ -14,26 +13,26 @@ use Rattle.queue.proofs.numbers.gather.Tie as tie
 use Rattle.queue.proofs.numbers.gather.Reads as reads
 use Rattle.queue.proofs.numbers.gather.Lts as lts
 use Rattle.queue.proofs.forms.after_in.Reads as after-in-reads
-use Rattle.queue.proofs.frame.rec_at.Reads as rec-at-reads
+use Rattle.queue.proofs.frame.rec_in.Reads as rec-in-reads
 use Rattle.queue.proofs.numbers.add_number.Reads as add-number-reads
 
 abbrev Inv-loop : tie.InvT-loop
-Inv-loop s hex at n v₀ i₀ left₀ k₀ v i left k = Scan (formC hex recC) numbersFrom s n at [] i left (take k v) × (k ≤ length v) × (length v ≡ length v₀)
+Inv-loop s form at n v₀ i₀ left₀ k₀ v i left k = Scan (recIn form) numbersFrom s n at [] i left (take k v) × (k ≤ length v) × (length v ≡ length v₀)
 
 abbrev μ-loop : tie.MeasureT-loop
-μ-loop s hex at n v₀ i₀ left₀ k₀ v i left k = left
+μ-loop s form at n v₀ i₀ left₀ k₀ v i left k = left
 
 loop-holds : tie.Need-loop-holds Inv-loop μ-loop
-loop-holds c = (start (formC (c .before .before .args .hex) recC) _ _ _ _ _ (c .before .before .pre .0) (c .before .before .pre .1), omega arith, refl)
+loop-holds c = (start (recIn (c .before .before .args .form)) _ _ _ _ _ (c .before .before .pre .0) (c .before .before .pre .1), omega arith, refl)
 
-rec-at-requires : tie.Need-rec-at-requires Inv-loop μ-loop
-rec-at-requires c κs = search needs
+rec-in-requires : tie.Need-rec-in-requires Inv-loop μ-loop
+rec-in-requires c κs = search needs
 
 add-number-requires : tie.Need-add-number-requires Inv-loop μ-loop
-add-number-requires c κs = (c .before .before .before .before .loop .inv .1, λ e. filled-long (c .before .before .before .before .loop .v) (c .before .before .before .before .loop .inv .1) (gather-room (c .before .before .before .before .before .before .before .args .hex) (c .before .before .before .before .loop .inv .0) (c .before .before .before .loop-test .taken) (c .before .before .rec-at .ensures) (omega (arith, c .before .before .before .before .before .before .before .pre .2, c .before .before .before .before .loop .inv .2)) e))
+add-number-requires c κs = (c .before .before .before .before .loop .inv .1, λ e. filled-long (c .before .before .before .before .loop .v) (c .before .before .before .before .loop .inv .1) (gather-room (c .before .before .before .before .before .before .before .args .form) (c .before .before .before .before .loop .inv .0) (c .before .before .before .loop-test .taken) (c .before .before .rec-in .ensures) (omega (arith, c .before .before .before .before .before .before .before .pre .2, c .before .before .before .before .loop .inv .2)) e))
 
 after-in-requires : tie.Need-after-in-requires Inv-loop μ-loop
-after-in-requires c κs = seen (c .before .before .before .before .before .before .before .before .before .before .args .hex) (c .before .before .before .before .before .before .before .loop .inv .0) (c .before .before .before .before .before .before .loop-test .taken) (c .before .before .before .before .before .rec-at .ensures) .is .1 .within
+after-in-requires c κs = seen-in (c .before .before .before .before .before .before .before .before .before .before .args .form) (c .before .before .before .before .before .before .before .loop .inv .0) (c .before .before .before .before .before .before .loop-test .taken) (c .before .before .before .before .before .rec-in .ensures) .is .1 .within
 
 sub-left : tie.Need-sub-left Inv-loop μ-loop
 sub-left c = search needs
@@ -42,13 +41,13 @@ loop-less : tie.Need-loop-less Inv-loop μ-loop
 loop-less c = search needs
 
 loop-again : tie.Need-loop-again Inv-loop μ-loop
-loop-again c = (gather-go (c .before .before .before .before .before .before .before .before .before .before .before .args .hex) (c .before .before .before .before .before .before .before .before .loop .inv .0) (c .before .before .before .before .before .before .before .loop-test .taken) (c .before .before .before .before .before .before .rec-at .ensures) (c .after-in .ensures) (c .before .before .before .add-number .ensures .0), omega (arith, c .before .before .before .add-number .ensures .1), omega (arith, c .before .before .before .before .before .before .before .before .loop .inv .2))
+loop-again c = (gather-go (c .before .before .before .before .before .before .before .before .before .before .before .args .form) (c .before .before .before .before .before .before .before .before .loop .inv .0) (c .before .before .before .before .before .before .before .loop-test .taken) (c .before .before .before .before .before .before .rec-in .ensures) (c .after-in .ensures) (c .before .before .before .add-number .ensures .0), omega (arith, c .before .before .before .add-number .ensures .1), omega (arith, c .before .before .before .before .before .before .before .before .loop .inv .2))
 
 same-length : tie.Need-same-length Inv-loop μ-loop
 same-length c = search needs
 
 returns : tie.Need-returns Inv-loop μ-loop
-returns c = (gather-end (c .before .before .before .before .args .hex) (c .before .loop .inv .0) (omega arith), omega (arith, c .before .loop .inv .1, c .before .loop .inv .2), c .before .loop .inv .2)
+returns c = (gather-end (c .before .before .before .before .args .form) (c .before .loop .inv .0) (omega arith), omega (arith, c .before .loop .inv .1, c .before .loop .inv .2), c .before .loop .inv .2)
 
 pub gather-spec : {M : Type 1} → statement M
 gather-spec =
@@ -57,7 +56,7 @@ gather-spec =
     Inv-loop
     μ-loop
     loop-holds
-    rec-at-requires
+    rec-in-requires
     add-number-requires
     after-in-requires
     sub-left

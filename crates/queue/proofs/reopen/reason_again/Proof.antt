@@ -21,7 +21,11 @@ returns-3 c = rw (ne-eqb _ _ (c .before .before .if1 .left), eq-eqb _ _ (c .if3 
 
 returns-4 : tie.Need-returns-4
 unfolding reasonF
-returns-4 c = rw (ne-eqb _ _ (c .before .before .if1 .left), ne-eqb _ _ (c .if3 .left))
+returns-4 c = rw (ne-eqb _ _ (c .before .before .before .before .if1 .left), ne-eqb _ _ (c .before .before .if3 .left), eq-eqb _ _ (c .if4 .taken))
+
+returns-5 : tie.Need-returns-5
+unfolding reasonF
+returns-5 c = rw (ne-eqb _ _ (c .before .before .before .before .if1 .left), ne-eqb _ _ (c .before .before .if3 .left), ne-eqb _ _ (c .if4 .left))
 
 pub reason-again-spec : {M : Type 1} → statement M
-reason-again-spec = tie.close (tie.spec returns returns-2 returns-3 returns-4)
+reason-again-spec = tie.close (tie.spec returns returns-2 returns-3 returns-4 returns-5)

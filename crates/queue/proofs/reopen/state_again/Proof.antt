@@ -9,15 +9,19 @@ use Rattle.queue.proofs.reopen.state_again.Lts as lts
 
 returns : tie.Need-returns
 unfolding stateF
-returns c = rw (ne-eqb _ _ (c .if1 .taken))
+returns c = rw (eq-eqb _ _ (c .before .if1 .taken), c .if2 .taken)
 
 returns-2 : tie.Need-returns-2
 unfolding stateF
-returns-2 c = rw (eq-eqb _ _ (c .before .if1 .left), c .if2 .taken)
+returns-2 c = rw (eq-eqb _ _ (c .before .if1 .taken), c .if2 .left)
 
 returns-3 : tie.Need-returns-3
 unfolding stateF
-returns-3 c = rw (eq-eqb _ _ (c .before .if1 .left), c .if2 .left)
+returns-3 c = rw (ne-eqb _ _ (c .before .before .if1 .left), eq-eqb _ _ (c .if3 .taken))
+
+returns-4 : tie.Need-returns-4
+unfolding stateF
+returns-4 c = rw (ne-eqb _ _ (c .before .before .if1 .left), ne-eqb _ _ (c .if3 .left))
 
 pub state-again-spec : {M : Type 1} → statement M
-state-again-spec = tie.close (tie.spec returns returns-2 returns-3)
+state-again-spec = tie.close (tie.spec returns returns-2 returns-3 returns-4)

@@ -11,18 +11,28 @@ use Rattle.queue.proofs.logic.either.Reads as either-reads
 either-requires : tie.Need-either-requires
 either-requires c κs = search needs
 
+either-requires-2 : tie.Need-either-requires-2
+either-requires-2 c κs = search needs
+
 both-requires : tie.Need-both-requires
 both-requires c κs = search needs
 
 both-requires-2 : tie.Need-both-requires-2
 both-requires-2 c κs = search needs
 
-either-requires-2 : tie.Need-either-requires-2
-either-requires-2 c κs = search needs
+either-requires-3 : tie.Need-either-requires-3
+either-requires-3 c κs = search needs
 
 returns : tie.Need-returns
-returns c = c .either2 .ensures ∙ simp (c .before .both2 .ensures, c .before .before .before .either .ensures, c .before .before .both .ensures)
+returns c = c .either3 .ensures ∙ simp (c .before .both2 .ensures, c .before .before .before .either2 .ensures, c .before .before .before .before .either .ensures, c .before .before .both .ensures)
 
 pub mark-right-spec : {M : Type 1} → statement M
 mark-right-spec =
-    tie.close (tie.spec either-requires both-requires both-requires-2 either-requires-2 returns)
+    tie.close
+    (tie.spec
+    either-requires
+    either-requires-2
+    both-requires
+    both-requires-2
+    either-requires-3
+    returns)

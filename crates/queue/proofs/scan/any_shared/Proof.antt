@@ -1,8 +1,8 @@
 -- Filled from its answers by tools/proofkit.py: change those, and fill it again.
 use Rattle.queue.proofs.FilterLaws.{Passing, passing, passing-end, passing-go, passing-stop}
 use Rattle.queue.specs.Filter.{heldBy}
-use Rattle.queue.specs.Forms.{formC}
-use Rattle.queue.specs.Frames.{idC, recC}
+use Rattle.queue.specs.Forms.{recIn}
+use Rattle.queue.specs.Frames.{idC}
 use Rattle.queue.specs.Reads.{listAt}
 use Rattle.queue.specs.View.{view}
 use borrow.Author.Needs.{needs}
@@ -15,10 +15,10 @@ use Rattle.queue.proofs.frame.id_read.Reads as id-read-reads
 use Rattle.queue.proofs.scan.shared.Reads as shared-reads
 
 abbrev Inv-loop : tie.InvT-loop
-Inv-loop s hex at n base ids m t₀ i₀ left₀ t i left = Passing (heldBy (listAt (formC hex recC) n s at)) (view hex s base) (listAt idC m (view hex s base) ids) t₀ i left t
+Inv-loop s form at n base ids m t₀ i₀ left₀ t i left = Passing (heldBy (listAt (recIn form) n s at)) (view (form .hex) s base) (listAt idC m (view (form .hex) s base) ids) t₀ i left t
 
 abbrev μ-loop : tie.MeasureT-loop
-μ-loop s hex at n base ids m t₀ i₀ left₀ t i left = left
+μ-loop s form at n base ids m t₀ i₀ left₀ t i left = left
 
 loop-holds : tie.Need-loop-holds Inv-loop μ-loop
 loop-holds c = passing _ _ _ _ _ (c .before .before .pre .2) (c .before .before .pre .3)

@@ -18,16 +18,16 @@ returns-2 : tie.Need-returns-2
 returns-2 c = c .before .before .apart-few .ensures .no (c .if2 .taken)
 
 apart-long-requires : tie.Need-apart-long-requires
-apart-long-requires c κs = (c .before .before .before .before .before .pre .0, rw (c .if3 .taken) at (c .before .before .before .before .before .pre .1), omega arith, omega arith)
+apart-long-requires c κs = (c .before .before .before .before .before .pre .0, c .before .before .before .before .before .pre .1, omega arith, omega arith)
 
 returns-3 : tie.Need-returns-3
-returns-3 c = rw (c .before .if3 .taken) (c .apart-long .ensures)
+returns-3 c = c .apart-long .ensures
 
 apart-long-requires-2 : tie.Need-apart-long-requires-2
-apart-long-requires-2 c κs = (c .before .before .before .before .before .pre .0, rw (c .if3 .left) at (c .before .before .before .before .before .pre .1), omega arith, omega arith)
+apart-long-requires-2 c κs = (c .before .before .before .before .before .pre .0, c .before .before .before .before .before .pre .1, omega arith, omega arith)
 
 returns-4 : tie.Need-returns-4
-returns-4 c = rw (c .before .if3 .left) (c .apart-long2 .ensures)
+returns-4 c = c .apart-long2 .ensures
 
 pub apart-spec : {M : Type 1} → statement M
 apart-spec =

@@ -1,10 +1,9 @@
 -- Filled from its answers by tools/proofkit.py: change those, and fill it again.
 use Rattle.queue.proofs.FilterLaws.{Walk, apart-end, apart-go, apart-stop, walk-start}
 use Rattle.queue.proofs.ScanLaws.{nothingF}
-use Rattle.queue.proofs.Turns.{Scan, seen, start}
+use Rattle.queue.proofs.Turns.{Scan, seen-in, start}
 use Rattle.queue.specs.Filter.{hasIn, hashL}
-use Rattle.queue.specs.Forms.{formC}
-use Rattle.queue.specs.Frames.{recC}
+use Rattle.queue.specs.Forms.{recIn}
 use Rattle.queue.specs.Reads.{listAt}
 use borrow.Author.Needs.{needs}
 use lib.ListN.{length}
@@ -15,32 +14,32 @@ use Rattle.queue.proofs.scan.apart_by.Tie as tie
 use Rattle.queue.proofs.scan.apart_by.Reads as reads
 use Rattle.queue.proofs.scan.apart_by.Lts as lts
 use Rattle.queue.proofs.forms.after_in.Reads as after-in-reads
-use Rattle.queue.proofs.frame.rec_at.Reads as rec-at-reads
+use Rattle.queue.proofs.frame.rec_in.Reads as rec-in-reads
 use Rattle.queue.proofs.scan.any_shared.Reads as any-shared-reads
 
 abbrev Inv-loop : tie.InvT-loop
-Inv-loop s hex at n t₀ i₀ left₀ t i left = Scan (formC hex recC) nothingF s n at tt i left tt × Walk hasIn hashL (listAt (formC hex recC) n s at) (listAt (formC hex recC) left s i) t × (length t ≡ length t₀)
+Inv-loop s form at n t₀ i₀ left₀ t i left = Scan (recIn form) nothingF s n at tt i left tt × Walk hasIn hashL (listAt (recIn form) n s at) (listAt (recIn form) left s i) t × (length t ≡ length t₀)
 
 abbrev μ-loop : tie.MeasureT-loop
-μ-loop s hex at n t₀ i₀ left₀ t i left = left
+μ-loop s form at n t₀ i₀ left₀ t i left = left
 
 loop-holds : tie.Need-loop-holds Inv-loop μ-loop
-loop-holds c = (start (formC (c .before .before .args .hex) recC) _ _ _ _ _ (c .before .before .pre .0) (c .before .before .pre .1), walk-start _ _ _ _, refl)
+loop-holds c = (start (recIn (c .before .before .args .form)) _ _ _ _ _ (c .before .before .pre .0) (c .before .before .pre .1), walk-start _ _ _ _, refl)
 
-rec-at-requires : tie.Need-rec-at-requires Inv-loop μ-loop
-rec-at-requires c κs = search needs
+rec-in-requires : tie.Need-rec-in-requires Inv-loop μ-loop
+rec-in-requires c κs = search needs
 
 any-shared-requires : tie.Need-any-shared-requires Inv-loop μ-loop
-any-shared-requires c κs = let t = seen (c .before .before .before .before .before .before .before .args .hex) (c .before .before .before .before .loop .inv .0) (c .before .before .before .loop-test .taken) (c .before .before .rec-at .ensures) in (c .before .before .before .before .before .before .before .pre .0, c .before .before .before .before .before .before .before .pre .1, t .is .0 .insIn, t .is .0 .insAll, omega (arith, c .before .before .before .before .loop .inv .2, c .before .before .before .before .before .before .before .pre .2))
+any-shared-requires c κs = let t = seen-in (c .before .before .before .before .before .before .before .args .form) (c .before .before .before .before .loop .inv .0) (c .before .before .before .loop-test .taken) (c .before .before .rec-in .ensures) in (c .before .before .before .before .before .before .before .pre .0, c .before .before .before .before .before .before .before .pre .1, t .is .0 .insIn, t .is .0 .insAll, omega (arith, c .before .before .before .before .loop .inv .2, c .before .before .before .before .before .before .before .pre .2))
 
 same-length : tie.Need-same-length Inv-loop μ-loop
 same-length c = search needs
 
 returns : tie.Need-returns Inv-loop μ-loop
-returns c = apart-stop (c .before .before .before .before .before .before .before .before .before .before .before .args .hex) (c .before .before .before .before .before .before .before .before .loop .inv .0) (c .before .before .before .before .before .before .before .before .loop .inv .1) (c .before .before .before .before .before .before .before .loop-test .taken) (c .before .before .before .before .before .before .rec-at .ensures) (c .before .before .before .any-shared .ensures) (c .if1 .taken)
+returns c = apart-stop (c .before .before .before .before .before .before .before .before .before .before .before .args .form) (c .before .before .before .before .before .before .before .before .loop .inv .0) (c .before .before .before .before .before .before .before .before .loop .inv .1) (c .before .before .before .before .before .before .before .loop-test .taken) (c .before .before .before .before .before .before .rec-in .ensures) (c .before .before .before .any-shared .ensures) (c .if1 .taken)
 
 after-in-requires : tie.Need-after-in-requires Inv-loop μ-loop
-after-in-requires c κs = seen (c .before .before .before .before .before .before .before .before .before .before .before .args .hex) (c .before .before .before .before .before .before .before .before .loop .inv .0) (c .before .before .before .before .before .before .before .loop-test .taken) (c .before .before .before .before .before .before .rec-at .ensures) .is .1 .within
+after-in-requires c κs = seen-in (c .before .before .before .before .before .before .before .before .before .before .before .args .form) (c .before .before .before .before .before .before .before .before .loop .inv .0) (c .before .before .before .before .before .before .before .loop-test .taken) (c .before .before .before .before .before .before .rec-in .ensures) .is .1 .within
 
 sub-left : tie.Need-sub-left Inv-loop μ-loop
 sub-left c = search needs
@@ -49,13 +48,13 @@ loop-less : tie.Need-loop-less Inv-loop μ-loop
 loop-less c = search needs
 
 loop-again : tie.Need-loop-again Inv-loop μ-loop
-loop-again c = let g = apart-go (c .before .before .before .before .before .before .before .before .before .before .before .before .args .hex) (c .before .before .before .before .before .before .before .before .before .loop .inv .0) (c .before .before .before .before .before .before .before .before .before .loop .inv .1) (c .before .before .before .before .before .before .before .before .loop-test .taken) (c .before .before .before .before .before .before .before .rec-at .ensures) (c .before .before .before .before .any-shared .ensures) (c .after-in .ensures) (c .before .if1 .left) in (g .0, g .1, c .before .before .before .before .any-shared .ensures .size ∙ c .before .before .before .before .before .before .before .before .before .loop .inv .2)
+loop-again c = let g = apart-go (c .before .before .before .before .before .before .before .before .before .before .before .before .args .form) (c .before .before .before .before .before .before .before .before .before .loop .inv .0) (c .before .before .before .before .before .before .before .before .before .loop .inv .1) (c .before .before .before .before .before .before .before .before .loop-test .taken) (c .before .before .before .before .before .before .before .rec-in .ensures) (c .before .before .before .before .any-shared .ensures) (c .after-in .ensures) (c .before .if1 .left) in (g .0, g .1, c .before .before .before .before .any-shared .ensures .size ∙ c .before .before .before .before .before .before .before .before .before .loop .inv .2)
 
 same-length-2 : tie.Need-same-length-2 Inv-loop μ-loop
 same-length-2 c = search needs
 
 returns-2 : tie.Need-returns-2 Inv-loop μ-loop
-returns-2 c = apart-end (c .before .before .before .before .args .hex) (c .before .loop .inv .0) (c .before .loop .inv .1) (omega arith)
+returns-2 c = apart-end (c .before .before .before .before .args .form) (c .before .loop .inv .0) (c .before .loop .inv .1) (omega arith)
 
 pub apart-by-spec : {M : Type 1} → statement M
 apart-by-spec =
@@ -64,7 +63,7 @@ apart-by-spec =
     Inv-loop
     μ-loop
     loop-holds
-    rec-at-requires
+    rec-in-requires
     any-shared-requires
     same-length
     returns

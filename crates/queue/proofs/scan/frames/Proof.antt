@@ -9,12 +9,20 @@ use Rattle.queue.proofs.scan.frames.Statement.{statement}
 use Rattle.queue.proofs.scan.frames.Tie as tie
 use Rattle.queue.proofs.scan.frames.Reads as reads
 use Rattle.queue.proofs.scan.frames.Lts as lts
+use Rattle.queue.proofs.forms.after_in.Reads as after-in-reads
+use Rattle.queue.proofs.forms.ends_line.Reads as ends-line-reads
+use Rattle.queue.proofs.frame.rec_in.Reads as rec-in-reads
+use Rattle.queue.proofs.logic.either.Reads as either-reads
+use Rattle.queue.proofs.scan.add_sums.Reads as add-sums-reads
+use Rattle.queue.proofs.scan.no_id.Reads as no-id-reads
+use Rattle.queue.proofs.scan.no_sums.Reads as no-sums-reads
+use Rattle.queue.proofs.view.cmp_id.Reads as cmp-id-reads
 
 abbrev Inv-loop : tie.InvT-loop
-Inv-loop s hex at n k c i₀ left₀ a₀ prev₀ first₀ i left a prev first = Checking hex s n at k c i left a prev first
+Inv-loop s form at n k c i₀ left₀ a₀ prev₀ first₀ i left a prev first = Checking form s n at k c i left a prev first
 
 abbrev μ-loop : tie.MeasureT-loop
-μ-loop s hex at n k c i₀ left₀ a₀ prev₀ first₀ i left a prev first = left
+μ-loop s form at n k c i₀ left₀ a₀ prev₀ first₀ i left a prev first = left
 
 no-sums-requires : tie.Need-no-sums-requires Inv-loop μ-loop
 no-sums-requires c κs = search needs
@@ -23,19 +31,19 @@ no-id-requires : tie.Need-no-id-requires Inv-loop μ-loop
 no-id-requires c κs = search needs
 
 loop-holds : tie.Need-loop-holds Inv-loop μ-loop
-loop-holds c = check-start (c .before .before .before .args .hex) (c .before .before .before .args .s .now) (c .before .before .before .args .n) (c .before .before .before .args .at) (c .before .before .before .args .k) (c .before .before .before .args .c) _ (c .before .before .before .pre .0) (c .before .no-sums .ensures)
+loop-holds c = check-start (c .before .before .before .args .form) (c .before .before .before .args .s .now) (c .before .before .before .args .n) (c .before .before .before .args .at) (c .before .before .before .args .k) (c .before .before .before .args .c) _ (c .before .before .before .pre .0) (c .before .no-sums .ensures)
 
-rec-at-requires : tie.Need-rec-at-requires Inv-loop μ-loop
-rec-at-requires c κs = search needs
+rec-in-requires : tie.Need-rec-in-requires Inv-loop μ-loop
+rec-in-requires c κs = search needs
 
 returns : tie.Need-returns Inv-loop μ-loop
-returns c = check-short (c .before .before .before .before .before .before .before .before .args .hex) (c .before .before .before .before .before .before .before .before .args .s .now) (c .before .before .before .before .before .before .before .before .args .n) (c .before .before .before .before .before .before .before .before .args .at) (c .before .before .before .before .before .before .before .before .args .k) (c .before .before .before .before .before .before .before .before .args .c) (c .before .before .before .before .loop .inv) (c .before .before .before .loop-test .taken) (c .before .before .rec-at .ensures) (not-true _ (c .if1 .taken))
+returns c = check-short (c .before .before .before .before .before .before .before .before .args .form) (c .before .before .before .before .before .before .before .before .args .s .now) (c .before .before .before .before .before .before .before .before .args .n) (c .before .before .before .before .before .before .before .before .args .at) (c .before .before .before .before .before .before .before .before .args .k) (c .before .before .before .before .before .before .before .before .args .c) (c .before .before .before .before .loop .inv) (c .before .before .before .loop-test .taken) (c .before .before .rec-in .ensures) (not-true _ (c .if1 .taken))
 
 ends-line-requires : tie.Need-ends-line-requires Inv-loop μ-loop
-ends-line-requires c κs = frames-in (c .before .before .before .before .loop .inv .frame) (c .before .before .before .loop-test .taken) (c .before .before .rec-at .ensures) (not-false _ (c .if1 .left))
+ends-line-requires c κs = frames-in (c .before .before .before .before .loop .inv .frame) (c .before .before .before .loop-test .taken) (c .before .before .rec-in .ensures) (not-false _ (c .if1 .left))
 
 returns-2 : tie.Need-returns-2 Inv-loop μ-loop
-returns-2 c = check-line (c .before .before .before .before .before .before .before .before .before .before .args .hex) (c .before .before .before .before .before .before .before .before .before .before .args .s .now) (c .before .before .before .before .before .before .before .before .before .before .args .n) (c .before .before .before .before .before .before .before .before .before .before .args .at) (c .before .before .before .before .before .before .before .before .before .before .args .k) (c .before .before .before .before .before .before .before .before .before .before .args .c) (c .before .before .before .before .before .before .loop .inv) (c .before .before .before .before .before .loop-test .taken) (c .before .before .before .before .rec-at .ensures) (not-false _ (c .before .before .if1 .left)) (c .before .ends-line .ensures) (not-true _ (c .if2 .taken))
+returns-2 c = check-line (c .before .before .before .before .before .before .before .before .before .before .args .form) (c .before .before .before .before .before .before .before .before .before .before .args .s .now) (c .before .before .before .before .before .before .before .before .before .before .args .n) (c .before .before .before .before .before .before .before .before .before .before .args .at) (c .before .before .before .before .before .before .before .before .before .before .args .k) (c .before .before .before .before .before .before .before .before .before .before .args .c) (c .before .before .before .before .before .before .loop .inv) (c .before .before .before .before .before .loop-test .taken) (c .before .before .before .before .rec-in .ensures) (not-false _ (c .before .before .if1 .left)) (c .before .ends-line .ensures) (not-true _ (c .if2 .taken))
 
 cmp-id-requires : tie.Need-cmp-id-requires Inv-loop μ-loop
 cmp-id-requires c κs = search needs
@@ -44,10 +52,10 @@ either-requires : tie.Need-either-requires Inv-loop μ-loop
 either-requires c κs = search needs
 
 add-sums-requires : tie.Need-add-sums-requires Inv-loop μ-loop
-add-sums-requires c κs = (check-room (c .before .before .before .before .before .before .before .before .before .before .before .before .before .before .args .hex) (c .before .before .before .before .before .before .before .before .before .before .before .before .before .before .args .s .now) (c .before .before .before .before .before .before .before .before .before .before .before .before .before .before .args .n) (c .before .before .before .before .before .before .before .before .before .before .before .before .before .before .args .at) (c .before .before .before .before .before .before .before .before .before .before .before .before .before .before .args .k) (c .before .before .before .before .before .before .before .before .before .before .before .before .before .before .args .c) (c .before .before .before .before .before .before .before .before .before .before .loop .inv) (c .before .before .before .before .before .before .before .before .before .loop-test .taken) (c .before .before .before .before .before .before .before .before .rec-at .ensures) (c .before .before .before .before .before .before .before .before .before .before .before .before .before .before .pre .1), check-bytes (c .before .before .before .before .before .before .before .before .before .before .before .before .before .before .args .hex) (c .before .before .before .before .before .before .before .before .before .before .before .before .before .before .args .s .now) (c .before .before .before .before .before .before .before .before .before .before .before .before .before .before .args .n) (c .before .before .before .before .before .before .before .before .before .before .before .before .before .before .args .at) (c .before .before .before .before .before .before .before .before .before .before .before .before .before .before .args .k) (c .before .before .before .before .before .before .before .before .before .before .before .before .before .before .args .c) (c .before .before .before .before .before .before .before .before .before .before .loop .inv) (c .before .before .before .before .before .before .before .before .before .loop-test .taken) (c .before .before .before .before .before .before .before .before .rec-at .ensures) (not-false _ (c .before .before .before .before .before .before .if1 .left)))
+add-sums-requires c κs = (check-room (c .before .before .before .before .before .before .before .before .before .before .before .before .before .before .args .form) (c .before .before .before .before .before .before .before .before .before .before .before .before .before .before .args .s .now) (c .before .before .before .before .before .before .before .before .before .before .before .before .before .before .args .n) (c .before .before .before .before .before .before .before .before .before .before .before .before .before .before .args .at) (c .before .before .before .before .before .before .before .before .before .before .before .before .before .before .args .k) (c .before .before .before .before .before .before .before .before .before .before .before .before .before .before .args .c) (c .before .before .before .before .before .before .before .before .before .before .loop .inv) (c .before .before .before .before .before .before .before .before .before .loop-test .taken) (c .before .before .before .before .before .before .before .before .rec-in .ensures) (c .before .before .before .before .before .before .before .before .before .before .before .before .before .before .pre .1), check-bytes (c .before .before .before .before .before .before .before .before .before .before .before .before .before .before .args .form) (c .before .before .before .before .before .before .before .before .before .before .before .before .before .before .args .s .now) (c .before .before .before .before .before .before .before .before .before .before .before .before .before .before .args .n) (c .before .before .before .before .before .before .before .before .before .before .before .before .before .before .args .at) (c .before .before .before .before .before .before .before .before .before .before .before .before .before .before .args .k) (c .before .before .before .before .before .before .before .before .before .before .before .before .before .before .args .c) (c .before .before .before .before .before .before .before .before .before .before .loop .inv) (c .before .before .before .before .before .before .before .before .before .loop-test .taken) (c .before .before .before .before .before .before .before .before .rec-in .ensures) (not-false _ (c .before .before .before .before .before .before .if1 .left)))
 
 after-in-requires : tie.Need-after-in-requires Inv-loop μ-loop
-after-in-requires c κs = frames-in (c .before .before .before .before .before .before .before .before .before .before .before .loop .inv .frame) (c .before .before .before .before .before .before .before .before .before .before .loop-test .taken) (c .before .before .before .before .before .before .before .before .before .rec-at .ensures) (not-false _ (c .before .before .before .before .before .before .before .if1 .left))
+after-in-requires c κs = frames-in (c .before .before .before .before .before .before .before .before .before .before .before .loop .inv .frame) (c .before .before .before .before .before .before .before .before .before .before .loop-test .taken) (c .before .before .before .before .before .before .before .before .before .rec-in .ensures) (not-false _ (c .before .before .before .before .before .before .before .if1 .left))
 
 sub-left : tie.Need-sub-left Inv-loop μ-loop
 sub-left c = search needs
@@ -56,10 +64,10 @@ loop-less : tie.Need-loop-less Inv-loop μ-loop
 loop-less c = search needs
 
 loop-again : tie.Need-loop-again Inv-loop μ-loop
-loop-again c = check-go (c .before .before .before .before .before .before .before .before .before .before .before .before .before .before .before .before .args .hex) (c .before .before .before .before .before .before .before .before .before .before .before .before .before .before .before .before .args .s .now) (c .before .before .before .before .before .before .before .before .before .before .before .before .before .before .before .before .args .n) (c .before .before .before .before .before .before .before .before .before .before .before .before .before .before .before .before .args .at) (c .before .before .before .before .before .before .before .before .before .before .before .before .before .before .before .before .args .k) (c .before .before .before .before .before .before .before .before .before .before .before .before .before .before .before .before .args .c) (c .before .before .before .before .before .before .before .before .before .before .before .before .loop .inv) (c .before .before .before .before .before .before .before .before .before .before .before .loop-test .taken) (c .before .before .before .before .before .before .before .before .before .before .rec-at .ensures) (not-false _ (c .before .before .before .before .before .before .before .before .if1 .left)) (c .before .before .before .before .before .before .before .ends-line .ensures) (not-false _ (c .before .before .before .before .before .before .if2 .left)) (c .after-in .ensures) (c .before .before .either .ensures ∙ rw (c .before .before .before .cmp-id .ensures)) (c .before .add-sums .ensures)
+loop-again c = check-go (c .before .before .before .before .before .before .before .before .before .before .before .before .before .before .before .before .args .form) (c .before .before .before .before .before .before .before .before .before .before .before .before .before .before .before .before .args .s .now) (c .before .before .before .before .before .before .before .before .before .before .before .before .before .before .before .before .args .n) (c .before .before .before .before .before .before .before .before .before .before .before .before .before .before .before .before .args .at) (c .before .before .before .before .before .before .before .before .before .before .before .before .before .before .before .before .args .k) (c .before .before .before .before .before .before .before .before .before .before .before .before .before .before .before .before .args .c) (c .before .before .before .before .before .before .before .before .before .before .before .before .loop .inv) (c .before .before .before .before .before .before .before .before .before .before .before .loop-test .taken) (c .before .before .before .before .before .before .before .before .before .before .rec-in .ensures) (not-false _ (c .before .before .before .before .before .before .before .before .if1 .left)) (c .before .before .before .before .before .before .before .ends-line .ensures) (not-false _ (c .before .before .before .before .before .before .if2 .left)) (c .after-in .ensures) (c .before .before .either .ensures ∙ rw (c .before .before .before .cmp-id .ensures)) (c .before .add-sums .ensures)
 
 returns-3 : tie.Need-returns-3 Inv-loop μ-loop
-returns-3 c = check-end (c .before .before .before .before .before .args .hex) (c .before .before .before .before .before .args .s .now) (c .before .before .before .before .before .args .n) (c .before .before .before .before .before .args .at) (c .before .before .before .before .before .args .k) (c .before .before .before .before .before .args .c) (c .before .loop .inv) (omega arith)
+returns-3 c = check-end (c .before .before .before .before .before .args .form) (c .before .before .before .before .before .args .s .now) (c .before .before .before .before .before .args .n) (c .before .before .before .before .before .args .at) (c .before .before .before .before .before .args .k) (c .before .before .before .before .before .args .c) (c .before .loop .inv) (omega arith)
 
 pub frames-spec : {M : Type 1} → statement M
 frames-spec =
@@ -70,7 +78,7 @@ frames-spec =
     no-sums-requires
     no-id-requires
     loop-holds
-    rec-at-requires
+    rec-in-requires
     returns
     ends-line-requires
     returns-2

@@ -5,6 +5,7 @@ use Rattle.queue.proofs.Turns.{Scan, seen, start}
 use Rattle.queue.specs.Forms.{formC}
 use Rattle.queue.specs.Frames.{recC}
 use borrow.Author.Needs.{needs}
+use mathlib.Core.Bool.{false}
 use native.Mathlib.Omega.{arith}
 use Rattle.queue.proofs.scan.tally.Statement.{statement}
 use Rattle.queue.proofs.scan.tally.Tie as tie
@@ -15,25 +16,25 @@ use Rattle.queue.proofs.frame.rec_at.Reads as rec-at-reads
 use Rattle.queue.proofs.rules.weigh.Reads as weigh-reads
 
 abbrev Inv-loop : tie.InvT-loop
-Inv-loop s hex at n q i₀ left₀ total₀ i left total = Scan (formC hex recC) (sumFrom q) s n at 0 i left total × (total + left * 4294967295 ≤ n * 4294967295)
+Inv-loop s at n q i₀ left₀ total₀ i left total = Scan (formC false recC) (sumFrom q) s n at 0 i left total × (total + left * 4294967295 ≤ n * 4294967295)
 
 abbrev μ-loop : tie.MeasureT-loop
-μ-loop s hex at n q i₀ left₀ total₀ i left total = left
+μ-loop s at n q i₀ left₀ total₀ i left total = left
 
 loop-holds : tie.Need-loop-holds Inv-loop μ-loop
-loop-holds c = (start (formC (c .before .args .hex) recC) _ _ _ _ _ (c .before .pre .0) (c .before .pre .1), omega arith)
+loop-holds c = (start (formC false recC) _ _ _ _ _ (c .before .pre .0) (c .before .pre .1), omega arith)
 
 rec-at-requires : tie.Need-rec-at-requires Inv-loop μ-loop
 rec-at-requires c κs = search needs
 
 weigh-requires : tie.Need-weigh-requires Inv-loop μ-loop
-weigh-requires c κs = seen (c .before .before .before .before .before .args .hex) (c .before .before .before .loop .inv .0) (c .before .before .loop-test .taken) (c .before .rec-at .ensures) .is .0 .small .bytes
+weigh-requires c κs = seen false (c .before .before .before .loop .inv .0) (c .before .before .loop-test .taken) (c .before .rec-at .ensures) .is .0 .small .bytes
 
 add-total : tie.Need-add-total Inv-loop μ-loop
 add-total c = omega (arith, c .before .before .before .before .loop .inv .1, c .weigh .ensures .1)
 
 after-in-requires : tie.Need-after-in-requires Inv-loop μ-loop
-after-in-requires c κs = seen (c .before .before .before .before .before .before .args .hex) (c .before .before .before .before .loop .inv .0) (c .before .before .before .loop-test .taken) (c .before .before .rec-at .ensures) .is .1 .within
+after-in-requires c κs = seen false (c .before .before .before .before .loop .inv .0) (c .before .before .before .loop-test .taken) (c .before .before .rec-at .ensures) .is .1 .within
 
 sub-left : tie.Need-sub-left Inv-loop μ-loop
 sub-left c = search needs
@@ -42,10 +43,10 @@ loop-less : tie.Need-loop-less Inv-loop μ-loop
 loop-less c = search needs
 
 loop-again : tie.Need-loop-again Inv-loop μ-loop
-loop-again c = (tally-go (c .before .before .before .before .before .before .before .args .hex) _ (c .before .before .before .before .before .loop .inv .0) (c .before .before .before .before .loop-test .taken) (c .before .before .before .rec-at .ensures) (c .after-in .ensures) (c .before .weigh .ensures .0), omega (arith, c .before .before .before .before .before .loop .inv .1, c .before .weigh .ensures .1))
+loop-again c = (tally-go false _ (c .before .before .before .before .before .loop .inv .0) (c .before .before .before .before .loop-test .taken) (c .before .before .before .rec-at .ensures) (c .after-in .ensures) (c .before .weigh .ensures .0), omega (arith, c .before .before .before .before .before .loop .inv .1, c .before .weigh .ensures .1))
 
 returns : tie.Need-returns Inv-loop μ-loop
-returns c = (tally-end (c .before .before .before .args .hex) _ (c .before .loop .inv .0) (omega arith), omega (arith, c .before .loop .inv .1))
+returns c = (tally-end false _ (c .before .loop .inv .0) (omega arith), omega (arith, c .before .loop .inv .1))
 
 pub tally-spec : {M : Type 1} → statement M
 tally-spec =

@@ -2,9 +2,8 @@
 use Prim.Native.Nat.{_+_, _≤_}
 use Rattle.queue.proofs.ScanLaws.{nothingF}
 use Rattle.queue.proofs.SuspectLaws.{Gone, gone-last, gone-on, gone-own, gone-start, said-clear, said-crossed, said-no, said-out}
-use Rattle.queue.proofs.Turns.{Scan, seen, start}
-use Rattle.queue.specs.Forms.{formC}
-use Rattle.queue.specs.Frames.{recC}
+use Rattle.queue.proofs.Turns.{Scan, seen-in, start}
+use Rattle.queue.specs.Forms.{recIn}
 use Rattle.queue.specs.Reads.{listAt}
 use borrow.Author.Needs.{needs}
 use borrow.Author.Tests.{not-false, not-true}
@@ -17,24 +16,24 @@ use Rattle.queue.proofs.suspects.apart_by.Tie as tie
 use Rattle.queue.proofs.suspects.apart_by.Reads as reads
 use Rattle.queue.proofs.suspects.apart_by.Lts as lts
 use Rattle.queue.proofs.forms.after_in.Reads as after-in-reads
-use Rattle.queue.proofs.frame.rec_at.Reads as rec-at-reads
+use Rattle.queue.proofs.frame.rec_in.Reads as rec-in-reads
 use Rattle.queue.proofs.suspects.crossed.Reads as crossed-reads
 use Rattle.queue.proofs.suspects.note_all.Reads as note-all-reads
 
 abbrev Inv-loop : tie.InvT-loop
-Inv-loop s hex at n t₀ v₀ last i₀ left₀ k₀ m₀ t v i left k m = Scan (formC hex recC) nothingF s n at tt i left tt × (drop k (listAt (formC hex recC) n s at) ≡ listAt (formC hex recC) left s i) × Gone hex s (listAt (formC hex recC) n s at) (listAt (formC hex recC) left s i) t (take m v) × (k + left ≡ n) × (m ≤ length v₀) × (length v ≡ length v₀) × (length t ≡ length t₀)
+Inv-loop s form at n t₀ v₀ last i₀ left₀ k₀ m₀ t v i left k m = Scan (recIn form) nothingF s n at tt i left tt × (drop k (listAt (recIn form) n s at) ≡ listAt (recIn form) left s i) × Gone (form .hex) s (listAt (recIn form) n s at) (listAt (recIn form) left s i) t (take m v) × (k + left ≡ n) × (m ≤ length v₀) × (length v ≡ length v₀) × (length t ≡ length t₀)
 
 abbrev μ-loop : tie.MeasureT-loop
-μ-loop s hex at n t₀ v₀ last i₀ left₀ k₀ m₀ t v i left k m = left
+μ-loop s form at n t₀ v₀ last i₀ left₀ k₀ m₀ t v i left k m = left
 
 loop-holds : tie.Need-loop-holds Inv-loop μ-loop
-loop-holds c = (start (formC (c .before .before .before .args .hex) recC) _ _ _ _ _ (c .before .before .before .pre .0) (c .before .before .before .pre .1), refl, gone-start _ _ _ _, omega arith, omega arith, refl, refl)
+loop-holds c = (start (recIn (c .before .before .before .args .form)) _ _ _ _ _ (c .before .before .before .pre .0) (c .before .before .before .pre .1), refl, gone-start _ _ _ _, omega arith, omega arith, refl, refl)
 
-rec-at-requires : tie.Need-rec-at-requires Inv-loop μ-loop
-rec-at-requires c κs = search needs
+rec-in-requires : tie.Need-rec-in-requires Inv-loop μ-loop
+rec-in-requires c κs = search needs
 
 note-all-requires : tie.Need-note-all-requires Inv-loop μ-loop
-note-all-requires c κs = let u = seen (c .before .before .before .before .before .before .before .before .before .args .hex) (c .before .before .before .before .before .loop .inv .0) (c .before .before .before .before .loop-test .taken) (c .before .before .before .rec-at .ensures) in (c .before .before .before .before .before .before .before .before .before .pre .0, c .before .before .before .before .before .before .before .before .before .pre .1, c .before .before .before .before .before .before .before .before .before .pre .2, c .before .before .before .before .before .before .before .before .before .pre .3, omega (arith, c .before .before .before .before .before .loop .inv .4, c .before .before .before .before .before .loop .inv .5), omega (arith, c .before .before .before .before .before .loop .inv .5, c .before .before .before .before .before .before .before .before .before .pre .4), omega (arith, c .before .before .before .before .before .loop .inv .6, c .before .before .before .before .before .before .before .before .before .pre .5), omega (arith, c .before .before .before .before .before .loop .inv .3, c .before .before .before .before .before .before .before .before .before .pre .3, c .before .before .before .before .loop-test .taken), u .is .0 .insIn, u .is .0 .insAll, c .before .before .before .before .before .loop .inv .2 .held, gone-own (c .before .before .before .before .before .before .before .before .before .args .hex) (c .before .before .before .before .before .loop .k) (c .before .before .before .before .before .loop .inv .0) (c .before .before .before .before .before .loop .inv .1) (c .before .before .before .before .loop-test .taken) (c .before .before .before .rec-at .ensures))
+note-all-requires c κs = let u = seen-in (c .before .before .before .before .before .before .before .before .before .args .form) (c .before .before .before .before .before .loop .inv .0) (c .before .before .before .before .loop-test .taken) (c .before .before .before .rec-in .ensures) in (c .before .before .before .before .before .before .before .before .before .pre .0, c .before .before .before .before .before .before .before .before .before .pre .1, c .before .before .before .before .before .before .before .before .before .pre .2, c .before .before .before .before .before .before .before .before .before .pre .3, omega (arith, c .before .before .before .before .before .loop .inv .4, c .before .before .before .before .before .loop .inv .5), omega (arith, c .before .before .before .before .before .loop .inv .5, c .before .before .before .before .before .before .before .before .before .pre .4), omega (arith, c .before .before .before .before .before .loop .inv .6, c .before .before .before .before .before .before .before .before .before .pre .5), omega (arith, c .before .before .before .before .before .loop .inv .3, c .before .before .before .before .before .before .before .before .before .pre .3, c .before .before .before .before .loop-test .taken), u .is .0 .insIn, u .is .0 .insAll, c .before .before .before .before .before .loop .inv .2 .held, gone-own (c .before .before .before .before .before .before .before .before .before .args .form) (c .before .before .before .before .before .loop .k) (c .before .before .before .before .before .loop .inv .0) (c .before .before .before .before .before .loop .inv .1) (c .before .before .before .before .loop-test .taken) (c .before .before .before .rec-in .ensures))
 
 same-length : tie.Need-same-length Inv-loop μ-loop
 same-length c = search needs
@@ -55,7 +54,7 @@ returns-2 : tie.Need-returns-2 Inv-loop μ-loop
 returns-2 c = said-out (c .if2 .left)
 
 after-in-requires : tie.Need-after-in-requires Inv-loop μ-loop
-after-in-requires c κs = seen (c .before .before .before .before .before .before .before .before .before .before .before .before .before .before .before .before .args .hex) (c .before .before .before .before .before .before .before .before .before .before .before .before .loop .inv .0) (c .before .before .before .before .before .before .before .before .before .before .before .loop-test .taken) (c .before .before .before .before .before .before .before .before .before .before .rec-at .ensures) .is .1 .within
+after-in-requires c κs = seen-in (c .before .before .before .before .before .before .before .before .before .before .before .before .before .before .before .before .args .form) (c .before .before .before .before .before .before .before .before .before .before .before .before .loop .inv .0) (c .before .before .before .before .before .before .before .before .before .before .before .loop-test .taken) (c .before .before .before .before .before .before .before .before .before .before .rec-in .ensures) .is .1 .within
 
 sub-left : tie.Need-sub-left Inv-loop μ-loop
 sub-left c = search needs
@@ -67,7 +66,7 @@ loop-less : tie.Need-loop-less Inv-loop μ-loop
 loop-less c = search needs
 
 loop-again : tie.Need-loop-again Inv-loop μ-loop
-loop-again c = let g = gone-on (c .before .before .before .before .before .before .before .before .before .before .before .before .before .before .before .before .before .args .hex) (c .before .before .before .before .before .before .before .before .before .before .before .before .before .loop .k) (c .before .before .before .before .before .before .before .before .before .before .before .before .before .loop .inv .0) (c .before .before .before .before .before .before .before .before .before .before .before .before .before .loop .inv .1) (c .before .before .before .before .before .before .before .before .before .before .before .before .loop-test .taken) (c .before .before .before .before .before .before .before .before .before .before .before .rec-at .ensures) (c .before .before .before .before .before .before .before .before .before .before .before .before .before .loop .inv .2) (c .before .before .before .before .before .before .before .note-all .ensures .0) (not-false _ (c .before .if1 .left)) (c .after-in .ensures) in (g .0, g .1, g .2, omega (arith, c .before .before .before .before .before .before .before .before .before .before .before .before .before .loop .inv .3, c .before .before .before .before .before .before .before .before .before .before .before .before .loop-test .taken), omega (arith, c .before .before .before .before .before .before .before .note-all .ensures .1, c .before .before .before .before .before .before .before .before .before .before .before .before .before .loop .inv .5), omega (arith, c .before .before .before .before .before .before .before .before .before .before .before .before .before .loop .inv .5), c .before .before .before .before .before .before .before .note-all .ensures .0 .size ∙ c .before .before .before .before .before .before .before .before .before .before .before .before .before .loop .inv .6)
+loop-again c = let g = gone-on (c .before .before .before .before .before .before .before .before .before .before .before .before .before .before .before .before .before .args .form) (c .before .before .before .before .before .before .before .before .before .before .before .before .before .loop .k) (c .before .before .before .before .before .before .before .before .before .before .before .before .before .loop .inv .0) (c .before .before .before .before .before .before .before .before .before .before .before .before .before .loop .inv .1) (c .before .before .before .before .before .before .before .before .before .before .before .before .loop-test .taken) (c .before .before .before .before .before .before .before .before .before .before .before .rec-in .ensures) (c .before .before .before .before .before .before .before .before .before .before .before .before .before .loop .inv .2) (c .before .before .before .before .before .before .before .note-all .ensures .0) (not-false _ (c .before .if1 .left)) (c .after-in .ensures) in (g .0, g .1, g .2, omega (arith, c .before .before .before .before .before .before .before .before .before .before .before .before .before .loop .inv .3, c .before .before .before .before .before .before .before .before .before .before .before .before .loop-test .taken), omega (arith, c .before .before .before .before .before .before .before .note-all .ensures .1, c .before .before .before .before .before .before .before .before .before .before .before .before .before .loop .inv .5), omega (arith, c .before .before .before .before .before .before .before .before .before .before .before .before .before .loop .inv .5), c .before .before .before .before .before .before .before .note-all .ensures .0 .size ∙ c .before .before .before .before .before .before .before .before .before .before .before .before .before .loop .inv .6)
 
 slice-relend-prefix-crossed : tie.Need-slice-relend-prefix-crossed Inv-loop μ-loop
 slice-relend-prefix-crossed c = omega (arith, c .before .loop .inv .4, c .before .loop .inv .5)
@@ -85,7 +84,7 @@ same-length-6 : tie.Need-same-length-6 Inv-loop μ-loop
 same-length-6 c = search needs
 
 returns-3 : tie.Need-returns-3 Inv-loop μ-loop
-returns-3 c = said-crossed (gone-last (c .before .before .before .before .before .before .before .before .before .before .args .hex) (c .before .before .before .before .before .before .loop .k) (c .before .before .before .before .before .before .loop .inv .0) (c .before .before .before .before .before .before .loop .inv .1) (omega arith) (c .before .before .before .before .before .before .loop .inv .2) (c .before .before .before .crossed .ensures)) (c .if3 .taken)
+returns-3 c = said-crossed (gone-last (c .before .before .before .before .before .before .before .before .before .before .args .form) (c .before .before .before .before .before .before .loop .k) (c .before .before .before .before .before .before .loop .inv .0) (c .before .before .before .before .before .before .loop .inv .1) (omega arith) (c .before .before .before .before .before .before .loop .inv .2) (c .before .before .before .crossed .ensures)) (c .if3 .taken)
 
 same-length-7 : tie.Need-same-length-7 Inv-loop μ-loop
 same-length-7 c = search needs
@@ -94,7 +93,7 @@ same-length-8 : tie.Need-same-length-8 Inv-loop μ-loop
 same-length-8 c = search needs
 
 returns-4 : tie.Need-returns-4 Inv-loop μ-loop
-returns-4 c = said-clear (gone-last (c .before .before .before .before .before .before .before .before .before .before .args .hex) (c .before .before .before .before .before .before .loop .k) (c .before .before .before .before .before .before .loop .inv .0) (c .before .before .before .before .before .before .loop .inv .1) (omega arith) (c .before .before .before .before .before .before .loop .inv .2) (c .before .before .before .crossed .ensures)) (c .if3 .left)
+returns-4 c = said-clear (gone-last (c .before .before .before .before .before .before .before .before .before .before .args .form) (c .before .before .before .before .before .before .loop .k) (c .before .before .before .before .before .before .loop .inv .0) (c .before .before .before .before .before .before .loop .inv .1) (omega arith) (c .before .before .before .before .before .before .loop .inv .2) (c .before .before .before .crossed .ensures)) (c .if3 .left)
 
 pub apart-by-spec : {M : Type 1} → statement M
 apart-by-spec =
@@ -103,7 +102,7 @@ apart-by-spec =
     Inv-loop
     μ-loop
     loop-holds
-    rec-at-requires
+    rec-in-requires
     note-all-requires
     same-length
     same-length-2

@@ -22,7 +22,7 @@ row-at-requires : tie.Need-row-at-requires
 row-at-requires c κs = search needs
 
 add-requires : tie.Need-add-requires
-add-requires c κs = (c .before .before .before .before .before .before .before .before .before .pre .0, c .before .before .before .before .before .before .before .before .before .pre .1, c .before .before .before .before .before .before .before .before .before .pre .2, c .before .before .before .before .before .before .before .before .before .pre .3, c .before .before .before .before .before .before .before .before .before .pre .4, c .before .before .before .before .before .before .before .before .before .pre .5, c .before .before .before .before .before .before .before .before .before .pre .10, held-row (c .before .before .before .before .before .before .before .before .before .args .hex) (c .before .before .before .before .before .before .before .before .before .args .s .now) _ (c .before .before .before .before .before .before .before .before .before .args .k) _ _ (c .before .row-at .ensures .0 ∙ c .before .before .before .before .before .before .before .before .before .pre .9) (c .before .row-at .ensures .1) (c .before .before .before .before .before .before .before .before .before .pre .11))
+add-requires c κs = (c .before .before .before .before .before .before .before .before .before .pre .0, c .before .before .before .before .before .before .before .before .before .pre .1, c .before .before .before .before .before .before .before .before .before .pre .2, c .before .before .before .before .before .before .before .before .before .pre .3, c .before .before .before .before .before .before .before .before .before .pre .4, c .before .before .before .before .before .before .before .before .before .pre .5, c .before .before .before .before .before .before .before .before .before .pre .10, held-row (c .before .before .before .before .before .before .before .before .before .args .form .hex) (c .before .before .before .before .before .before .before .before .before .args .s .now) _ (c .before .before .before .before .before .before .before .before .before .args .k) _ _ (c .before .row-at .ensures .0 ∙ c .before .before .before .before .before .before .before .before .before .pre .9) (c .before .row-at .ensures .1) (c .before .before .before .before .before .before .before .before .before .pre .11))
 
 same-length : tie.Need-same-length
 same-length c = search needs

@@ -1,8 +1,8 @@
 -- Filled from its answers by tools/proofkit.py: change those, and fill it again.
 use Prim.Native.Nat.{_≤_}
 use Rattle.queue.proofs.SuspectLaws.{Noting, id-bytes, noting, noting-end, noting-go, noting-own, noting-stop, noting-turn}
-use Rattle.queue.specs.Forms.{formC}
-use Rattle.queue.specs.Frames.{idC, recC}
+use Rattle.queue.specs.Forms.{recIn}
+use Rattle.queue.specs.Frames.{idC}
 use Rattle.queue.specs.Reads.{listAt}
 use Rattle.queue.specs.View.{view}
 use borrow.Author.Needs.{needs}
@@ -18,13 +18,13 @@ use Rattle.queue.proofs.frame.id_read.Reads as id-read-reads
 use Rattle.queue.proofs.suspects.note.Reads as note-reads
 
 abbrev Inv-loop : tie.InvT-loop
-Inv-loop s hex at n base ids c k t₀ v₀ last m i₀ left₀ len₀ t v i left len = Noting hex s (listAt (formC hex recC) n s at) k (view hex s base) (listAt idC c (view hex s base) ids) t₀ (take m v₀) i left t (take len v) × (len ≤ length v₀) × (length v ≡ length v₀)
+Inv-loop s form at n base ids c k t₀ v₀ last m i₀ left₀ len₀ t v i left len = Noting (form .hex) s (listAt (recIn form) n s at) k (view (form .hex) s base) (listAt idC c (view (form .hex) s base) ids) t₀ (take m v₀) i left t (take len v) × (len ≤ length v₀) × (length v ≡ length v₀)
 
 abbrev μ-loop : tie.MeasureT-loop
-μ-loop s hex at n base ids c k t₀ v₀ last m i₀ left₀ len₀ t v i left len = left
+μ-loop s form at n base ids c k t₀ v₀ last m i₀ left₀ len₀ t v i left len = left
 
 loop-holds : tie.Need-loop-holds Inv-loop μ-loop
-loop-holds c = (noting (c .before .before .before .args .hex) _ _ _ _ _ _ _ _ (c .before .before .before .pre .8) (c .before .before .before .pre .9) (c .before .before .before .pre .10), c .before .before .before .pre .4, refl)
+loop-holds c = (noting (c .before .before .before .args .form .hex) _ _ _ _ _ _ _ _ (c .before .before .before .pre .8) (c .before .before .before .pre .9) (c .before .before .before .pre .10), c .before .before .before .pre .4, refl)
 
 id-read-requires : tie.Need-id-read-requires Inv-loop μ-loop
 id-read-requires c κs = search needs

@@ -1,9 +1,8 @@
 -- Filled from its answers by tools/proofkit.py: change those, and fill it again.
 use Prim.Native.Nat.{_+_}
 use Rattle.queue.proofs.SuspectLaws.{crosses-end, crosses-go, crosses-stop}
-use Rattle.queue.proofs.Turns.{Scan, seen, start}
-use Rattle.queue.specs.Forms.{formC}
-use Rattle.queue.specs.Frames.{recC}
+use Rattle.queue.proofs.Turns.{Scan, seen-in, start}
+use Rattle.queue.specs.Forms.{recIn}
 use Rattle.queue.specs.Suspects.{crosses}
 use borrow.Author.Needs.{needs}
 use mathlib.Core.Path.{_≡_}
@@ -13,29 +12,29 @@ use Rattle.queue.proofs.suspects.pass.Tie as tie
 use Rattle.queue.proofs.suspects.pass.Reads as reads
 use Rattle.queue.proofs.suspects.pass.Lts as lts
 use Rattle.queue.proofs.forms.after_in.Reads as after-in-reads
-use Rattle.queue.proofs.frame.rec_at.Reads as rec-at-reads
+use Rattle.queue.proofs.frame.rec_in.Reads as rec-in-reads
 use Rattle.queue.proofs.suspects.pass_ids.Reads as pass-ids-reads
 
 abbrev Inv-loop : tie.InvT-loop
-Inv-loop s hex at n v ordered i₀ left₀ k₀ i left k = Scan (formC hex recC) (crosses hex s v) s n at 0 i left k × (k + left ≡ n)
+Inv-loop s form at n v ordered i₀ left₀ k₀ i left k = Scan (recIn form) (crosses (form .hex) s v) s n at 0 i left k × (k + left ≡ n)
 
 abbrev μ-loop : tie.MeasureT-loop
-μ-loop s hex at n v ordered i₀ left₀ k₀ i left k = left
+μ-loop s form at n v ordered i₀ left₀ k₀ i left k = left
 
 loop-holds : tie.Need-loop-holds Inv-loop μ-loop
-loop-holds c = (start (formC (c .before .before .args .hex) recC) _ _ _ _ _ (c .before .before .pre .0) (c .before .before .pre .1), omega arith)
+loop-holds c = (start (recIn (c .before .before .args .form)) _ _ _ _ _ (c .before .before .pre .0) (c .before .before .pre .1), omega arith)
 
-rec-at-requires : tie.Need-rec-at-requires Inv-loop μ-loop
-rec-at-requires c κs = search needs
+rec-in-requires : tie.Need-rec-in-requires Inv-loop μ-loop
+rec-in-requires c κs = search needs
 
 pass-ids-requires : tie.Need-pass-ids-requires Inv-loop μ-loop
-pass-ids-requires c κs = let t = seen (c .before .before .before .before .before .before .args .hex) (c .before .before .before .loop .inv .0) (c .before .before .loop-test .taken) (c .before .rec-at .ensures) in (t .is .0 .insIn, t .is .0 .insAll, c .before .before .before .before .before .before .pre .2, omega (arith, c .before .before .before .before .before .before .pre .3, c .before .before .before .loop .inv .1, c .before .before .loop-test .taken), c .before .before .before .before .before .before .pre .4)
+pass-ids-requires c κs = let t = seen-in (c .before .before .before .before .before .before .args .form) (c .before .before .before .loop .inv .0) (c .before .before .loop-test .taken) (c .before .rec-in .ensures) in (t .is .0 .insIn, t .is .0 .insAll, c .before .before .before .before .before .before .pre .2, omega (arith, c .before .before .before .before .before .before .pre .3, c .before .before .before .loop .inv .1, c .before .before .loop-test .taken), c .before .before .before .before .before .before .pre .4)
 
 returns : tie.Need-returns Inv-loop μ-loop
-returns c = crosses-stop (c .before .before .before .before .before .before .before .before .args .hex) (c .before .before .before .before .before .before .before .before .args .v .now) (c .before .before .before .before .before .loop .inv .0) (c .before .before .before .before .loop-test .taken) (c .before .before .before .rec-at .ensures) (c .before .pass-ids .ensures) (c .if1 .taken)
+returns c = crosses-stop (c .before .before .before .before .before .before .before .before .args .form) (c .before .before .before .before .before .before .before .before .args .v .now) (c .before .before .before .before .before .loop .inv .0) (c .before .before .before .before .loop-test .taken) (c .before .before .before .rec-in .ensures) (c .before .pass-ids .ensures) (c .if1 .taken)
 
 after-in-requires : tie.Need-after-in-requires Inv-loop μ-loop
-after-in-requires c κs = seen (c .before .before .before .before .before .before .before .before .args .hex) (c .before .before .before .before .before .loop .inv .0) (c .before .before .before .before .loop-test .taken) (c .before .before .before .rec-at .ensures) .is .1 .within
+after-in-requires c κs = seen-in (c .before .before .before .before .before .before .before .before .args .form) (c .before .before .before .before .before .loop .inv .0) (c .before .before .before .before .loop-test .taken) (c .before .before .before .rec-in .ensures) .is .1 .within
 
 sub-left : tie.Need-sub-left Inv-loop μ-loop
 sub-left c = search needs
@@ -47,10 +46,10 @@ loop-less : tie.Need-loop-less Inv-loop μ-loop
 loop-less c = search needs
 
 loop-again : tie.Need-loop-again Inv-loop μ-loop
-loop-again c = (crosses-go (c .before .before .before .before .before .before .before .before .before .args .hex) (c .before .before .before .before .before .before .before .before .before .args .v .now) (c .before .before .before .before .before .before .loop .inv .0) (c .before .before .before .before .before .loop-test .taken) (c .before .before .before .before .rec-at .ensures) (c .before .before .pass-ids .ensures) (c .after-in .ensures) (c .before .if1 .left), omega (arith, c .before .before .before .before .before .before .loop .inv .1, c .before .before .before .before .before .loop-test .taken))
+loop-again c = (crosses-go (c .before .before .before .before .before .before .before .before .before .args .form) (c .before .before .before .before .before .before .before .before .before .args .v .now) (c .before .before .before .before .before .before .loop .inv .0) (c .before .before .before .before .before .loop-test .taken) (c .before .before .before .before .rec-in .ensures) (c .before .before .pass-ids .ensures) (c .after-in .ensures) (c .before .if1 .left), omega (arith, c .before .before .before .before .before .before .loop .inv .1, c .before .before .before .before .before .loop-test .taken))
 
 returns-2 : tie.Need-returns-2 Inv-loop μ-loop
-returns-2 c = crosses-end (c .before .before .before .before .args .hex) (c .before .before .before .before .args .v .now) (c .before .loop .inv .0) (omega arith)
+returns-2 c = crosses-end (c .before .before .before .before .args .form) (c .before .before .before .before .args .v .now) (c .before .loop .inv .0) (omega arith)
 
 pub pass-spec : {M : Type 1} → statement M
 pass-spec =
@@ -59,7 +58,7 @@ pass-spec =
     Inv-loop
     μ-loop
     loop-holds
-    rec-at-requires
+    rec-in-requires
     pass-ids-requires
     returns
     after-in-requires
