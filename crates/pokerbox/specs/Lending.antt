@@ -40,7 +40,7 @@ lend-open text old area e h = go (readImage text) refl
     go (some q) t = rw (t, le-ltb (length area) (need (q .limits)) (rw t at h))
 
 pub image-limits : (q : Queue) (old : Five) → Fit q → q .persisted ≡ q .cursor → imageLimitsOf (imageBytes q) old ≡ (Done Nothing, limitsNeed (q .limits))
-unfolding imageLimitsOf imageBytes
+unfolding imageLimitsOf
 image-limits q old f e = rw (fit-image q f e)
 
 -- ---- cards: document 01's worked image, and a limit of 0

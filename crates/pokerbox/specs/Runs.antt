@@ -13,7 +13,7 @@ use Rattle.queue.specs.declared.Answer.{Answer}
 use Rattle.queue.specs.declared.Answer.the-variants.{Refused, Done}
 use Rattle.queue.specs.Codec.{mapC, pairC, beC}
 use Rattle.queue.specs.ReadLaws.{false-true}
-use Rattle.queue.specs.Forms.{storeC, storeOf, queueC, store-length}
+use Rattle.queue.specs.Forms.{storeIn, areaForm, storeOf, queueC, store-length}
 use Rattle.queue.specs.Areas.{readArea, image}
 use Rattle.queue.specs.Plain.{image-plain}
 use Rattle.queue.specs.Sounds.{Fit, fit-sound, fit-ok}
@@ -23,6 +23,7 @@ use Rattle.queue.specs.paper.Lists.{maybe}
 use Rattle.queue.specs.paper.Records.{Bytes, Limits, Queue}
 use Rattle.queue.specs.paper.Sound.{inRange, need}
 use Rattle.queue.specs.paper.Area.{areaBytes, imageBytes, over}
+use Rattle.queue.specs.paper.Kinds.{newest}
 use Rattle.queue.specs.paper.Changing.{moved}
 use Rattle.queue.specs.paper.Calls.{Call, Worked, work, nextArea, fresh, freshOf, settleOf, byKind}
 use Rattle.image.specs.paper.Image.{imageOf, openOf}
@@ -47,12 +48,12 @@ TextOk a next text = byKind a false false true true ≡ true → length (imageBy
 
 -- how long an image can be: two digits a byte of the area, and a line end for each frame
 pub image-room : (q : Queue) → Fit q → length (imageBytes q) ≤ 2 * need (q .limits) + (2 * q .limits .P + q .limits .T + 1)
-unfolding imageBytes image queueC mapC pairC
+unfolding image queueC mapC pairC
 image-room q f =
-    let e : image q ≡ imageBytes q = image-plain q in
+    let e : image newest q ≡ imageBytes q = image-plain newest q in
     let s = store-length (storeOf q) in
     let n = fits-need q (fit-sound q f) (fit-ok q f) in
-    let a = length-append (beC 4 .enc (q .persisted)) (storeC false .enc (storeOf q)) in
+    let a = length-append (beC 4 .enc (q .persisted)) (storeIn areaForm .enc (storeOf q)) in
     let c = f .sound .few in
     omega (arith, ap length e)
 
@@ -71,7 +72,7 @@ unfolding freshOf
 fresh-is m other r h = rw (r, le-ltb (length other) (need m) h)
 
 open-is : (q : Queue) (other : Bytes) → Fit q → q .persisted ≡ q .cursor → need (q .limits) ≤ length other → openOf (imageBytes q) other ≡ (Done Nothing, over (areaBytes q) other)
-unfolding openOf imageBytes
+unfolding openOf
 open-is q other f e h = rw (fit-image q f e, le-ltb (length other) (need (q .limits)) h)
 
 -- opening sets persisted to the cursor height, where an image's queue has it already
