@@ -25,7 +25,7 @@ use Rattle.queue.specs.Splice.{splice, be, Put}
 use Rattle.queue.specs.Forms.{formC, lineEnc, afterIn, Framed, turn-in, Store, headFor, headIn, recIn, storeIn, areaForm, textForm, framesC, framesEnc, store-length, storeOf, queueWith, queueC, form-raw, ok-queue}
 use Rattle.queue.specs.Kinds.{rec-enc, headTail, head-first}
 use Rattle.queue.specs.Areas.{kindOf, readImage, layout, image, image-found, image-none, image-unknown}
-use Rattle.queue.specs.Opens.{limits, StoreAs, soundL, sound-list, AreaAs, AreaIs}
+use Rattle.queue.specs.Opens.{needMost, limits, StoreAs, soundL, sound-list, AreaAs, AreaIs}
 use Rattle.queue.specs.Plain.{area-plain, image-plain}
 use Rattle.queue.specs.Bound.{fits-need, area-size, reads-image}
 use Rattle.queue.specs.paper.Records.{Bytes, Limits, Rec, Queue}
@@ -83,7 +83,7 @@ module _ {s : Bytes} (k : ℕ) (i : k ≡ kindOf s) (kn : kind? k ≡ true) {y :
       let u = image-found k i kn r f in
       record { good = λ z. false-true (sym e ∙ z); bad = λ z. u .2 ∙ rw (eq-eqb (y .next) (length s) n, the-rules (u .0) (u .1), ← d, t) }
 
-  pub text-good : {x : Text} {b : Bool} {m : ℕ} → y .ok ≡ true → y .next ≡ length s → b ≡ rules → b ≡ true → m ≡ need lim → m ≤ 51905024 → x .ok ≡ true → x .form ≡ textForm k → x .open ≡ y → x .need ≡ m → TextIs s x
+  pub text-good : {x : Text} {b : Bool} {m : ℕ} → y .ok ≡ true → y .next ≡ length s → b ≡ rules → b ≡ true → m ≡ need lim → m ≤ needMost → x .ok ≡ true → x .form ≡ textForm k → x .open ≡ y → x .need ≡ m → TextIs s x
   text-good {x} {b} {m} f n d t g l e1 e4 e2 e3 =
       let u = image-found k i kn r f in
       let rd : readImage s ≡ some (queueWith (u .0 .cursor) (u .0)) = u .2 ∙ rw (eq-eqb (y .next) (length s) n, the-rules (u .0) (u .1), ← d, t) in

@@ -9,7 +9,7 @@ use Rattle.queue.specs.Forms.{Framed, Store, headIn, recIn, storeIn, areaForm, 
 use Rattle.queue.specs.Facts.{SeenAs, HeadAs}
 use Rattle.queue.specs.View.{view}
 use Rattle.queue.specs.Areas.{readImage}
-use Rattle.queue.specs.Opens.{StoreAs, AreaAs}
+use Rattle.queue.specs.Opens.{needMost, StoreAs, AreaAs}
 use Rattle.queue.specs.Splice.{Put}
 use Rattle.queue.specs.declared.frame.Form.{Form}
 use Rattle.queue.specs.declared.frame.HeadR.{HeadR}
@@ -25,7 +25,7 @@ use Rattle.image.specs.declared.text.Text.{Text}
 pub record TextAs (s : Bytes) (x : Text) (q : Queue) : Type 0 where
   pub store : StoreAs (x .form) s 0 (x .open) (storeOf q)
   pub need : x .need ≡ need (q .limits)
-  pub small : x .need ≤ 51905024
+  pub small : x .need ≤ needMost
   pub sound : sound? q ≡ true
   pub range : queueC .ok q
   pub level : q .persisted ≡ q .cursor

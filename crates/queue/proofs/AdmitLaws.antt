@@ -25,7 +25,7 @@ use Rattle.queue.specs.Admits.{held-split, weight-split}
 use Rattle.queue.specs.CallsAs.{AreaIn}
 use Rattle.queue.specs.Rules.{sum}
 use Rattle.queue.specs.Opens.{limits, AreaAs, AreaIs}
-use Rattle.queue.specs.Fronts.{tipOf, tipSize, frontBytes, queueOf}
+use Rattle.queue.specs.Fronts.{frontLen, tipOf, tipSize, frontBytes, queueOf}
 use Rattle.queue.specs.Finishing.{picked}
 use Rattle.queue.specs.Plain.{rec-plain}
 use Rattle.queue.specs.Reopens.{leadBytes}
@@ -450,13 +450,13 @@ module _ {s : Bytes} {a : Area} (cursor : Height) (has : Bool) (tip : Id) {r : R
       with-fits : length (queueC .enc (queueOf Limz marksWith tip recsWith)) ≤ need Limz
       with-fits = let u = ap (λ v. length (queueC .enc v)) with-is in let v = ap need (the-limits (w .read)) in let y = w .fits in omega arith
 
-      pub with-room : 45 + tipSize has + length (encs recC recsWith) ≤ a .need
+      pub with-room : frontLen + tipSize has + length (encs recC recsWith) ≤ a .need
       with-room =
           let q = queue-long Limz marksWith tip recsWith with-many l in
           let v = ap need (the-limits (w .read)) in let y = with-fits in omega (arith, w .read .need)
 
-      pub with-done : {d d₁ d₂ d₃ : Bytes} {o y y′ to : ℕ} {q′ : Queue} → readArea s ≡ some q′ → a .need ≤ length d → to ≡ 45 + tipSize has
-          → Put d to (encs recC recsWith) (length (encs recC recsWith)) o d₁ → Put d₁ 0 (frontBytes Limz marksWith tip) (45 + tipSize has) y d₂ → Put d₂ o (replicate (a .need - o) 0) (a .need - o) y′ d₃
+      pub with-done : {d d₁ d₂ d₃ : Bytes} {o y y′ to : ℕ} {q′ : Queue} → readArea s ≡ some q′ → a .need ≤ length d → to ≡ frontLen + tipSize has
+          → Put d to (encs recC recsWith) (length (encs recC recsWith)) o d₁ → Put d₁ 0 (frontBytes Limz marksWith tip) (frontLen + tipSize has) y d₂ → Put d₂ o (replicate (a .need - o) 0) (a .need - o) y′ d₃
           → d₃ ≡ over (areaBytes (withR (cursor .0) (tipOf has tip) r q′)) d
       with-done {d} f g h p1 p2 p3 =
           area-done Limz marksWith tip recsWith with-many with-fits (w .read .need ∙ ap need (the-limits (w .read))) g p1 (recast p2 refl (sym h) refl) p3

@@ -25,7 +25,7 @@ use Rattle.queue.specs.Bound.{fits-need}
 use Rattle.queue.specs.Sounds.{Fit, fit-sound, fit-ok}
 use Rattle.queue.specs.Keeps.{Kept, Leaves, leaves-kept, named-once, cancel-leaves}
 use Rattle.queue.specs.Plain.{terms-plain, place-plain}
-use Rattle.queue.specs.Facts.{factsOf, SeenAs}
+use Rattle.queue.specs.Facts.{termsAt, factsOf, SeenAs}
 use Rattle.queue.specs.Opens.{AreaAs, AreaIs}
 use Rattle.queue.specs.Finishing.{picked}
 use Rattle.queue.specs.ReadingAs.{FoundAs, Here, EntryIn, entryAt, entryLen}
@@ -147,19 +147,19 @@ module _ {s : Bytes} {a : Area} {id : Id} {at : ℕ} (w : FoundIn s a id at) {ok
   put-asks = entry-in (w .here .0) it
 
 -- ---- finishing it
-join2 : (v a b w y : Bytes) → drop 35 v ≡ a ++ w → w ≡ b ++ y → drop 35 v ≡ (a ++ b) ++ y
+join2 : (v a b w y : Bytes) → drop termsAt v ≡ a ++ w → w ≡ b ++ y → drop termsAt v ≡ (a ++ b) ++ y
 join2 v a b w y e f = e ∙ rw f (sym (append-assoc a b y))
 
 module _ {s : Bytes} {a : Area} {id : Id} {at : ℕ} {x : Seen} (w : HeldIn s a id at x) where
-  middle : (take (x .mark - 35) (drop (at + 35) s) ≡ termsC .enc (w .r .terms) ++ placeC .enc (w .r .place)) × (length (termsC .enc (w .r .terms) ++ placeC .enc (w .r .place)) ≡ x .mark - 35)
+  middle : (take (x .mark - termsAt) (drop (at + termsAt) s) ≡ termsC .enc (w .r .terms) ++ placeC .enc (w .r .place)) × (length (termsC .enc (w .r .terms) ++ placeC .enc (w .r .place)) ≡ x .mark - termsAt)
   unfolding view
   middle =
       let u = w .seen .0 in
       let e = join2 (drop at s) (termsC .enc (w .r .terms)) (placeC .enc (w .r .place)) (drop (x .after) (drop at s)) (drop (x .mark) (drop at s)) (u .terms) (u .place) in
-      let b = between (drop at s) (termsC .enc (w .r .terms) ++ placeC .enc (w .r .place)) 35 (x .mark) e (omega (arith, u .up, u .upPlace)) (omega (arith, u .upBody, u .end)) in
-      (ap (take (x .mark - 35)) (sym (drop-drop 35 at s)) ∙ b .0, b .1)
+      let b = between (drop at s) (termsC .enc (w .r .terms) ++ placeC .enc (w .r .place)) termsAt (x .mark) e (omega (arith, u .up, u .upPlace)) (omega (arith, u .upBody, u .end)) in
+      (ap (take (x .mark - termsAt)) (sym (drop-drop termsAt at s)) ∙ b .0, b .1)
 
-  pub held-asks : (35 ≤ x .mark) × (at + x .mark ≤ length s)
+  pub held-asks : (termsAt ≤ x .mark) × (at + x .mark ≤ length s)
   unfolding view
   held-asks = let u = w .seen .0 in (omega (arith, u .up, u .upPlace), omega (arith, u .upBody, u .end, length-drop at s, u .up, u .upPlace))
 

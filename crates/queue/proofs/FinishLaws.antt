@@ -20,7 +20,7 @@ use Rattle.queue.specs.Reads.{Reads, whole, listAt}
 use Rattle.queue.specs.ReadLaws.{Turn, false-true, none-left}
 use Rattle.queue.specs.View.{view}
 use Rattle.queue.specs.Forms.{formC, form-raw, afterIn, Framed, turn-in}
-use Rattle.queue.specs.Facts.{factsOf, SeenAs}
+use Rattle.queue.specs.Facts.{termsAt, factsOf, SeenAs}
 use Rattle.queue.specs.Rules.{weight, sum, dueF, aboveF}
 use Rattle.queue.specs.Plain.{terms-plain, place-plain, rec-plain}
 use Rattle.queue.specs.paper.Records.{Bytes, Id, Rec}
@@ -206,7 +206,7 @@ div-one v = omega arith
 pub cut-one : (v x y : Bytes) (k : ℕ) → drop k v ≡ x ++ y → length x ≡ 1 → drop (k + 1) v ≡ y
 cut-one v x y k e h = sym (drop-drop 1 k v) ∙ ap (drop 1) e ∙ drop-at x y 1 h
 
-join3 : (v a b m z w y : Bytes) → drop 35 v ≡ a ++ w → w ≡ b ++ y → y ≡ m ++ z → drop 35 v ≡ (a ++ (b ++ m)) ++ z
+join3 : (v a b m z w y : Bytes) → drop termsAt v ≡ a ++ w → w ≡ b ++ y → y ≡ m ++ z → drop termsAt v ≡ (a ++ (b ++ m)) ++ z
 join3 v a b m z w y e f g = e ∙ rw (f, g) (sym (append-assoc a (b ++ m) z ∙ ap (λ k. a ++ k) (append-assoc b m z)))
 
 module _ {v : Bytes} {x : Seen} {r : Rec} (w : SeenAs v x r) where
@@ -214,11 +214,11 @@ module _ {v : Bytes} {x : Seen} {r : Rec} (w : SeenAs v x r) where
   unfolding beC
   mark-byte = codec.be-length 1 (r .mark)
 
-  pub middle : (take (x .mark + 1 - 35) (drop 35 v) ≡ termsC .enc (r .terms) ++ (placeC .enc (r .place) ++ beC 1 .enc (r .mark))) × (length (termsC .enc (r .terms) ++ (placeC .enc (r .place) ++ beC 1 .enc (r .mark))) ≡ x .mark + 1 - 35)
+  pub middle : (take (x .mark + 1 - termsAt) (drop termsAt v) ≡ termsC .enc (r .terms) ++ (placeC .enc (r .place) ++ beC 1 .enc (r .mark))) × (length (termsC .enc (r .terms) ++ (placeC .enc (r .place) ++ beC 1 .enc (r .mark))) ≡ x .mark + 1 - termsAt)
   middle =
       let k = cut-one v (beC 1 .enc (r .mark)) (beC 8 .enc (r .finish) ++ drop (x .body) v) (x .mark) (w .marks) mark-byte in
       let e = join3 v (termsC .enc (r .terms)) (placeC .enc (r .place)) (beC 1 .enc (r .mark)) (beC 8 .enc (r .finish) ++ drop (x .body) v) (drop (x .after) v) (drop (x .mark) v) (w .terms) (w .place) (w .marks) in
-      between v (termsC .enc (r .terms) ++ (placeC .enc (r .place) ++ beC 1 .enc (r .mark))) 35 (x .mark + 1) (e ∙ ap (λ y. (termsC .enc (r .terms) ++ (placeC .enc (r .place) ++ beC 1 .enc (r .mark))) ++ y) (sym k))
+      between v (termsC .enc (r .terms) ++ (placeC .enc (r .place) ++ beC 1 .enc (r .mark))) termsAt (x .mark + 1) (e ∙ ap (λ y. (termsC .enc (r .terms) ++ (placeC .enc (r .place) ++ beC 1 .enc (r .mark))) ++ y) (sym k))
       (omega (arith, w .up, w .upPlace)) (omega (arith, w .upBody, w .end))
 
 pub byte-one : (v : ℕ) → codec.be 1 v ≡ v ∷ []
@@ -244,7 +244,7 @@ shape state reason n r =
 pub fin-is : (s : Bytes) (base : ℕ) {x : Seen} {r : Rec} (state reason n : ℕ) → n < 256 ^ 8 → SeenAs (view false s base) x r → finBytes s base x state reason n ≡ recC .enc (finished state reason n r)
 unfolding finBytes view
 fin-is s base {x} {r} state reason n h w =
-    let e : take (x .mark + 1 - 35) (drop (base + 35) s) ≡ termsC .enc (r .terms) ++ (placeC .enc (r .place) ++ beC 1 .enc (r .mark)) = ap (take (x .mark + 1 - 35)) (sym (drop-drop 35 base s)) ∙ middle w .0 in
+    let e : take (x .mark + 1 - termsAt) (drop (base + termsAt) s) ≡ termsC .enc (r .terms) ++ (placeC .enc (r .place) ++ beC 1 .enc (r .mark)) = ap (take (x .mark + 1 - termsAt)) (sym (drop-drop termsAt base s)) ∙ middle w .0 in
     rw (w .id, be-same 8 n h, e) (shape state reason n r)
 
 -- ---- the walk that writes
@@ -280,15 +280,15 @@ pub keep-long : (s : Bytes) (base : ℕ) (x : Seen) → base + x .size ≤ lengt
 unfolding stepBytes
 keep-long s base x h = length-take-le (x .size) (drop base s) (omega (arith, length-drop base s))
 
-pub end-long : (s : Bytes) (base : ℕ) (x : Seen) (a b : ℕ) (n : Finish) → length (x .id) ≡ 32 → 35 ≤ x .mark + 1 → base + (x .mark + 1) ≤ length s → length (stepBytes s base x (End a b n)) ≡ x .mark + 10
+pub end-long : (s : Bytes) (base : ℕ) (x : Seen) (a b : ℕ) (n : Finish) → length (x .id) ≡ 32 → termsAt ≤ x .mark + 1 → base + (x .mark + 1) ≤ length s → length (stepBytes s base x (End a b n)) ≡ x .mark + 10
 unfolding stepBytes finBytes
 end-long s base x a b n i h k =
     let y = length-be 8 (n .0) in
-    let d = length-drop (base + 35) s in
-    let z = length-take-le (x .mark + 1 - 35) (drop (base + 35) s) (omega arith) in
+    let d = length-drop (base + termsAt) s in
+    let z = length-take-le (x .mark + 1 - termsAt) (drop (base + termsAt) s) (omega arith) in
     simp length-append (omega arith)
 
-pub end-room : (s : Bytes) (base : ℕ) (x : Seen) {t : Fate} {a b : ℕ} {n : Finish} (o k : ℕ) → t ≡ End a b n → length (x .id) ≡ 32 → 35 ≤ x .mark + 1 → base + (x .mark + 1) ≤ length s → o + length (stepBytes s base x t) ≤ k → o + (x .mark + 10) ≤ k
+pub end-room : (s : Bytes) (base : ℕ) (x : Seen) {t : Fate} {a b : ℕ} {n : Finish} (o k : ℕ) → t ≡ End a b n → length (x .id) ≡ 32 → termsAt ≤ x .mark + 1 → base + (x .mark + 1) ≤ length s → o + length (stepBytes s base x t) ≤ k → o + (x .mark + 10) ≤ k
 end-room s base x {t} {a} {b} {n} o k e i h l r = let z = end-long s base x a b n i h l in let y = ap (λ v. length (stepBytes s base x v)) e in omega arith
 
 pub keep-room : (s : Bytes) (base : ℕ) (x : Seen) {t : Fate} (o k : ℕ) → t ≡ Keep → base + x .size ≤ length s → o + length (stepBytes s base x t) ≤ k → o + x .size ≤ k

@@ -7,7 +7,7 @@ use Prim.Native.Nat.{ℕ, zero, suc, _+_, _-_, _*_, _^_, _≤_, _<_}
 use native.Mathlib.Omega.{arith}
 use native.Mathlib.Nat.{pow-le-pow-right, mul-le-mul, pow-suc, le-trans, le-of-lt}
 use native.Mathlib.Numerals.{add-one}
-use lib.Dec.{lit<, ltb, leb, eqb}
+use lib.Dec.{lit<, ltb, eqb}
 use lib.ListN.{length, drop, take, getD, length-append, length-drop}
 use lib.Seq.{drop-cons, take-at}
 use borrow.Author.Tests.{lt-ltb, eq-eqb, ne-eqb}
@@ -20,8 +20,9 @@ use Rattle.queue.specs.Ids.{part}
 use Rattle.queue.specs.Lists.{and-true}
 use Rattle.queue.specs.Reads.{Reads, Span, flagDec, flagC, Counted, OptSpan, whole, listAt}
 use Rattle.queue.specs.ReadLaws.{drop-none, false-true, pair, mapped, weaken, OptW, opt-absent, opt-present, Small, beAt, be-here, Spans, short, spanned, spans-be, spans-byte, spans-pair, spans-id, counted, opt-span, none-left}
-use Rattle.queue.specs.Facts.{optNum, placeHeight, factsOf, TagAt, MarkAt, NumAt, OptAt, PlaceAs, TermsAs, BodyAs, RestAs, Bounded, SeenAs, LimAs, HeadAs}
+use Rattle.queue.specs.Facts.{termsAt, optNum, placeHeight, factsOf, TagAt, MarkAt, NumAt, OptAt, PlaceAs, TermsAs, BodyAs, RestAs, Bounded, SeenAs, LimAs, HeadAs}
 use Rattle.queue.specs.paper.Lists.{isSome}
+use Rattle.queue.specs.paper.Kinds.{hasMark3, markSaid?}
 use Rattle.queue.specs.paper.Sound.{labelLen, inputs, outputs, content}
 use Rattle.queue.specs.declared.frame.Facts.{Facts}
 use Rattle.queue.specs.declared.frame.TermsR.{TermsR}
@@ -327,8 +328,8 @@ mark-size : (k m : ℕ) → markC k .ok m → length (markC k .enc m) ≡ 1
 mark-size k m h = rw (mark-enc k m) (spans-be 1 .size m (mark-up k m h))
 
 -- a byte, tested where the kind has no mark 3
-pub mark-read : (k : ℕ) {s : Bytes} {at next v : ℕ} {ok ok′ said : Bool} → NumAt 1 s at ok next v → said ≡ (leb 3 k || not (eqb v 3)) → ok′ ≡ (ok && said) → MarkAt k s at ok′ next v
-mark-read k {s} {at} {next} {v} {ok} x e f = (ok-as (f ∙ rw e) (go (leb 3 k)), x .1)
+pub mark-read : (k : ℕ) {s : Bytes} {at next v : ℕ} {ok ok′ said : Bool} → NumAt 1 s at ok next v → said ≡ markSaid? k v → ok′ ≡ (ok && said) → MarkAt k s at ok′ next v
+mark-read k {s} {at} {next} {v} {ok} x e f = (ok-as (f ∙ rw e) (go (hasMark3 k)), x .1)
   where
     go : (since : Bool) → Reads (pickC since (beC 1) (guardC (λ m. not (eqb m 3)) (beC 1))) s at (ok && (since || not (eqb v 3))) next (λ m. m ≡ v)
     go true = ok-as (and-r ok) (x .0)
@@ -436,7 +437,7 @@ rec-read {s} {na} {nb} {nc} {nd} {ne} {nf} {vc} {vd} {va} {oka} {okb} {okc} {okd
     let tw = w .1 .1 .1 .1 .0 in
     let xw = w .1 .1 .1 .1 .1 in
     let hw = xw .held in
-    let at35 : 35 ≡ nd = omega arith in
+    let at-terms : termsAt ≡ nd = omega arith in
     let ins : r .facts .ins ≡ x .held .ins = rw e2 in
     let outs : r .facts .outs ≡ x .held .outs = rw e2 in
     let bytes : r .facts .bytes ≡ x .held .bytes = rw e2 in
@@ -459,7 +460,7 @@ rec-read {s} {na} {nb} {nc} {nd} {ne} {nf} {vc} {vd} {va} {oka} {okb} {okc} {okd
         outs = hw .outsSmall;
         bytes = hw .bytesSmall;
       });
-      terms = rw (at35, e3) (tw .1);
+      terms = ap (λ (j : ℕ). drop j s) at-terms ∙ rw e3 (tw .1);
       place = rw (e3, e4) (xw .place);
       marks = rw (e4, e5) (xw .marks);
       body = rw (e5, e9) (rw e10 at (xw .body));

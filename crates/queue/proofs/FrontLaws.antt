@@ -16,7 +16,7 @@ use Rattle.queue.specs.Frames.{recC}
 use Rattle.queue.specs.Areas.{layout}
 use Rattle.queue.specs.Plain.{bytes-plain, area-plain}
 use Rattle.queue.specs.Opens.{limits}
-use Rattle.queue.specs.Fronts.{tipOf, tipSize, headWith, Small, startBytes, marksBytes, frontBytes, queueOf}
+use Rattle.queue.specs.Fronts.{frontLen, tipOf, tipSize, headWith, Small, startBytes, marksBytes, frontBytes, queueOf}
 use Rattle.queue.specs.paper.Records.{Bytes, Id, Limits, Rec, Queue}
 use Rattle.queue.specs.paper.Sound.{need}
 use Rattle.queue.specs.paper.Area.{areaBytes, over}
@@ -67,7 +67,7 @@ split-front l m tip h =
     two a c d e f g h i = simp append-assoc
 
 pub front-put : {x x₁ x₂ : Bytes} {p r : ℕ} (l : Limits) (m : Marks) (tip : Id) → Small m → Put x 0 (startBytes l (m .persisted .0) (m .revision)) 29 p x₁ → Put x₁ p (marksBytes m tip) (16 + tipSize (m .tip)) r x₂
-    → Put x 0 (frontBytes l m tip) (45 + tipSize (m .tip)) r x₂
+    → Put x 0 (frontBytes l m tip) (frontLen + tipSize (m .tip)) r x₂
 front-put l m tip h a b = recast (then a b) (split-front l m tip h) (omega arith) refl
 
 pub front-enc : (l : Limits) (m : Marks) (tip : Id) (recs : List Rec) → m .count ≡ length recs → frontBytes l m tip ++ encs recC recs ≡ queueC .enc (queueOf l m tip recs)

@@ -20,7 +20,7 @@ use Rattle.queue.specs.Areas.{readArea, readGot, zero?, reads-stands, ar
 use Rattle.queue.specs.Facts.{factsOf, HeadAs}
 use Rattle.queue.specs.Rules.{weight, sum}
 use Rattle.queue.specs.Sums.{SumsAs, countsN}
-use Rattle.queue.specs.Opens.{limits, StoreAs, soundL, sound-list, filledBy, FilledAs, AreaAs, AreaIs}
+use Rattle.queue.specs.Opens.{needMost, limits, StoreAs, soundL, sound-list, filledBy, FilledAs, AreaAs, AreaIs}
 use Rattle.queue.specs.paper.Ids.{rise?}
 use Rattle.queue.specs.paper.Records.{Bytes, Limits, Rec, Queue}
 use Rattle.queue.specs.paper.Lists.{one, all?, map}
@@ -215,7 +215,7 @@ module _ {s : Bytes} {x : Open} {b : Bool} {m : ℕ} (e : b ≡ soundL (limits (
   unfolding filledBy
   filled-over h k = record { is = rw (← e, t, ← n, le-leb m (length s) h, lt-leb (x .next) m k); next = λ t. false-true t }
 
-  pub filled-all : {z : Bool} → m ≤ length s → x .next ≤ m → z ≡ zero? (take (m - x .next) (drop (x .next) s)) → m ≤ 51905024 → FilledAs s x (record { ok = z; next = m })
+  pub filled-all : {z : Bool} → m ≤ length s → x .next ≤ m → z ≡ zero? (take (m - x .next) (drop (x .next) s)) → m ≤ needMost → FilledAs s x (record { ok = z; next = m })
   unfolding filledBy
   filled-all h k z l = record { is = z ∙ rw (← e, t, ← n, le-leb m (length s) h, le-leb (x .next) m k); next = λ _. (n, l) }
 

@@ -21,7 +21,7 @@ use Rattle.queue.specs.ReadLaws.{false-true}
 use Rattle.queue.specs.Splice.{Put, be}
 use Rattle.queue.specs.Sounds.{Before, InRange, sound-of}
 use Rattle.queue.specs.Forms.{queueC}
-use Rattle.queue.specs.Opens.{AreaAs, AreaIs}
+use Rattle.queue.specs.Opens.{needMost, AreaAs, AreaIs}
 use Rattle.queue.specs.Areas.{layout, readArea, stands-reads, reads-stands}
 use Rattle.queue.specs.Checked.{Written, written}
 use Rattle.queue.specs.SelectAs.{Row, rows, Table, ahead?, idAt, RowsAs, chosen, Gathered}
@@ -649,11 +649,11 @@ unfolding parentsFirstOf readOf
 parents-3 s now height out a f = rw (a .bad f)
 
 -- ---- a long area holds what its first part holds
-need-most : (q : Queue) → InRange (q .limits) → need (q .limits) ≤ 51905024
+need-most : (q : Queue) → InRange (q .limits) → need (q .limits) ≤ needMost
 unfolding need
 need-most q g = let h = product (q .limits .P) (q .limits .K) (g .P-high) (g .K-high) in omega (arith, g .B-high, g .T-high, g .K-high, g .P-high)
 
-layout-most : (q : Queue) → length (queueC .enc q) ≤ need (q .limits) → InRange (q .limits) → length (layout q) ≤ 51905024
+layout-most : (q : Queue) → length (queueC .enc q) ≤ need (q .limits) → InRange (q .limits) → length (layout q) ≤ needMost
 unfolding layout
 layout-most q h g =
     let n = need-most q g in
@@ -668,7 +668,7 @@ take-over (suc n) (x ∷ a) b h =
     let e : suc n - suc (length a) ≡ n - length a = omega arith in
     rw e (ap (λ (l : Bytes). x ∷ l) (take-over n a b (le-of-suc-le-suc h)))
 
-pub long-reads : (s : Bytes) (n : ℕ) → 51905024 ≤ n → readArea (take n s) ≡ readArea s
+pub long-reads : (s : Bytes) (n : ℕ) → needMost ≤ n → readArea (take n s) ≡ readArea s
 long-reads s n h = option-cases (readArea s)
     (λ e. option-cases (readArea (take n s)) (λ f. f ∙ sym e) (λ q f.
     let st = reads-stands (take n s) q f in
@@ -680,7 +680,7 @@ long-reads s n h = option-cases (readArea s)
     let w : take n s ≡ layout q ++ take (n - length (layout q)) (st .later) = ap (take n) (st .is) ∙ take-over n (layout q) (st .later) (omega arith) in
     stands-reads (take n s) q (record { sound = st .sound; range = st .range; fits = st .fits; later = take (n - length (layout q)) (st .later); is = w }) ∙ sym e)
 
-pub long-told : (s : Bytes) (n now height : ℕ) (out : Bytes) {w : Written} → 51905024 ≤ n → w ≡ parentsFirstOf (take n s) now height out → w ≡ parentsFirstOf s now height out
+pub long-told : (s : Bytes) (n now height : ℕ) (out : Bytes) {w : Written} → needMost ≤ n → w ≡ parentsFirstOf (take n s) now height out → w ≡ parentsFirstOf s now height out
 unfolding parentsFirstOf readOf
 long-told s n now height out h e = e ∙ rw (long-reads s n h)
 

@@ -21,7 +21,7 @@ use Rattle.queue.specs.ReadLaws.{Turn, turn, false-true, Spans, spans-id
 use Rattle.queue.specs.View.{view}
 use Rattle.queue.specs.Forms.{formC, afterIn, Framed, turn-in}
 use Rattle.queue.specs.Areas.{readArea}
-use Rattle.queue.specs.Facts.{factsOf, optNum, SeenAs}
+use Rattle.queue.specs.Facts.{termsAt, factsOf, optNum, SeenAs}
 use Rattle.queue.specs.Rules.{dueF, weight, sum}
 use Rattle.queue.specs.Opens.{AreaAs, AreaIs}
 use Rattle.queue.specs.Ids.{part}
@@ -362,12 +362,12 @@ module _ {s : Bytes} {base m : ℕ} {ok : Bool} {y : Seen} {r : Rec} (h : base �
   unfolding front-of
   front-size = let p = rec-parts r (x .1 .fine) in rw length-append (omega (arith, p .id))
 
-  from-id : drop 1 (view false s base) ≡ front-of r ++ drop 35 (view false s base)
+  from-id : drop 1 (view false s base) ≡ front-of r ++ drop termsAt (view false s base)
   from-id =
       let v = view false s base in
       let e : v ≡ 2 ∷ (front-of r ++ (rest-of r ++ drop m v)) = recC .bwd v r (drop m v) (x .1 .here) .0 ∙ ap (λ (b : Bytes). b ++ drop m v) (rec-plain r) ∙ rec-front r (drop m v) in
       let a : drop 1 v ≡ front-of r ++ (rest-of r ++ drop m v) = ap (drop 1) e in
-      let b : drop 35 v ≡ rest-of r ++ drop m v = sym (drop-drop 34 1 v) ∙ ap (drop 34) a ∙ drop-at (front-of r) (rest-of r ++ drop m v) 34 front-size in
+      let b : drop termsAt v ≡ rest-of r ++ drop m v = sym (drop-drop 34 1 v) ∙ ap (drop 34) a ∙ drop-at (front-of r) (rest-of r ++ drop m v) 34 front-size in
       a ∙ ap (λ (b : Bytes). front-of r ++ b) (sym b)
 
   -- the id stands behind the kind
@@ -382,7 +382,7 @@ module _ {s : Bytes} {base m : ℕ} {ok : Bool} {y : Seen} {r : Rec} (h : base �
   unfolding view front-of
   id-state-here =
       let p = rec-parts r (x .1 .fine) in
-      let e : drop 1 (drop base s) ≡ (r .id ++ codec.be 1 (r .state)) ++ (codec.be 1 (r .reason) ++ drop 35 (drop base s)) = from-id ∙ group (r .id) (codec.be 1 (r .state)) (codec.be 1 (r .reason)) (drop 35 (drop base s)) in
+      let e : drop 1 (drop base s) ≡ (r .id ++ codec.be 1 (r .state)) ++ (codec.be 1 (r .reason) ++ drop termsAt (drop base s)) = from-id ∙ group (r .id) (codec.be 1 (r .state)) (codec.be 1 (r .reason)) (drop termsAt (drop base s)) in
       let l : length (r .id ++ codec.be 1 (r .state)) ≡ 33 = rw length-append (omega (arith, p .id)) in
       ap (take 33) (sym (drop-drop 1 base s) ∙ e) ∙ take-at (r .id ++ codec.be 1 (r .state)) _ 33 l
     where
@@ -422,7 +422,7 @@ module _ {s : Bytes} {base m : ℕ} {ok : Bool} {y : Seen} {r : Rec} (h : base �
       let v = view false s base in
       let l : length v ≡ length s - base = ap length view-is ∙ length-drop base s in
       let p = rec-parts r (x .1 .fine) in
-      let a = between v (termsC .enc (r .terms)) 35 (y .after) (w .terms) (w .up) (omega (arith, w .upPlace, w .upBody, w .end)) .1 in
+      let a = between v (termsC .enc (r .terms)) termsAt (y .after) (w .terms) (w .up) (omega (arith, w .upPlace, w .upBody, w .end)) .1 in
       let b = between v (placeC .enc (r .place)) (y .after) (y .mark) (w .place) (w .upPlace) (omega (arith, w .upBody, w .end)) .1 in
       let c : labelLen (r .terms .label) < 256 = rw (ap (λ f. f .label) (w .facts)) at (w .small .label) in
       let d = termsC .fits (r .terms) (p .terms) in

@@ -22,7 +22,7 @@ use Rattle.queue.specs.Reads.{Reads, whole, listAt}
 use Rattle.queue.specs.ReadLaws as readlaws
 use Rattle.queue.specs.ReadLaws.{Turn, beAt, be-here, none-left}
 use Rattle.queue.specs.Forms.{formC, turn-in}
-use Rattle.queue.specs.Facts.{factsOf, SeenAs}
+use Rattle.queue.specs.Facts.{termsAt, factsOf, SeenAs}
 use Rattle.queue.specs.Plain.{place-plain, rec-plain}
 use Rattle.queue.specs.Arguments.{Small}
 use Rattle.queue.specs.Reopens.{leadBytes, PartsIn}
@@ -214,7 +214,7 @@ module _ (s : Bytes) (base : ℕ) (x : Seen) (n : ℕ) where
 pub next-long : (s : Bytes) (base : ℕ) (x : Seen) (t : Bytes) (v : Verdict) (n : ℕ) → PartsIn s base x → (v .what ≡ 1 → v .at + 68 ≤ length t) → length (nextBytes s base x t v n) ≡ nextLen x v n
 unfolding nextBytes leadBytes
 next-long s base x t v n p w =
-    let a = length-take-le (x .after - 35) (drop (base + 35) s) (omega (arith, length-drop (base + 35) s, p .upPlace, p .upBody, p .within)) in
+    let a = length-take-le (x .after - termsAt) (drop (base + termsAt) s) (omega (arith, length-drop (base + termsAt) s, p .upPlace, p .upBody, p .within)) in
     let b = place-long s base x t v p w in
     let c = tail-long s base x n p in
     let d = length-be 1 (stateN (v .what) n (x .facts)) in let e = length-be 1 (reasonN (v .what) n (x .facts)) in let f = length-be 1 (markN (v .what) (x .facts)) in
@@ -364,7 +364,7 @@ module _ (s : Bytes) (base : ℕ) (x : Seen) (t : Bytes) (v : Verdict) (n : ℕ)
   n-id : x .id ≡ N .id
   n-id = w .0 .id ∙ sym (num-id n (maybe r (λ y. y) (asTouched t v r)) ∙ to-id t v r)
 
-  n-terms : take (x .after - 35) (drop (base + 35) s) ≡ termsBytes (N .terms)
+  n-terms : take (x .after - termsAt) (drop (base + termsAt) s) ≡ termsBytes (N .terms)
   n-terms = terms-part s base (w .0) ∙ ap termsBytes (sym (num-terms n (maybe r (λ y. y) (asTouched t v r)) ∙ to-terms t v r))
 
   n-tail : n < 256 ^ 8 → tailN s base x n ≡ codec.be 8 (N .finish) ++ flagged heldBytes (N .body)

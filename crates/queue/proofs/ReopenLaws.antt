@@ -25,10 +25,10 @@ use Rattle.queue.specs.Bound.{fits-need}
 use Rattle.queue.specs.Sounds.{Fit, fit-sound, fit-ok}
 use Rattle.queue.specs.Keeps.{Kept, Leaves, leaves-kept, reopen-leaves}
 use Rattle.queue.specs.Plain.{terms-plain, body-plain, rec-plain, ids-plain}
-use Rattle.queue.specs.Facts.{factsOf, SeenAs}
+use Rattle.queue.specs.Facts.{termsAt, factsOf, SeenAs}
 use Rattle.queue.specs.Opens.{limits, AreaAs, AreaIs}
 use Rattle.queue.specs.Arguments.{Small, items-ok, ids-ok}
-use Rattle.queue.specs.Fronts.{tipOf, tipSize, frontBytes, queueOf}
+use Rattle.queue.specs.Fronts.{frontLen, tipOf, tipSize, frontBytes, queueOf}
 use Rattle.queue.specs.Writes.{TipIs}
 use Rattle.queue.specs.CallsAs.{AreaIn}
 use Rattle.queue.specs.Reopens.{IdsIn, idsAt, listedS, again, againQ, stateF, reasonF, leadBytes, reopenedBytes, reopenedLen, againBytes, PartsIn, AgainFrom, AgainTo, ReopenTold}
@@ -209,9 +209,9 @@ unfolding recBytes reopened placeBytes
 shape r = refl
 
 module _ (s : Bytes) (base : ℕ) {x : Seen} {r : Rec} (w : SeenAs (view false s base) x r) where
-  pub terms-part : take (x .after - 35) (drop (base + 35) s) ≡ termsBytes (r .terms)
+  pub terms-part : take (x .after - termsAt) (drop (base + termsAt) s) ≡ termsBytes (r .terms)
   unfolding view
-  terms-part = ap (take (x .after - 35)) (sym (drop-drop 35 base s)) ∙ between (drop base s) (termsC .enc (r .terms)) 35 (x .after) (w .terms) (w .up) (omega (arith, w .upPlace, w .upBody, w .end)) .0 ∙ terms-plain (r .terms)
+  terms-part = ap (take (x .after - termsAt)) (sym (drop-drop termsAt base s)) ∙ between (drop base s) (termsC .enc (r .terms)) termsAt (x .after) (w .terms) (w .up) (omega (arith, w .upPlace, w .upBody, w .end)) .0 ∙ terms-plain (r .terms)
 
   one-byte : length (beC 1 .enc (r .mark)) ≡ 1
   unfolding beC
@@ -265,7 +265,7 @@ again-is ids s i {x} {r} {ok} {hit} e w = pick hit (listed? ids r) (reopenedByte
 pub reopened-long : (s : Bytes) (base : ℕ) (x : Seen) → PartsIn s base x → length (reopenedBytes s base x) ≡ reopenedLen x
 unfolding reopenedBytes leadBytes
 reopened-long s base x p =
-    let a = length-take-le (x .after - 35) (drop (base + 35) s) (omega (arith, length-drop (base + 35) s, p .upPlace, p .upBody, p .within)) in
+    let a = length-take-le (x .after - termsAt) (drop (base + termsAt) s) (omega (arith, length-drop (base + termsAt) s, p .upPlace, p .upBody, p .within)) in
     let b = length-take-le (x .size - (x .mark + 1)) (drop (base + (x .mark + 1)) s) (omega (arith, length-drop (base + (x .mark + 1)) s, p .upBody, p .within)) in
     let c = length-be 1 (stateF (x .facts)) in let d = length-be 1 (reasonF (x .facts)) in let e = length-be 2 0 in
     simp length-append (omega (arith, p .id, p .up))
@@ -346,13 +346,13 @@ module _ {s : Bytes} {a : Area} {ids : List Id} (w : AgainFrom s a ids) where
     opened-fits : length (queueC .enc (queueOf Lims marksNow tip recsNow)) ≤ need Lims
     opened-fits = let u = ap (λ v. length (queueC .enc v)) opened-is in let v = ap need (the-limits (w .read)) in let y = w .fits in omega arith
 
-    pub opened-room : 45 + tipSize (a .open .head .tip) + length (encs recC recsNow) ≤ a .need
+    pub opened-room : frontLen + tipSize (a .open .head .tip) + length (encs recC recsNow) ≤ a .need
     opened-room =
         let q = queue-long Lims marksNow tip recsNow many l in
         let v = ap need (the-limits (w .read)) in let y = opened-fits in omega (arith, w .read .need)
 
-    pub opened-done : {d d₁ d₂ d₃ : Bytes} {o y y′ to : ℕ} {q′ : Queue} → readArea s ≡ some q′ → a .need ≤ length d → to ≡ 45 + tipSize (a .open .head .tip)
-        → Put d to (encs recC recsNow) (length (encs recC recsNow)) o d₁ → Put d₁ 0 (frontBytes Lims marksNow tip) (45 + tipSize (a .open .head .tip)) y d₂ → Put d₂ o (replicate (a .need - o) 0) (a .need - o) y′ d₃
+    pub opened-done : {d d₁ d₂ d₃ : Bytes} {o y y′ to : ℕ} {q′ : Queue} → readArea s ≡ some q′ → a .need ≤ length d → to ≡ frontLen + tipSize (a .open .head .tip)
+        → Put d to (encs recC recsNow) (length (encs recC recsNow)) o d₁ → Put d₁ 0 (frontBytes Lims marksNow tip) (frontLen + tipSize (a .open .head .tip)) y d₂ → Put d₂ o (replicate (a .need - o) 0) (a .need - o) y′ d₃
         → d₃ ≡ over (areaBytes (againQ ids q′)) d
     opened-done {d} e g h p1 p2 p3 =
         area-done Lims marksNow tip recsNow many opened-fits (w .read .need ∙ ap need (the-limits (w .read))) g p1 (recast p2 refl (sym h) refl) p3

@@ -25,7 +25,7 @@ use Rattle.queue.specs.Areas.{readArea}
 use Rattle.queue.specs.Facts.{HeadAs}
 use Rattle.queue.specs.Opens.{limits, StoreAs, AreaAs}
 use Rattle.queue.specs.Sounds.{Fit, fit-of, Right}
-use Rattle.queue.specs.Fronts.{tipOf, tipSize, headWith, Small, frontBytes, queueOf}
+use Rattle.queue.specs.Fronts.{frontLen, tipOf, tipSize, headWith, Small, frontBytes, queueOf}
 use Rattle.queue.specs.Finishing.{picked, fateOf, stepL, one?, walkL, Floors, above}
 use Rattle.queue.specs.Rules.{sum}
 use Rattle.queue.specs.Writes.{HeadIn, TipIs, MovedFrom, ended, EndedFrom}
@@ -141,7 +141,7 @@ limits-long l =
     let b = be-length 4 (l .P) in let c = be-length 4 (l .B) in let d = be-length 4 (l .T) in let e = be-length 4 (l .K) in
     ap length (limits-enc (l .P) (l .B) (l .T) (l .K)) ∙ simp length-append (omega arith)
 
-front-long : (l : Limits) (m : Marks) (tip : Id) → length tip ≡ 32 → length (frontBytes l m tip) ≡ 45 + tipSize (m .tip)
+front-long : (l : Limits) (m : Marks) (tip : Id) → length tip ≡ 32 → length (frontBytes l m tip) ≡ frontLen + tipSize (m .tip)
 unfolding frontBytes
 front-long l m tip h =
     let a = be-length 4 (m .persisted .0) in let b = limits-long l in
@@ -150,7 +150,7 @@ front-long l m tip h =
     ∙ sizes (codec.be 4 (m .persisted .0)) (1 ∷ []) (limitsC .enc l) (codec.be 8 (m .revision)) (codec.be 4 (m .cursor .0)) (optC idC .enc (tipOf (m .tip) tip)) (codec.be 8 (m .counter .0)) (codec.be 4 (m .count))
     ∙ omega arith
 
-pub queue-long : (l : Limits) (m : Marks) (tip : Id) (recs : List Rec) → m .count ≡ length recs → length tip ≡ 32 → length (queueC .enc (queueOf l m tip recs)) ≡ 45 + tipSize (m .tip) + length (encs recC recs)
+pub queue-long : (l : Limits) (m : Marks) (tip : Id) (recs : List Rec) → m .count ≡ length recs → length tip ≡ 32 → length (queueC .enc (queueOf l m tip recs)) ≡ frontLen + tipSize (m .tip) + length (encs recC recs)
 queue-long l m tip recs e h = ap length (sym (front-enc l m tip recs e)) ∙ length-append (frontBytes l m tip) (encs recC recs) ∙ ap (λ k. k + length (encs recC recs)) (front-long l m tip h)
 
 -- ---- another cursor
@@ -175,16 +175,16 @@ module _ {s : Bytes} {a : Area} {q : Queue} (w : AreaAs s a q) (persisted cursor
   moved-small h k = record { persisted = h; revision = w .store .head .revisionSmall; cursor = k; counter = w .store .head .counterSmall; count = w .store .head .countSmall }
 
   -- room for the records behind the front
-  pub moved-room : length tip ≡ 32 → length (queueC .enc (moved (persisted .0) (cursor .0) (tipOf has tip) q)) ≤ need (q .limits) → 45 + tipSize has + (a .open .next - a .open .start) ≤ a .need
+  pub moved-room : length tip ≡ 32 → length (queueC .enc (moved (persisted .0) (cursor .0) (tipOf has tip) q)) ≤ need (q .limits) → frontLen + tipSize has + (a .open .next - a .open .start) ≤ a .need
   moved-room h f =
       let l = queue-long (limits (a .open .head .p) (a .open .head .b) (a .open .head .t) (a .open .head .k)) marksFor tip (q .recs) (sym (w .store .count)) h in
       let e = ap (λ y. length (queueC .enc y)) moved-is in
       let r = recs-here w .1 in omega (arith, w .need)
 
   pub moved-done : {d d₁ d₂ d₃ : Bytes} {o r r′ to : ℕ} {q′ : Queue} → readArea s ≡ some q → readArea s ≡ some q′ → length (queueC .enc (moved (persisted .0) (cursor .0) (tipOf has tip) q)) ≤ need (q .limits) → a .need ≤ length d
-      → to ≡ 45 + tipSize has
+      → to ≡ frontLen + tipSize has
       → Put d to (take (a .open .next - a .open .start) (drop (a .open .start) s)) (a .open .next - a .open .start) o d₁
-      → Put d₁ 0 (frontBytes (limits (a .open .head .p) (a .open .head .b) (a .open .head .t) (a .open .head .k)) marksFor tip) (45 + tipSize has) r d₂ → Put d₂ o (replicate (a .need - o) 0) (a .need - o) r′ d₃
+      → Put d₁ 0 (frontBytes (limits (a .open .head .p) (a .open .head .b) (a .open .head .t) (a .open .head .k)) marksFor tip) (frontLen + tipSize has) r d₂ → Put d₂ o (replicate (a .need - o) 0) (a .need - o) r′ d₃
       → d₃ ≡ over (areaBytes (moved (persisted .0) (cursor .0) (tipOf has tip) q′)) d
   moved-done {d} {d₁} {d₂} {d₃} {o} {r} {r′} {to} e1 e2 f g t x y z =
       let L = limits (a .open .head .p) (a .open .head .b) (a .open .head .t) (a .open .head .k) in
@@ -251,13 +251,13 @@ module _ {s : Bytes} {a : Area} {c : Change} {id : Id} {state reason m : ℕ} (w
     fits′ : length (queueC .enc (queueOf Limit marksNext tip (walk f))) ≤ need Limit
     fits′ = let u = ap (λ v. length (queueC .enc v)) ended-is in let v = ap need (the-limits (w .read)) in let y = w .fits in omega arith
 
-    pub ended-room : 45 + tipSize (a .open .head .tip) + length (encs recC (walk f)) ≤ a .need
+    pub ended-room : frontLen + tipSize (a .open .head .tip) + length (encs recC (walk f)) ≤ a .need
     ended-room =
         let q = queue-long Limit marksNext tip (walk f) n l in
         let v = ap need (the-limits (w .read)) in let y = fits′ in omega (arith, w .read .need)
 
-    pub ended-done : {d d₁ d₂ d₃ : Bytes} {o y y′ to : ℕ} {q′ : Queue} → readArea s ≡ some q′ → a .need ≤ length d → to ≡ 45 + tipSize (a .open .head .tip)
-        → Put d to (encs recC (walk f)) (length (encs recC (walk f))) o d₁ → Put d₁ 0 (frontBytes Limit marksNext tip) (45 + tipSize (a .open .head .tip)) y d₂ → Put d₂ o (replicate (a .need - o) 0) (a .need - o) y′ d₃
+    pub ended-done : {d d₁ d₂ d₃ : Bytes} {o y y′ to : ℕ} {q′ : Queue} → readArea s ≡ some q′ → a .need ≤ length d → to ≡ frontLen + tipSize (a .open .head .tip)
+        → Put d to (encs recC (walk f)) (length (encs recC (walk f))) o d₁ → Put d₁ 0 (frontBytes Limit marksNext tip) (frontLen + tipSize (a .open .head .tip)) y d₂ → Put d₂ o (replicate (a .need - o) 0) (a .need - o) y′ d₃
         → d₃ ≡ over (areaBytes (ended (picked c id) state reason q′)) d
     ended-done {d} e g h p1 p2 p3 =
         area-done Limit marksNext tip (walk f) n fits′ (w .read .need ∙ ap need (the-limits (w .read))) g p1 (recast p2 refl (sym h) refl) p3

@@ -11,7 +11,7 @@ use Rattle.queue.specs.View.{view}
 use Rattle.queue.specs.Reads.{whole, listAt}
 use Rattle.queue.specs.Forms.{formC, Framed}
 use Rattle.queue.specs.Areas.{readArea}
-use Rattle.queue.specs.Facts.{SeenAs}
+use Rattle.queue.specs.Facts.{termsAt, SeenAs}
 use Rattle.queue.specs.Opens.{AreaAs}
 use Rattle.queue.specs.Finishing.{picked}
 use Rattle.queue.specs.ReadingAs.{Here}
@@ -27,7 +27,7 @@ use Rattle.queue.specs.declared.finish.Change.{Change}
 
 -- the entry of a record once it is finished, as it is written
 unfoldable pub endBytes : Bytes → ℕ → Seen → ℕ → ℕ → Bytes
-endBytes s base x state reason = (((x .id ++ (state ∷ [])) ++ (reason ∷ [])) ++ take (x .mark - 35) (drop (base + 35) s)) ++ be 2 0
+endBytes s base x state reason = (((x .id ++ (state ∷ [])) ++ (reason ∷ [])) ++ take (x .mark - termsAt) (drop (base + termsAt) s)) ++ be 2 0
 
 abbrev pub idIf : Bool → Id → Bytes
 idIf hit id = cond hit id []

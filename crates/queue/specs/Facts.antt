@@ -130,6 +130,10 @@ pub record RestAs (v : Bytes) (at : ℕ) (x : RestR) (t : Option (ℕ × Id) × 
 
 -- ---- a record
 
+-- where its terms start: behind its kind, id, state and reason
+abbrev pub termsAt : ℕ
+termsAt = 35
+
 pub record Bounded (f : Facts) : Type 0 where
   pub state : f .state < 256
   pub reason : f .reason < 256
@@ -151,11 +155,11 @@ pub record SeenAs (v : Bytes) (x : Seen) (r : Rec) : Type 0 where
   pub id : x .id ≡ r .id
   pub facts : x .facts ≡ factsOf r
   pub small : Bounded (x .facts)
-  pub terms : drop 35 v ≡ termsC .enc (r .terms) ++ drop (x .after) v
+  pub terms : drop termsAt v ≡ termsC .enc (r .terms) ++ drop (x .after) v
   pub place : drop (x .after) v ≡ placeC .enc (r .place) ++ drop (x .mark) v
   pub marks : drop (x .mark) v ≡ beC 1 .enc (r .mark) ++ (beC 8 .enc (r .finish) ++ drop (x .body) v)
   pub body : drop (x .body) v ≡ bodyC .enc (r .body) ++ drop (x .size) v
-  pub up : 35 ≤ x .after
+  pub up : termsAt ≤ x .after
   pub upPlace : x .after ≤ x .mark
   pub bodyAt : x .body ≡ x .mark + 9
   pub upBody : x .mark + 10 ≤ x .size

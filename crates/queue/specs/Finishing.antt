@@ -8,7 +8,7 @@ use lib.Dec.{ltb, leb, eqb}
 use lib.ListN.{length, take, drop}
 use Rattle.queue.specs.Splice.{be}
 use Rattle.queue.specs.Codec.{All}
-use Rattle.queue.specs.Facts.{factsOf}
+use Rattle.queue.specs.Facts.{termsAt, factsOf}
 use Rattle.queue.specs.Rules.{dueF, aboveF}
 use Rattle.queue.specs.paper.Records.{Bytes, Id, Rec}
 use Rattle.queue.specs.paper.Lists.{count}
@@ -57,7 +57,7 @@ walkL p state reason floor num (r ∷ l) =
 -- the bytes of a finished record, and of what becomes of a record
 unfoldable pub finBytes : Bytes → ℕ → Seen → ℕ → ℕ → ℕ → Bytes
 finBytes s base x state reason n =
-    ((((((2 ∷ []) ++ x .id) ++ (state ∷ [])) ++ (reason ∷ [])) ++ take (x .mark + 1 - 35) (drop (base + 35) s)) ++ be 8 n) ++ (0 ∷ [])
+    ((((((2 ∷ []) ++ x .id) ++ (state ∷ [])) ++ (reason ∷ [])) ++ take (x .mark + 1 - termsAt) (drop (base + termsAt) s)) ++ be 8 n) ++ (0 ∷ [])
 
 unfoldable pub stepBytes : Bytes → ℕ → Seen → Fate → Bytes
 stepBytes s base x Drop = []

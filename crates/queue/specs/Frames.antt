@@ -5,13 +5,13 @@ use mathlib.Core.Option.{Option, none, some}
 use mathlib.Core.List.{List, [], _∷_, _++_}
 use Prim.Native.Nat.{ℕ, zero, suc, _+_, _*_, _^_, _≤_, _<_}
 use native.Mathlib.Omega.{arith}
-use lib.Dec.{ltb, leb, eqb}
+use lib.Dec.{ltb, eqb}
 use borrow.Author.Tests.{lt-ltb, ltb-true, eqb-true, eq-eqb}
 use Rattle.queue.specs.Codec.{Got, fail, got, _>>=_, no-got, if-got, Codec, byteC, beC, pairC, mapC, optC, vecC, countedC}
 use Rattle.queue.specs.Choice.{pickC, guardC}
 use Rattle.queue.specs.Lists.{and-true}
 use Rattle.queue.specs.paper.Records.{Bytes, Id, Limits, Terms, Held, Rec}
-use Rattle.queue.specs.paper.Kinds.{newest}
+use Rattle.queue.specs.paper.Kinds.{newest, hasMark3}
 
 -- one byte that says what stands behind it
 module _ (n : ℕ) where
@@ -92,7 +92,7 @@ recTuple r = (tt, (r .id, (r .state, (r .reason, (r .terms, (r .place, (r .mark,
 
 -- every mark since kind 03, before it all but 3
 abbrev pub markC : ℕ → Codec ℕ
-markC k = pickC (leb 3 k) (beC 1) (guardC (λ m. not (eqb m 3)) (beC 1))
+markC k = pickC (hasMark3 k) (beC 1) (guardC (λ m. not (eqb m 3)) (beC 1))
 
 -- what stands behind the terms: mined place, withdrawn mark, finish number, holder
 abbrev pub restK : ℕ → Codec (Option (ℕ × Id) × (ℕ × (ℕ × Option Held)))

@@ -10,6 +10,10 @@ use Rattle.queue.specs.paper.Records.{Bytes, Id, Limits, Rec, Queue}
 use Rattle.queue.specs.paper.Kinds.{newest}
 use Rattle.queue.specs.declared.head.Marks.{Marks}
 
+-- the persisted height 4, the header without its tip 41
+abbrev pub frontLen : ℕ
+frontLen = 45
+
 abbrev pub tipOf : Bool → Id → Option Id
 tipOf has id = cond has (some id) none
 

@@ -4,7 +4,7 @@ use mathlib.Core.Bool.{Bool, true, false, not, _&&_, _||_}
 use mathlib.Core.List.{List, [], _∷_, _++_}
 use Prim.Native.Nat.{ℕ, _<_}
 use native.Mathlib.Omega.{arith}
-use lib.Dec.{leb, eqb}
+use lib.Dec.{eqb}
 use borrow.Author.Tests.{eqb-true}
 use Rattle.queue.specs.Codec.{All, Codec, beC, pairC, mapC, optC}
 use Rattle.queue.specs.Choice.{pickC, guardC}
@@ -12,7 +12,7 @@ use Rattle.queue.specs.Frames.{Head, tagC, idC, limitsC, markC, recK, he
 use Rattle.queue.specs.Lists.{and-true, and-both}
 use Rattle.queue.specs.paper.Records.{Bytes, Rec, Queue}
 use Rattle.queue.specs.paper.Lists.{all?}
-use Rattle.queue.specs.paper.Kinds.{newest, kind?, markSaid?, says?}
+use Rattle.queue.specs.paper.Kinds.{newest, kind?, hasMark3, markSaid?, says?}
 
 -- ---- the withdrawn mark; since: whether the kind has mark 3
 abbrev marks : Bool → Codec ℕ
@@ -39,10 +39,10 @@ marks-down true m s h = h
 marks-down false m s h = (h, s)
 
 pub mark-up : (k m : ℕ) → markC k .ok m → beC 1 .ok m
-mark-up k m h = marks-up (leb 3 k) m h
+mark-up k m h = marks-up (hasMark3 k) m h
 
 pub mark-enc : (k m : ℕ) → markC k .enc m ≡ beC 1 .enc m
-mark-enc k m = marks-enc (leb 3 k) m
+mark-enc k m = marks-enc (hasMark3 k) m
 
 -- ---- a record
 pub rec-enc : (k : ℕ) (r : Rec) → recK k .enc r ≡ recC .enc r
@@ -51,15 +51,15 @@ rec-enc k r = rw (mark-enc k (r .mark))
 
 pub rec-up : (k : ℕ) (r : Rec) → recK k .ok r → recC .ok r
 unfolding recK mapC pairC
-rec-up k r h = (h .0, (h .1 .0, (h .1 .1 .0, (h .1 .1 .1 .0, (h .1 .1 .1 .1 .0, (h .1 .1 .1 .1 .1 .0, (marks-up (leb 3 k) (r .mark) (h .1 .1 .1 .1 .1 .1 .0), h .1 .1 .1 .1 .1 .1 .1)))))))
+rec-up k r h = (h .0, (h .1 .0, (h .1 .1 .0, (h .1 .1 .1 .0, (h .1 .1 .1 .1 .0, (h .1 .1 .1 .1 .1 .0, (marks-up (hasMark3 k) (r .mark) (h .1 .1 .1 .1 .1 .1 .0), h .1 .1 .1 .1 .1 .1 .1)))))))
 
 pub rec-said : (k : ℕ) (r : Rec) → recK k .ok r → markSaid? k (r .mark) ≡ true
 unfolding recK mapC pairC
-rec-said k r h = marks-said (leb 3 k) (r .mark) (h .1 .1 .1 .1 .1 .1 .0)
+rec-said k r h = marks-said (hasMark3 k) (r .mark) (h .1 .1 .1 .1 .1 .1 .0)
 
 pub rec-down : (k : ℕ) (r : Rec) → markSaid? k (r .mark) ≡ true → recC .ok r → recK k .ok r
 unfolding recK mapC pairC
-rec-down k r s h = (h .0, (h .1 .0, (h .1 .1 .0, (h .1 .1 .1 .0, (h .1 .1 .1 .1 .0, (h .1 .1 .1 .1 .1 .0, (marks-down (leb 3 k) (r .mark) s (h .1 .1 .1 .1 .1 .1 .0), h .1 .1 .1 .1 .1 .1 .1)))))))
+rec-down k r s h = (h .0, (h .1 .0, (h .1 .1 .0, (h .1 .1 .1 .0, (h .1 .1 .1 .1 .0, (h .1 .1 .1 .1 .1 .0, (marks-down (hasMark3 k) (r .mark) s (h .1 .1 .1 .1 .1 .1 .0), h .1 .1 .1 .1 .1 .1 .1)))))))
 
 -- ---- records
 pub recs-up : (k : ℕ) (l : List Rec) → All (recK k .ok) l → All (recC .ok) l

@@ -23,6 +23,10 @@ use Rattle.queue.specs.declared.area.Open.{Open}
 use Rattle.queue.specs.declared.area.Area.{Area}
 use Rattle.queue.specs.declared.scan.Span.{Span}
 
+-- what the highest limits need
+abbrev pub needMost : ℕ
+needMost = 51905024
+
 abbrev pub limits : ℕ → ℕ → ℕ → ℕ → Limits
 limits p b t k = record { P = p; B = b; T = t; K = k }
 
@@ -54,14 +58,14 @@ filledBy s from m counter l = soundL m counter l && (leb (need m) (length s) && 
 
 pub record FilledAs (s : Bytes) (x : Open) (r : Span) : Type 0 where
   pub is : r .ok ≡ filledBy s (x .next) (limits (x .head .p) (x .head .b) (x .head .t) (x .head .k)) (x .head .counter .0) (listAt (formC false recC) (x .head .count) s (x .start))
-  pub next : r .ok ≡ true → (r .next ≡ need (limits (x .head .p) (x .head .b) (x .head .t) (x .head .k))) × (r .next ≤ 51905024)
+  pub next : r .ok ≡ true → (r .next ≡ need (limits (x .head .p) (x .head .b) (x .head .t) (x .head .k))) × (r .next ≤ needMost)
 
 -- x was read from the area s, which holds q
 pub record AreaAs (s : Bytes) (x : Area) (q : Queue) : Type 0 where
   pub persisted : q .persisted ≡ x .persisted .0
   pub store : StoreAs areaForm s 4 (x .open) (storeOf q)
   pub need : x .need ≡ need (q .limits)
-  pub small : x .need ≤ 51905024
+  pub small : x .need ≤ needMost
   pub fits : x .open .next ≤ x .need
   pub long : x .need ≤ length s
   pub sound : sound? q ≡ true

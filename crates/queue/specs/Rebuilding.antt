@@ -5,6 +5,7 @@ use mathlib.Core.List.{List, [], _∷_, _++_}
 use Prim.Native.Nat.{ℕ, _+_, _-_, _<_}
 use lib.Dec.{leb, eqb}
 use lib.ListN.{length, take, drop, getD}
+use Rattle.queue.specs.Facts.{termsAt}
 use Rattle.queue.specs.Splice.{be}
 use Rattle.queue.specs.Frames.{recC}
 use Rattle.queue.specs.Reads.{listAt}
@@ -58,7 +59,7 @@ tailLen x n = cond (eqb n 0) (x .size - (x .mark + 1)) 9
 
 unfoldable pub nextBytes : Bytes → ℕ → Seen → Bytes → Verdict → ℕ → Bytes
 nextBytes s base x t v n =
-    (((leadBytes (x .id) (stateN (v .what) n (x .facts)) (reasonN (v .what) n (x .facts)) ++ take (x .after - 35) (drop (base + 35) s)) ++ placeN s base x t v)
+    (((leadBytes (x .id) (stateN (v .what) n (x .facts)) (reasonN (v .what) n (x .facts)) ++ take (x .after - termsAt) (drop (base + termsAt) s)) ++ placeN s base x t v)
     ++ be 1 (markN (v .what) (x .facts))) ++ tailN s base x n
 
 abbrev pub nextLen : Seen → Verdict → ℕ → ℕ

@@ -6,6 +6,7 @@ use mathlib.Core.List.{List, [], _∷_, _++_}
 use Prim.Native.Nat.{ℕ, _+_, _-_, _≤_, _<_}
 use lib.Dec.{eqb}
 use lib.ListN.{length, take, drop}
+use Rattle.queue.specs.Facts.{termsAt}
 use Rattle.queue.specs.Splice.{be}
 use Rattle.queue.specs.Frames.{idC}
 use Rattle.queue.specs.View.{view}
@@ -61,7 +62,7 @@ leadBytes id state reason = (((2 ∷ []) ++ id) ++ be 1 state) ++ be 1 reason
 -- the bytes of a record that was read at base, reopened; and of what becomes of it
 unfoldable pub reopenedBytes : Bytes → ℕ → Seen → Bytes
 reopenedBytes s base x =
-    ((leadBytes (x .id) (stateF (x .facts)) (reasonF (x .facts)) ++ take (x .after - 35) (drop (base + 35) s)) ++ be 2 0)
+    ((leadBytes (x .id) (stateF (x .facts)) (reasonF (x .facts)) ++ take (x .after - termsAt) (drop (base + termsAt) s)) ++ be 2 0)
     ++ take (x .size - (x .mark + 1)) (drop (base + (x .mark + 1)) s)
 
 abbrev pub reopenedLen : Seen → ℕ
@@ -73,7 +74,7 @@ againBytes s base x hit = cond hit (reopenedBytes s base x) (take (x .size) (dro
 -- the parts of a record that was read stand in their order, and in s
 pub record PartsIn (s : Bytes) (base : ℕ) (x : Seen) : Type 0 where
   pub id : length (x .id) ≡ 32
-  pub up : 35 ≤ x .after
+  pub up : termsAt ≤ x .after
   pub upPlace : x .after ≤ x .mark
   pub upBody : x .mark + 10 ≤ x .size
   pub within : base + x .size ≤ length s

@@ -10,6 +10,7 @@ use super::frame::HeadR;
 use super::frame::Height;
 use super::frame::Time;
 use super::frame::rec_at;
+use super::head::FRONT;
 use super::head::Marks;
 use super::head::put_front;
 use super::head::tip_len;
@@ -234,7 +235,7 @@ fn put_with(
     let o = a.open;
     let h = o.head;
     let n = h.counter;
-    let to = 45 + tip_len(has);
+    let to = FRONT + tip_len(has);
     let m = hits(src, o.start, h.count, Change::Named, id);
     let e = put_among(
         src,
@@ -318,6 +319,11 @@ fn label_size(flag: u64, label: &[u8]) -> usize
     if flag == 1 { 2 + label.len() } else { 1 }
 }
 
+// An entry without its terms and inputs: id, state, reason, mined flag, input count. And the terms that are always there.
+const ENTRY: usize = 37;
+
+const FIXED_TERMS: usize = 32;
+
 // How long the entry of the new record is.
 fn entry_new_len(x: Asked, inputs: &[u8], label: &[u8]) -> usize
     requires { ⌜ (x .labelflag ≡ 1 → length (now label) ≤ 200) × (length (now inputs) < 4294967296) ⌝ }
@@ -326,7 +332,7 @@ fn entry_new_len(x: Asked, inputs: &[u8], label: &[u8]) -> usize
     let a = opt_len(x.timeflag, 8);
     let b = opt_len(x.heightflag, 4);
     let c = label_size(x.labelflag, label);
-    37 + (32 + (a + (b + c)) + inputs.len())
+    ENTRY + (FIXED_TERMS + (a + (b + c)) + inputs.len())
 }
 
 // A cursor: its height, and its tip where there is one.

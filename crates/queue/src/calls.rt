@@ -8,6 +8,7 @@ use super::finish::hits;
 use super::finish::picks;
 use super::frame::Height;
 use super::frame::Seen;
+use super::frame::TERMS;
 use super::frame::Time;
 use super::frame::rec_at;
 use super::logic::both;
@@ -28,6 +29,7 @@ ghost use mathlib.Core.Bool.{true, false};
 ghost use mathlib.Core.List.{[]};
 ghost use Prim.Native.Nat.{_+_, _≤_, _<_};
 ghost use lib.ListN.{length};
+ghost use Rattle.queue.specs.Facts.{termsAt};
 ghost use Rattle.queue.specs.Splice.{Put};
 ghost use Rattle.queue.specs.Frames.{recC};
 ghost use Rattle.queue.specs.Reads.{whole, listAt};
@@ -106,7 +108,7 @@ fn settle_shape(kind: u64, outcome: u64) -> bool
 
 // The entry of the record read at base once it is finished: it has no inputs any more.
 fn put_end(src: &[u8], base: usize, x: Seen, state: u8, reason: u8, dst: &mut [u8]) -> usize
-    requires { ⌜ (35 ≤ x .mark) × (base + x .mark ≤ length (now src)) × (x .mark + 1 ≤ length (now dst)) ⌝ }
+    requires { ⌜ (termsAt ≤ x .mark) × (base + x .mark ≤ length (now src)) × (x .mark + 1 ≤ length (now dst)) ⌝ }
     ensures { λ r. ⌜ Put (now (dst .entry)) 0 (endBytes (now (src .entry)) base x state reason) (x .mark + 1) r (now (dst .exit)) ⌝ }
 {
     let id = x.id;
@@ -114,7 +116,7 @@ fn put_end(src: &[u8], base: usize, x: Seen, state: u8, reason: u8, dst: &mut [u
     let a = put_id(dst, 0, id);
     let b = put_u8(dst, a, state);
     let c = put_u8(dst, b, reason);
-    let d = copy_part(src, base + 35, m - 35, dst, c);
+    let d = copy_part(src, base + TERMS, m - TERMS, dst, c);
     put_be(dst, d, 2, 0)
 }
 

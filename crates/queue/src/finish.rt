@@ -4,6 +4,7 @@ use super::frame::Facts;
 use super::frame::Finish;
 use super::frame::Height;
 use super::frame::Seen;
+use super::frame::TERMS;
 use super::frame::Time;
 use super::frame::rec_at;
 use super::logic::both;
@@ -24,6 +25,7 @@ ghost use mathlib.Core.List.{List, [], _∷_, _++_};
 ghost use Prim.Native.Nat.{ℕ, _+_, _-_, _*_, _≤_, _<_};
 ghost use lib.Dec.{leb, ltb};
 ghost use lib.ListN.{length, take, drop};
+ghost use Rattle.queue.specs.Facts.{termsAt};
 ghost use Rattle.queue.specs.Codec.{encs, All};
 ghost use Rattle.queue.specs.Frames.{recC};
 ghost use Rattle.queue.specs.Reads.{whole, listAt};
@@ -94,7 +96,7 @@ fn put_finished(
     dst: &mut [u8],
     at: usize,
 ) -> usize
-    requires { ⌜ (35 ≤ x .mark + 1) × (base + (x .mark + 1) ≤ length (now src)) × (at + (x .mark + 10) ≤ length (now dst)) ⌝ }
+    requires { ⌜ (termsAt ≤ x .mark + 1) × (base + (x .mark + 1) ≤ length (now src)) × (at + (x .mark + 10) ≤ length (now dst)) ⌝ }
     ensures { λ r. ⌜ Put (now (dst .entry)) at (finBytes (now (src .entry)) base x state reason (n .0)) (x .mark + 10) r (now (dst .exit)) ⌝ }
 {
     let id = x.id;
@@ -103,7 +105,7 @@ fn put_finished(
     let b = put_id(dst, a, id);
     let c = put_u8(dst, b, state);
     let d = put_u8(dst, c, reason);
-    let e = copy_part(src, base + 35, m + 1 - 35, dst, d);
+    let e = copy_part(src, base + TERMS, m + 1 - TERMS, dst, d);
     let f = put_be(dst, e, 8, n.0);
     put_u8(dst, f, 0)
 }
@@ -114,7 +116,7 @@ pub struct Done {
 }
 
 fn put_step(src: &[u8], base: usize, x: Seen, fate: Fate, dst: &mut [u8], o: usize) -> Done
-    requires { ⌜ (35 ≤ x .mark + 1) × (x .mark + 10 ≤ x .size) × (base + x .size ≤ length (now src)) × (o + length (stepBytes (now src) base x fate) ≤ length (now dst)) × (length (x .id) ≡ 32) ⌝ }
+    requires { ⌜ (termsAt ≤ x .mark + 1) × (x .mark + 10 ≤ x .size) × (base + x .size ≤ length (now src)) × (o + length (stepBytes (now src) base x fate) ≤ length (now dst)) × (length (x .id) ≡ 32) ⌝ }
     ensures { λ r. ⌜ Put (now (dst .entry)) o (stepBytes (now (src .entry)) base x fate) (length (stepBytes (now (src .entry)) base x fate)) (r .at) (now (dst .exit)) × (r .kept ≡ stepCount fate) × (r .kept ≤ 1) ⌝ }
 {
     match fate {

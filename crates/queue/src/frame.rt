@@ -38,6 +38,9 @@ pub struct Form {
 // The header kind that is written.
 pub const NEWEST: u8 = 3;
 
+// The header kind that brought the withdrawn mark 3.
+const MARK_3: u8 = 3;
+
 // The frames of an area.
 pub const AREA: Form = Form {
     hex: false,
@@ -149,7 +152,10 @@ pub struct Facts {
     pub bytes: u64,
 }
 
-// A record read. Its terms stand at 35..after, its place at after..mark, its withdrawn mark at mark, its holder flag at
+// Where the terms of a record start: behind its kind, id, state and reason.
+pub const TERMS: usize = 35;
+
+// A record read. Its terms stand at TERMS..after, its place at after..mark, its withdrawn mark at mark, its holder flag at
 // body, its inputs at at, its outputs at outs, its signed bytes at content; the frame ends at size.
 pub struct Seen {
     pub ok: bool,
@@ -463,12 +469,12 @@ pub fn body_at(s: &[u8], hex: bool, base: usize, at: usize) -> BodyR
     }
 }
 
-// The withdrawn mark. Mark 3 came with kind 03.
+// The withdrawn mark, if the kind has it.
 fn mark_at(s: &[u8], form: Form, base: usize, at: usize) -> NumR
     ensures { λ r. ⌜ MarkAt (form .kind) (view (form .hex) (now (s .entry)) base) at (r .ok) (r .next) (r .value) ⌝ }
 {
     let m = num(s, form.hex, base, at, 1);
-    let said = either(3 <= form.kind, m.value != 3);
+    let said = either(MARK_3 <= form.kind, m.value != 3);
     let ok = both(m.ok, said);
     NumR {
         ok: ok,

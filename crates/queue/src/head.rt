@@ -12,7 +12,7 @@ ghost use Rattle.queue.specs.Codec.{optC};
 ghost use Rattle.queue.specs.Frames.{idC, limitsC};
 ghost use Rattle.queue.specs.Splice.{Put};
 ghost use Rattle.queue.specs.Opens.{limits};
-ghost use Rattle.queue.specs.Fronts.{tipOf, tipSize, Small, startBytes, marksBytes, frontBytes};
+ghost use Rattle.queue.specs.Fronts.{frontLen, tipOf, tipSize, Small, startBytes, marksBytes, frontBytes};
 
 fn put_limits(p: u64, b: u64, t: u64, k: u64, dst: &mut [u8], at: usize) -> usize
     requires { ⌜ (at + 16 ≤ length (now dst)) × (p < 4294967296) × (b < 4294967296) × (t < 4294967296) × (k < 4294967296) ⌝ }
@@ -73,10 +73,13 @@ fn put_marks(m: Marks, tip: [u8; 32], dst: &mut [u8], at: usize) -> usize
     put_be(dst, c, 4, m.count)
 }
 
+// How long the front is without its tip: the persisted height 4, the header 41.
+pub const FRONT: usize = 45;
+
 // The persisted height and the header, over the start of dst.
 pub fn put_front(p: u64, b: u64, t: u64, k: u64, m: Marks, tip: [u8; 32], dst: &mut [u8]) -> usize
-    requires { ⌜ (45 + tipSize (m .tip) ≤ length (now dst)) × (p < 4294967296) × (b < 4294967296) × (t < 4294967296) × (k < 4294967296) × Small m ⌝ }
-    ensures { λ r. ⌜ Put (now (dst .entry)) 0 (frontBytes (limits p b t k) m tip) (45 + tipSize (m .tip)) r (now (dst .exit)) ⌝ }
+    requires { ⌜ (frontLen + tipSize (m .tip) ≤ length (now dst)) × (p < 4294967296) × (b < 4294967296) × (t < 4294967296) × (k < 4294967296) × Small m ⌝ }
+    ensures { λ r. ⌜ Put (now (dst .entry)) 0 (frontBytes (limits p b t k) m tip) (frontLen + tipSize (m .tip)) r (now (dst .exit)) ⌝ }
 {
     let height = m.persisted;
     let a = put_start(p, b, t, k, height, m.revision, dst);

@@ -11,7 +11,7 @@ ghost use mathlib.Core.Path.{_≡_};
 ghost use mathlib.Core.Bool.{true};
 ghost use Prim.Native.Nat.{_≤_};
 ghost use Rattle.queue.specs.paper.Sound.{inRange, need};
-ghost use Rattle.queue.specs.Opens.{limits};
+ghost use Rattle.queue.specs.Opens.{needMost, limits};
 ghost use Rattle.queue.specs.Checked.{written};
 ghost use Rattle.queue.specs.paper.Calls.{freshOf};
 
@@ -49,7 +49,7 @@ impl Limits {
     // How many bytes an area needs.
     pub fn need(p: u64, b: u64, t: u64, k: u64) -> usize
         requires { ⌜ inRange (limits p b t k) ≡ true ⌝ }
-        ensures { λ r. ⌜ (r ≡ need (limits p b t k)) × (r ≤ 51905024) ⌝ }
+        ensures { λ r. ⌜ (r ≡ need (limits p b t k)) × (r ≤ needMost) ⌝ }
     {
         (2 * b + 2 * p * (512 + 64 * k) + 512 * t + 512) as usize
     }

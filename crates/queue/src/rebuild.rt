@@ -3,6 +3,7 @@ use super::finish::Done;
 use super::frame::Facts;
 use super::frame::Finish;
 use super::frame::Seen;
+use super::frame::TERMS;
 use super::frame::rec_at;
 use super::logic::both;
 use super::logic::either;
@@ -218,7 +219,7 @@ fn put_next(
         dst,
         at,
     );
-    let b = copy_part(src, base + 35, p - 35, dst, a);
+    let b = copy_part(src, base + TERMS, p - TERMS, dst, a);
     let c = put_place(src, base, x, t, v, dst, b);
     let d = put_be(dst, c, 1, mark_next(v.what, f));
     put_tail(src, base, x, n, dst, d)

@@ -6,6 +6,7 @@ use super::area::area_at;
 use super::finish::floor;
 use super::frame::Finish;
 use super::frame::Height;
+use super::head::FRONT;
 use super::head::Marks;
 use super::head::put_front;
 use super::head::tip_len;
@@ -139,7 +140,7 @@ fn put_whole(
     let h = o.head;
     let n = h.counter;
     let g = gone.len() as u64;
-    let to = 45 + tip_len(true);
+    let to = FRONT + tip_len(true);
     let f = floor_for(src, a, g);
     let ordered = order_ranks(src, gone, rows);
     let w = put_all(

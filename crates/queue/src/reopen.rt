@@ -5,8 +5,10 @@ use super::area::Area;
 use super::area::area_at;
 use super::frame::Facts;
 use super::frame::Seen;
+use super::frame::TERMS;
 use super::frame::id_read;
 use super::frame::rec_at;
+use super::head::FRONT;
 use super::head::Marks;
 use super::head::put_front;
 use super::head::tip_len;
@@ -24,6 +26,7 @@ ghost use mathlib.Core.Bool.{true, false};
 ghost use mathlib.Core.List.{[]};
 ghost use Prim.Native.Nat.{_+_, _≤_};
 ghost use lib.ListN.{length};
+ghost use Rattle.queue.specs.Facts.{termsAt};
 ghost use Rattle.queue.specs.Codec.{encs};
 ghost use Rattle.queue.specs.Splice.{Put};
 ghost use Rattle.queue.specs.Frames.{recC};
@@ -145,8 +148,8 @@ fn reason_again(f: Facts) -> u64
 
 // A record's bytes up to its terms.
 pub fn put_lead(id: [u8; 32], state: u64, reason: u64, dst: &mut [u8], at: usize) -> usize
-    requires { ⌜ at + 35 ≤ length (now dst) ⌝ }
-    ensures { λ r. ⌜ Put (now (dst .entry)) at (leadBytes id state reason) 35 r (now (dst .exit)) ⌝ }
+    requires { ⌜ at + termsAt ≤ length (now dst) ⌝ }
+    ensures { λ r. ⌜ Put (now (dst .entry)) at (leadBytes id state reason) termsAt r (now (dst .exit)) ⌝ }
 {
     let a = put_u8(dst, at, 2);
     let b = put_id(dst, a, id);
@@ -164,7 +167,7 @@ fn put_reopened(src: &[u8], base: usize, x: Seen, dst: &mut [u8], at: usize) -> 
     let p = x.after;
     let m = x.mark + 1;
     let a = put_lead(id, state_again(f), reason_again(f), dst, at);
-    let b = copy_part(src, base + 35, p - 35, dst, a);
+    let b = copy_part(src, base + TERMS, p - TERMS, dst, a);
     let c = put_be(dst, b, 2, 0);
     copy_part(src, base + m, x.size - m, dst, c)
 }
@@ -216,7 +219,7 @@ fn put_opened(src: &[u8], a: Area, ids: &[u8], k: u64, dst: &mut [u8])
     let n = h.counter;
     let cursor = h.cursor;
     let tip = tip_at(src, h);
-    let to = 45 + tip_len(h.tip);
+    let to = FRONT + tip_len(h.tip);
     let e = put_records(src, x.start, h.count, ids, k, dst, to);
     let marks = Marks {
         persisted: cursor,

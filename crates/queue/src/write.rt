@@ -6,6 +6,7 @@ use super::finish::rewrite;
 use super::frame::Finish;
 use super::frame::HeadR;
 use super::frame::Height;
+use super::head::FRONT;
 use super::head::Marks;
 use super::head::put_front;
 use super::head::tip_len;
@@ -56,7 +57,7 @@ pub fn put_moved(
     let x = a.open;
     let h = x.head;
     let n = h.counter;
-    let to = 45 + tip_len(has);
+    let to = FRONT + tip_len(has);
     let start = x.start;
     let e = copy_part(src, start, x.next - start, dst, to);
     let m = Marks {
@@ -105,7 +106,7 @@ pub fn put_ended(
     let n = h.counter;
     let cursor = h.cursor;
     let tip = tip_at(src, h);
-    let to = 45 + tip_len(h.tip);
+    let to = FRONT + tip_len(h.tip);
     let f = floor_of(src, a, m);
     let w = rewrite(
         src,

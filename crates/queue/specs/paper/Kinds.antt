@@ -1,4 +1,4 @@
--- Document 02, P4: the header kinds of an image, and what each can say.
+-- Document 02, P4: the header kinds of an image, and what each of them can say. A kind can say all that the kinds before it can.
 use mathlib.Core.Bool.{Bool, not, _||_}
 use Prim.Native.Nat.{ℕ}
 use lib.Dec.{leb, eqb}
@@ -13,9 +13,13 @@ newest = 3
 abbrev pub kind? : ℕ → Bool
 kind? k = eqb k 1 || eqb k 3
 
--- 03 brought the withdrawn mark 3; "mark 3 under kind 01 is 16"
+-- 03 brought the withdrawn mark 3
+abbrev pub hasMark3 : ℕ → Bool
+hasMark3 k = leb 3 k
+
+-- "mark 3 under kind 01 is 16"
 abbrev pub markSaid? : ℕ → ℕ → Bool
-markSaid? k mark = leb 3 k || not (eqb mark 3)
+markSaid? k mark = hasMark3 k || not (eqb mark 3)
 
 -- what a kind can say of a queue
 unfoldable pub says? : ℕ → Queue → Bool
