@@ -159,6 +159,8 @@ impl Lent {
         timed!("settle", raw::settle(area, next, 2, 0));
         timed!("image", raw::image(area, out, &mut 0));
         timed!("open", raw::open(&self.image, next));
+        let older = [b"01", &self.image[2..]].concat();
+        timed!("open, an image of kind 01", raw::open(&older, next));
         let [p, b, t, k, need] = &mut [0; 5];
         let image = &self.image;
         timed!("image_limits", raw::image_limits(image, p, b, t, k, need));

@@ -20,8 +20,8 @@ use model::calls::ReconcileArgs;
 use model::random::nth_id;
 use model::rules::{reserved_inputs, Admission};
 use model::{
-    area, image, Confirmation, FinishNumber, Height, Holder, Id, Limits, Queue, Reason, Record,
-    State, TimeMs, Withdrawn,
+    area, image, Confirmation, FinishNumber, HeaderKind, Height, Holder, Id, Limits, Queue, Reason,
+    Record, State, TimeMs, Withdrawn,
 };
 use pokerbox::raw;
 use reference::private_queue::inspect::{self, WholeStore};
@@ -460,6 +460,15 @@ impl<'a> Bench<'a> {
                 || {
                     raw::open(&self.image, &mut self.next).expect("opened");
                 },
+            )),
+        });
+        let older = image::encode_as(HeaderKind::K01, &self.queue);
+        rows.push(Row {
+            work: "open, an image of kind 01".into(),
+            oracle: None,
+            library: Some(time(
+                || (),
+                || raw::open(&older, &mut self.next).expect("opened"),
             )),
         });
         rows

@@ -16,6 +16,22 @@ pub struct Counts {
     pub cuts_between_calls: u64,
     pub withdrawn: Withdrawn,
     pub parents: Parents,
+    pub marks: Marks,
+    /// Texts and areas with other kinds and marks, by what was lent, its kind and the number given back.
+    kinds: BTreeMap<(&'static str, u8), BTreeMap<u64, u64>>,
+}
+
+/// Records that were confirmed with reason 3 (document 02, P4).
+#[derive(Debug, Clone, Copy, Default)]
+pub struct Marks {
+    /// After which the reason of some record is left out.
+    pub events: u64,
+    /// Given mark 3.
+    pub confirmed: u64,
+    /// Back from mark 3.
+    pub rolled_back: u64,
+    /// Those that were released in the same list.
+    pub released: u64,
 }
 
 /// Selections that were compared parents first (document 02, P7).
@@ -70,6 +86,17 @@ impl Counts {
         *self.fees.entry(number).or_default() += 1;
     }
 
+    pub fn kind(&mut self, lent: &'static str, kind: u8, number: u64) {
+        let numbers = self.kinds.entry((lent, kind)).or_default();
+        *numbers.entry(number).or_default() += 1;
+    }
+
+    /// The numbers that were given back for what was lent in this kind.
+    pub fn met_by_kind(&self, lent: &'static str, kind: u8) -> Vec<u64> {
+        let numbers = self.kinds.get(&(lent, kind));
+        numbers.map_or(Vec::new(), |numbers| numbers.keys().copied().collect())
+    }
+
     /// The numbers that best fees gave back.
     pub fn met_by_fees(&self) -> Vec<u64> {
         self.fees.keys().copied().collect()
@@ -118,6 +145,15 @@ impl fmt::Display for Counts {
             .collect();
         writeln!(f, "  best_fees: {}", fees.join(", "))?;
         writeln!(f, "  {}", self.parents)?;
+        for ((lent, kind), numbers) in &self.kinds {
+            let numbers: Vec<String> = numbers
+                .iter()
+                .map(|(number, count)| format!("{number}: {count}"))
+                .collect();
+            let numbers = numbers.join(", ");
+            writeln!(f, "  {lent} with header kind {kind:02x}: {numbers}")?;
+        }
+        writeln!(f, "  {}", self.marks)?;
         writeln!(f, "  {}", self.withdrawn)
     }
 }
@@ -129,6 +165,17 @@ impl fmt::Display for Parents {
             "selection_parents_first: {} selections; a record waits in {}, one is left off in {}, the \
              order is another in {}",
             self.compared, self.waiting, self.left_off, self.turned
+        )
+    }
+}
+
+impl fmt::Display for Marks {
+    fn fmt(&self, f: &mut fmt::Formatter<'_>) -> fmt::Result {
+        write!(
+            f,
+            "a reason left out after {} events; {} confirmed with reason 3, {} rolled back after that \
+             ({} of them released in the same list)",
+            self.events, self.confirmed, self.rolled_back, self.released
         )
     }
 }

@@ -8,7 +8,10 @@ use std::path::Path;
 use model::calls::{AdmitArgs, ReconcileArgs};
 use model::random::{self, Rng};
 use model::rules::{reserved_inputs, Admission, Reconciliation};
-use model::{area, calls, image, Height, Id, Limits, Queue, Record, State, TimeMs};
+use model::{
+    area, calls, image, Confirmation, HeaderKind, Height, Id, Limits, Queue, Record, State, TimeMs,
+    Withdrawn,
+};
 
 use crate::generate;
 use crate::list::{Call, Event, Start, Write};
@@ -66,6 +69,8 @@ pub struct Fixed {
     pub answers: String,
     met: BTreeMap<(char, u64), u64>,
     writes: BTreeSet<(char, u64, Write)>,
+    /// How often a queue was shown of which a reason is not the oracle's.
+    left_out: u64,
 }
 
 /// Makes both; the oracle has its files in `folder`.
@@ -75,6 +80,7 @@ pub fn make(folder: &Path) -> Result<Fixed, String> {
         let mut rng = Rng::new(seed);
         List::new(&mut fixed, folder, &mut rng)?.run(&mut rng)?;
     }
+    rolled_back_twice(&mut fixed, folder)?;
     refusals(&mut fixed);
     fixed.check()?;
     Ok(fixed)
@@ -147,7 +153,10 @@ impl Fixed {
                 }
             }
         }
-        Ok(())
+        match self.left_out {
+            0 => Err("no record has had mark 3".into()),
+            _ => Ok(()),
+        }
     }
 
     /// How often each step gave each number.
@@ -207,6 +216,15 @@ impl<'a> List<'a> {
         } else {
             generate::any_queue(rng, limits)
         };
+        List::start(fixed, folder, limits, start)
+    }
+
+    fn start(
+        fixed: &'a mut Fixed,
+        folder: &Path,
+        limits: Limits,
+        start: Start,
+    ) -> Result<Self, String> {
         let (own, trial) = (folder.join("own"), folder.join("trial"));
         for folder in [&own, &trial] {
             std::fs::create_dir_all(folder).map_err(|error| error.to_string())?;
@@ -218,20 +236,23 @@ impl<'a> List<'a> {
             trial,
             stored: start != Start::Fresh,
         };
-        list.begin();
+        list.begin(&start);
         Ok(list)
     }
 
-    fn begin(&mut self) {
+    fn begin(&mut self, start: &Start) {
         self.fixed.both(&format!("a list: {}", head(&self.limits)));
-        if self.stored {
-            let queue = self.oracle.queue();
-            self.fixed.area('a', &area::encode(&queue));
-            self.fixed.stored(&image::encode(&queue));
-            self.fixed.call('v', &[], 100, "");
-        } else {
-            self.fixed.step('m', &[]);
-            self.restart();
+        match start {
+            Start::Queue(_, kind) => {
+                let queue = self.oracle.queue();
+                self.fixed.area('a', &area::encode(&queue));
+                self.fixed.stored(&image::encode_as(*kind, &queue));
+                self.fixed.call('v', &[], 100, "");
+            }
+            Start::Fresh => {
+                self.fixed.step('m', &[]);
+                self.restart();
+            }
         }
     }
 
@@ -299,6 +320,7 @@ impl<'a> List<'a> {
 
     /// The queue in the current area.
     fn show(&mut self) {
+        self.fixed.left_out += u64::from(self.oracle.left_out() > 0);
         let queue = self.oracle.queue();
         self.fixed.persisted(&queue);
         self.fixed.image('q', &image::encode(&queue));
@@ -338,7 +360,7 @@ impl<'a> List<'a> {
 
     /// The same call on the same queue by a second oracle, whose write is kept.
     fn given(&self, call: &Call, before: &Queue) -> Result<Given, String> {
-        let start = Start::Queue(Box::new(before.clone()));
+        let start = Start::Queue(Box::new(before.clone()), HeaderKind::NEWEST);
         let mut trial = Oracle::new(&self.trial, self.limits, &start)?;
         let done = trial.call(call, Write::Kept)?;
         let next = trial.queue();
@@ -471,6 +493,75 @@ impl<'a> List<'a> {
             None => self.fixed.call('B', id, 13, " "),
         }
     }
+}
+
+/// Document 02, P4: released, rolled back, confirmed, rolled back. From there on the oracle's reason is
+/// another.
+fn rolled_back_twice(fixed: &mut Fixed, folder: &Path) -> Result<(), String> {
+    let limits = Limits::checked(2, 10, 1, 1).expect("limits in range");
+    let mut list = List::start(fixed, folder, limits, Start::Fresh)?;
+    let mut rng = Rng::new(0);
+    let id = random::nth_id(0);
+    let reopen = || Call::Reopen(BTreeSet::from([id]));
+    for (call, write) in [
+        (Call::Admit(plain(id)), Write::Kept),
+        (found(id, 7, 0), Write::Kept),
+        (reopen(), Write::Kept),
+        (Call::Cancel(id), Write::Kept),
+        (found(id, 8, 9), Write::NotRenamed),
+        (found(id, 8, 9), Write::CutAfterRename),
+        (found(id, 9, 9), Write::Kept),
+        (Call::Cancel(id), Write::Kept),
+        (reopen(), Write::CutBeforeRename),
+        (reopen(), Write::Kept),
+        (Call::Cancel(id), Write::Kept),
+        (found(id, 10, 9), Write::Kept),
+        (reopen(), Write::CutAfterRename),
+        (Call::Admit(plain(id)), Write::Kept),
+    ] {
+        list.call(&mut rng, &call, write)?;
+        list.show();
+        list.reading(&mut rng, 'L', Reading::List);
+        let queue = list.oracle.queue();
+        list.entry(&mut rng, &id, queue.record(&id));
+    }
+    Ok(())
+}
+
+/// An admission with nothing beside the id.
+fn plain(id: Id) -> Admission {
+    Admission {
+        id,
+        inputs: Vec::new(),
+        outputs: Vec::new(),
+        signed: Vec::new(),
+        now: TimeMs(5),
+        time_deadline: None,
+        height_deadline: None,
+        priority: 0,
+        label: None,
+        fee: 1,
+        cost: 1,
+        tip_height: Height(5),
+        tip: None,
+    }
+}
+
+/// The record is in a block at this height.
+fn found(id: Id, height: u32, window: u32) -> Call {
+    let block = random::nth_id(height as usize);
+    let found = Confirmation {
+        height: Height(height),
+        block,
+    };
+    Call::Reconcile(Reconciliation {
+        height: Height(height),
+        tip: block,
+        applied: BTreeMap::from([(id, found)]),
+        caught_up: true,
+        available: BTreeSet::new(),
+        window,
+    })
 }
 
 /// The answer in an output that is as long, or a little longer.
@@ -879,6 +970,7 @@ fn refusals(fixed: &mut Fixed) {
     damaged(&mut lent, &queue, &bytes, &id);
     limits(&mut lent);
     not_images(&mut lent, &queue, &text);
+    kinds(&mut lent);
     top_counter(&mut lent, queue, &id);
 }
 
@@ -1144,6 +1236,53 @@ fn not_images(lent: &mut Lent<'_>, queue: &Queue, text: &[u8]) {
     }
     lent.open(text);
     lent.image('q');
+}
+
+/// A queue whose first record is a Mined tombstone with mark 5, as an image of kind 01 can have.
+fn marked_queue() -> Queue {
+    let limits = Limits::checked(2, 10, 2, 2).expect("limits in range");
+    let queues = (0..).map(|seed| random::queue(&mut Rng::new(seed), limits));
+    let marked = |queue: &Queue| {
+        let first = queue.records.first();
+        let marked = first.is_some_and(|record| record.withdrawn == Withdrawn::Expired);
+        marked && HeaderKind::K01.can_hold(queue)
+    };
+    let mut queues = queues.filter(marked);
+    queues.next().expect("there is no last seed")
+}
+
+fn kinds(lent: &mut Lent<'_>) {
+    let queue = marked_queue();
+    let (bytes, text) = (area::encode(&queue), image::encode(&queue));
+    lent.fixed
+        .both("images of kinds 01 and 03, and of no others");
+    for kind in ["01", "03", "00", "02", "04", "05", "06", "0f"] {
+        lent.open(&[kind.as_bytes(), &text[2..]].concat());
+        lent.image('q');
+    }
+    lent.fixed.both("marks under kinds 01 and 03");
+    let digits = image::mark_place(&queue, 0);
+    for kind in ["01", "03"] {
+        for mark in 0..7 {
+            let mut text = [kind.as_bytes(), &text[2..]].concat();
+            text[digits + 1] = b'0' + mark;
+            lent.open(&text);
+            lent.image('q');
+        }
+    }
+    lent.fixed.both("areas of other kinds, and other marks");
+    for kind in [0, 1, 2, 4, 3] {
+        let mut wrong = bytes.clone();
+        wrong[4] = kind;
+        lent.put('a', &wrong);
+        lent.sound();
+    }
+    for mark in 0..7 {
+        let mut wrong = bytes.clone();
+        wrong[area::mark_place(&queue, 0)] = mark;
+        lent.put('a', &wrong);
+        lent.sound();
+    }
 }
 
 fn top_counter(lent: &mut Lent<'_>, mut queue: Queue, id: &Id) {

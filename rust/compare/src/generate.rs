@@ -5,7 +5,7 @@ use std::collections::{BTreeMap, BTreeSet};
 
 use model::random::{self, Rng};
 use model::rules::{reserved_inputs, Admission, Reconciliation};
-use model::{Confirmation, Height, Id, Limits, Queue, Record, TimeMs};
+use model::{Confirmation, HeaderKind, Height, Id, Limits, Queue, Record, TimeMs};
 
 use crate::list::{Call, Event, List, Look, Start, Write};
 use crate::side::Fees;
@@ -35,7 +35,7 @@ pub fn fees_list(rng: &mut Rng) -> List {
     let queue = random::fees_queue(rng, count);
     List {
         limits: queue.limits,
-        start: Start::Queue(Box::new(queue)),
+        start: Start::Queue(Box::new(queue), HeaderKind::NEWEST),
         events: Vec::new(),
         probe: (random::time(rng), random::height(rng)),
         fees: rng.u64(),
@@ -50,7 +50,7 @@ pub fn parents_list(rng: &mut Rng) -> List {
     let queue = random::parents_queue(rng, count, inputs);
     List {
         limits: queue.limits,
-        start: Start::Queue(Box::new(queue)),
+        start: Start::Queue(Box::new(queue), HeaderKind::NEWEST),
         events: Vec::new(),
         probe: (random::time(rng), random::height(rng)),
         fees: 0,
@@ -69,14 +69,19 @@ pub fn fees(seed: u64, queue: &Queue, (now, height): (TimeMs, Height)) -> [Fees;
     })
 }
 
-/// Any sound queue.
+/// Any sound queue; half of those that can be in an image of kind 01 are stored in one.
 pub(crate) fn any_queue(rng: &mut Rng, limits: Limits) -> Start {
     let mut queue = random::queue(rng, limits);
     // Half of them as after opening.
     if rng.once_in(2) {
         queue.persisted = queue.cursor;
     }
-    Start::Queue(Box::new(queue))
+    // The other draws stay what they are.
+    let kind = match rng.clone().once_in(2) {
+        true if HeaderKind::K01.can_hold(&queue) => HeaderKind::K01,
+        _ => HeaderKind::NEWEST,
+    };
+    Start::Queue(Box::new(queue), kind)
 }
 
 /// Mostly small limits, rarely many records.
@@ -112,7 +117,7 @@ fn call(rng: &mut Rng, queue: &Queue) -> Call {
         8 | 9 => Call::Cancel(record_id(rng, queue)),
         10 | 11 => Call::Expire(random::time(rng), near_height(rng, queue)),
         12..=16 => Call::Reconcile(reconciliation(rng, queue)),
-        17 | 18 => Call::Reopen(some_ids(rng, queue)),
+        17 | 18 => Call::Reopen(rolled_back(rng, queue)),
         _ => Call::SetCursor(near_height(rng, queue), rng.optional(random::block_id)),
     }
 }
@@ -127,6 +132,15 @@ pub(crate) fn record_id(rng: &mut Rng, queue: &Queue) -> Id {
 
 fn some_ids(rng: &mut Rng, queue: &Queue) -> BTreeSet<Id> {
     (0..rng.below(4)).map(|_| record_id(rng, queue)).collect()
+}
+
+/// Some ids, or those of all Mined records, so that records are confirmed and rolled back in turn.
+fn rolled_back(rng: &mut Rng, queue: &Queue) -> BTreeSet<Id> {
+    if rng.once_in(2) {
+        return some_ids(rng, queue);
+    }
+    let mined = queue.records.iter().filter(|record| record.mined.is_some());
+    mined.map(|record| record.id).collect()
 }
 
 /// A height at an edge of what the queue holds, or any.

@@ -7,6 +7,7 @@
 //! - [`unit`]: runs events on areas as a node does.
 //! - [`oracle`]: runs events on the oracle.
 //! - [`withdrawn`]: which ids may not be selected.
+//! - [`marks`]: the one reason in which the two part.
 //! - [`run`]: compares the two after each event.
 //! - [`fixed`]: the fixed list that a Rattle program replays.
 //! - [`shrink`]: makes a list that shows a difference smaller.
@@ -16,6 +17,7 @@ pub mod counts;
 pub mod fixed;
 pub mod generate;
 pub mod list;
+pub mod marks;
 pub mod oracle;
 pub mod run;
 pub mod shrink;

@@ -4,7 +4,7 @@ use std::collections::BTreeSet;
 use std::fmt;
 
 use model::rules::{Admission, Reconciliation};
-use model::{Height, Id, Limits, Queue, TimeMs};
+use model::{HeaderKind, Height, Id, Limits, Queue, TimeMs};
 
 /// A changing call with its arguments.
 #[derive(Debug, Clone, PartialEq, Eq)]
@@ -74,8 +74,8 @@ pub enum Event {
 pub enum Start {
     /// A fresh queue, with nothing stored.
     Fresh,
-    /// Any sound queue, stored as it is.
-    Queue(Box<Queue>),
+    /// Any sound queue, stored as it is, in an image of this kind.
+    Queue(Box<Queue>, HeaderKind),
 }
 
 #[derive(Debug, Clone, PartialEq, Eq)]
@@ -111,7 +111,10 @@ impl fmt::Display for List {
         )?;
         match &self.start {
             Start::Fresh => writeln!(f, "start: fresh, nothing stored")?,
-            Start::Queue(queue) => writeln!(f, "start: {}", Short(queue))?,
+            Start::Queue(queue, kind) => {
+                let kind = *kind as u8;
+                writeln!(f, "start, stored in kind {kind:02x}: {}", Short(queue))?
+            }
         }
         for (at, event) in self.events.iter().enumerate() {
             match event {

@@ -24,6 +24,7 @@ use reference::private_queue::{
 };
 
 use crate::list::{Call, Start, Write};
+use crate::marks::{Marked, Moved};
 use crate::side::Reading;
 
 /// What the oracle made of a call.
@@ -37,14 +38,17 @@ pub struct Done {
     pub wrote: bool,
     /// Power was cut; the queue was opened again.
     pub cut: bool,
+    pub moved: Moved,
 }
 
 /// An answer's bytes, or a refusal's number.
 type Answer = Result<Vec<u8>, u64>;
 
-/// The oracle with its file in a folder of its own.
+/// The oracle with its file in a folder of its own. Its records are shown as they have to be here:
+/// [`crate::marks`].
 pub struct Oracle {
     queue: PrivateTransactionQueue,
+    marked: Marked,
     limits: Limits,
     path: PathBuf,
     /// Its folder is a plain file, so that no second file can be made.
@@ -65,21 +69,23 @@ impl Oracle {
         fs::write(&plain, b"").map_err(|error| error.to_string())?;
         fs::create_dir_all(directory.join("full")).map_err(|error| error.to_string())?;
         let queue = PrivateTransactionQueue::open(&path)?;
-        let oracle = Oracle {
+        let mut oracle = Oracle {
             queue,
+            marked: Marked::default(),
             limits,
             path,
             uncreatable: plain.join("queue.json"),
             unrenamable: directory,
         };
-        if let Start::Queue(queue) = start {
+        if let Start::Queue(queue, _) = start {
             oracle.set(queue)?;
         }
         Ok(oracle)
     }
 
     /// Starts with this queue, stored as it is.
-    fn set(&self, queue: &Queue) -> Result<(), String> {
+    fn set(&mut self, queue: &Queue) -> Result<(), String> {
+        self.marked = Marked::new(queue);
         for record in &queue.records {
             if let Some(holder) = &record.holder {
                 register(&record.id, holder);
@@ -92,12 +98,28 @@ impl Oracle {
     /// Opens what is stored.
     pub fn restart(&mut self) -> Result<(), String> {
         self.queue = PrivateTransactionQueue::open(&self.path)?;
+        self.marked.cut();
         Ok(())
+    }
+
+    /// The oracle's own records.
+    fn records(&self) -> Vec<Record> {
+        let store = inspect::whole_store(&self.queue);
+        store.records.iter().map(record_of).collect()
+    }
+
+    /// How many records there are whose reason is left out.
+    pub fn left_out(&self) -> usize {
+        let records = self.records();
+        let left_out =
+            |record: &&Record| record.state == State::Expired && self.marked.has(&record.id);
+        records.iter().filter(left_out).count()
     }
 
     /// The queue as document 01 has it.
     pub fn queue(&self) -> Queue {
         let store = inspect::whole_store(&self.queue);
+        let records = store.records.iter().map(record_of);
         Queue {
             limits: self.limits,
             persisted: Height(store.persisted_height),
@@ -105,7 +127,7 @@ impl Oracle {
             cursor: Height(store.observed_height),
             tip: store.observed_tip.map(|tip| id_of(&tip)),
             counter: FinishNumber(store.finished_seq),
-            records: store.records.iter().map(record_of).collect(),
+            records: records.map(|record| self.marked.taken(record)).collect(),
         }
     }
 
@@ -121,6 +143,7 @@ impl Oracle {
             Write::NotRenamed => Some(self.unrenamable.clone()),
         };
         let before = self.file();
+        let records = self.records();
         if let Some(path) = &fails {
             inspect::set_path(&mut self.queue, path);
         }
@@ -130,7 +153,9 @@ impl Oracle {
             inspect::set_path(&mut self.queue, &path);
         }
         let failed = answer == Err(17);
-        let wrote = failed || self.file() != before;
+        let stored = self.file() != before;
+        let moved = self.marked.called(&records, &self.records(), stored);
+        let wrote = failed || stored;
         let cut = wrote && matches!(write, Write::CutBeforeRename | Write::CutAfterRename);
         if cut {
             self.restart()?;
@@ -140,6 +165,7 @@ impl Oracle {
             answer: answer.unwrap_or_default(),
             wrote,
             cut,
+            moved,
         })
     }
 
@@ -151,7 +177,7 @@ impl Oracle {
     fn make(&self, call: &Call) -> Answer {
         match call {
             Call::Admit(given) => self.admit(given),
-            Call::Cancel(id) => answer_entry(self.queue.cancel(&hex(id))),
+            Call::Cancel(id) => self.answer_entry(self.queue.cancel(&hex(id))),
             Call::Expire(now, height) => match self.queue.expire(now.0, height.0) {
                 Ok(ids) => Ok(ids_answer(&ids)),
                 Err(_) => Err(17),
@@ -174,7 +200,7 @@ impl Oracle {
 
     fn admit(&self, given: &Admission) -> Answer {
         let before = self.queue.revision();
-        let answer = answer_entry(self.queue.admit_at_tip(
+        let answer = self.answer_entry(self.queue.admit_at_tip(
             &pool_entry(given),
             options_of(given),
             given.now.0,
@@ -243,7 +269,7 @@ impl Oracle {
             Reading::List => {
                 let entries = queue.list();
                 let mut answer = (entries.len() as u32).to_be_bytes().to_vec();
-                answer.extend(entries.iter().flat_map(entry_answer));
+                answer.extend(entries.iter().flat_map(|entry| self.entry_answer(entry)));
                 answer
             }
             Reading::SelectionEntries => selection_answer(&queue.selection_entries()),
@@ -274,8 +300,20 @@ impl Oracle {
 
     pub fn entry(&self, id: &Id) -> Answer {
         match self.queue.entry(&hex(id)) {
-            Some(entry) => Ok(entry_answer(&entry)),
+            Some(entry) => Ok(self.entry_answer(&entry)),
             None => Err(rules::ABSENT),
+        }
+    }
+
+    fn entry_answer(&self, entry: &PrivateTransactionEntry) -> Vec<u8> {
+        entry_bytes(&self.marked.taken(shown_of(entry)))
+    }
+
+    fn answer_entry(&self, answer: Result<PrivateTransactionEntry, PrivateQueueError>) -> Answer {
+        match answer {
+            Ok(entry) => Ok(self.entry_answer(&entry)),
+            Err(PrivateQueueError::Storage(_)) => Err(17),
+            Err(PrivateQueueError::Rejected(reason)) => Err(refusal_of(&reason)),
         }
     }
 }
@@ -349,14 +387,6 @@ fn cursor_answer((height, tip): (u32, Option<String>)) -> Vec<u8> {
 
 fn rising(ids: impl IntoIterator<Item = Id>) -> BTreeSet<Id> {
     ids.into_iter().collect()
-}
-
-fn answer_entry(answer: Result<PrivateTransactionEntry, PrivateQueueError>) -> Answer {
-    match answer {
-        Ok(entry) => Ok(entry_answer(&entry)),
-        Err(PrivateQueueError::Storage(_)) => Err(17),
-        Err(PrivateQueueError::Rejected(reason)) => Err(refusal_of(&reason)),
-    }
 }
 
 fn refusal_of(reason: &str) -> u64 {
@@ -461,10 +491,6 @@ fn shown_of(entry: &PrivateTransactionEntry) -> Record {
     }
 }
 
-fn entry_answer(entry: &PrivateTransactionEntry) -> Vec<u8> {
-    entry_bytes(&shown_of(entry))
-}
-
 fn record_of(whole: &WholeRecord) -> Record {
     assert_eq!(whole.key, whole.entry.tx_id);
     let shown = shown_of(&whole.entry);
@@ -534,7 +560,9 @@ fn whole_record(record: &Record) -> WholeRecord {
         withdrawn: match record.withdrawn {
             Withdrawn::No => None,
             Withdrawn::Cancelled => Some(PrivateTransactionState::Cancelled),
-            Withdrawn::Expired => Some(PrivateTransactionState::Expired),
+            Withdrawn::Expired | Withdrawn::RolledBackAfterRelease => {
+                Some(PrivateTransactionState::Expired)
+            }
         },
         finished_seq: record.finish.0,
     }

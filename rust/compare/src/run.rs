@@ -5,7 +5,7 @@ use std::fmt;
 use std::path::Path;
 
 use model::random::Rng;
-use model::{calls, image, Height, Id, Limits, Queue, Record, TimeMs};
+use model::{area, calls, image, Height, Id, Limits, Queue, Record, TimeMs};
 
 use crate::counts::Counts;
 use crate::generate;
@@ -41,6 +41,8 @@ pub struct Pair<'a, S: Side> {
     unit: Unit<'a, S>,
     oracle: Oracle,
     withdrawn: Histories,
+    /// The ids that were released.
+    released: BTreeSet<Id>,
     look: Look,
     probe: (TimeMs, Height),
     fees: u64,
@@ -71,6 +73,7 @@ impl<'a, S: Side> Pair<'a, S> {
                 unit,
                 oracle,
                 withdrawn: Histories::default(),
+                released: BTreeSet::new(),
                 look: list.look,
                 probe: list.probe,
                 fees: list.fees,
@@ -144,6 +147,7 @@ impl<'a, S: Side> Pair<'a, S> {
             return Ok(Made::Outside(done.number, model_number(call, &before)));
         }
         let oracle = self.oracle.call(call, write)?;
+        self.count_marks(call, &oracle, counts);
         if matches!(done.kind, Some(2 | 3)) {
             let history = &mut self.withdrawn.unit;
             history.written(call, &done.out, write)?;
@@ -156,6 +160,19 @@ impl<'a, S: Side> Pair<'a, S> {
             counts.withdrawn.kind_0 += u64::from(self.withdrawn.oracle.has(&given.id));
         }
         Ok(Made::Call(done, oracle))
+    }
+
+    fn count_marks(&mut self, call: &Call, done: &oracle::Done, counts: &mut Counts) {
+        if matches!(call, Call::Reconcile(_)) {
+            let ids = done.answer.get(1..).and_then(ids_of);
+            self.released.extend(ids.unwrap_or_default());
+        }
+        let rolled_back = &done.moved.rolled_back;
+        let released = |id: &&Id| self.released.contains(*id);
+        let counts = &mut counts.marks;
+        counts.confirmed += done.moved.confirmed.len() as u64;
+        counts.rolled_back += rolled_back.len() as u64;
+        counts.released += rolled_back.iter().filter(released).count() as u64;
     }
 
     fn count_moved(&self, moved: &Moved, write: Write, counts: &mut Counts) {
@@ -288,7 +305,9 @@ impl<'a, S: Side> Pair<'a, S> {
         let queue = self.unit.queue().map_err(|fault| self.fault(fault))?;
         self.same("the queue", &queue, &self.oracle.queue())?;
         self.same("transactions not found", Oracle::failed(), 0)?;
+        counts.marks.events += u64::from(self.oracle.left_out() > 0);
         self.readings(&queue, counts)?;
+        self.kinds(&queue, counts)?;
         self.fees(&queue, counts)?;
         self.parents(&queue, counts)?;
         self.stored(&queue, counts)
@@ -329,6 +348,46 @@ impl<'a, S: Side> Pair<'a, S> {
             self.same("the answer of image_limits", answer, (number, numbers))?;
             counts.reading("image_limits");
         }
+        Ok(())
+    }
+
+    /// Texts and areas with other header kinds and other marks, which the oracle has not, are judged by
+    /// the model: after each event one kind, and with it a mark of one record.
+    fn kinds(&self, queue: &Queue, counts: &mut Counts) -> Result<(), Difference> {
+        let kind = KINDS[self.at % KINDS.len()];
+        let mark = MARKS[self.at % MARKS.len()];
+        let (mut bytes, mut text) = (self.unit.area().to_vec(), image::encode(queue));
+        bytes[4] = kind;
+        put_digits(&mut text, 0, kind);
+        self.judged(kind, &bytes, &text, counts)?;
+        if queue.records.is_empty() {
+            return Ok(());
+        }
+        let n = self.at % queue.records.len();
+        bytes[area::mark_place(queue, n)] = mark;
+        put_digits(&mut text, image::mark_place(queue, n), mark);
+        self.judged(kind, &bytes, &text, counts)
+    }
+
+    fn judged(
+        &self,
+        kind: u8,
+        area: &[u8],
+        text: &[u8],
+        counts: &mut Counts,
+    ) -> Result<(), Difference> {
+        let number = self.unit.soundness(area);
+        self.same("the answer of sound", number, Model.sound(area))?;
+        counts.kind("areas", kind, number);
+        let (number, opened) = self.unit.opened(text);
+        let mut expected = self.unit.to_open();
+        self.same(
+            "the answer of open",
+            number,
+            Model.open(text, &mut expected),
+        )?;
+        self.same("the opened area", opened, expected)?;
+        counts.kind("texts", kind, number);
         Ok(())
     }
 
@@ -465,6 +524,15 @@ impl<'a, S: Side> Pair<'a, S> {
             false => Err("its fee is not the sum"),
         }
     }
+}
+
+/// Header kinds, mostly those that there are.
+const KINDS: [u8; 7] = [1, 3, 1, 3, 0, 2, 4];
+/// Withdrawn marks, and two numbers that are none.
+const MARKS: [u8; 6] = [3, 5, 4, 0, 1, 2];
+
+fn put_digits(text: &mut [u8], at: usize, byte: u8) {
+    text[at..at + 2].copy_from_slice(format!("{byte:02x}").as_bytes());
 }
 
 /// The number that the model gives for best fees, and the answer's bytes.

@@ -2,6 +2,8 @@
 
 use std::path::Path;
 
+use model::HeaderKind;
+
 use crate::list::{Call, Event, List, Start, Write};
 use crate::run::{run_list, Difference};
 use crate::side::Side;
@@ -51,14 +53,17 @@ fn without(list: &List, from: usize, to: usize) -> List {
 }
 
 fn smaller_starts(list: &List) -> Vec<List> {
-    let Start::Queue(queue) = &list.start else {
+    let Start::Queue(queue, kind) = &list.start else {
         return Vec::new();
     };
     let mut starts = vec![Start::Fresh];
+    if *kind != HeaderKind::NEWEST {
+        starts.push(Start::Queue(queue.clone(), HeaderKind::NEWEST));
+    }
     for at in 0..queue.records.len() {
         let mut queue = queue.clone();
         queue.records.remove(at);
-        starts.push(Start::Queue(queue));
+        starts.push(Start::Queue(queue, *kind));
     }
     for at in 0..queue.records.len() {
         for outputs in [false, true] {
@@ -71,7 +76,7 @@ fn smaller_starts(list: &List) -> Vec<List> {
                 false => &mut holder.inputs,
             };
             if ids.pop().is_some() {
-                starts.push(Start::Queue(queue));
+                starts.push(Start::Queue(queue, *kind));
             }
         }
     }

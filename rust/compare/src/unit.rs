@@ -51,12 +51,12 @@ impl<'s, S: Side> Unit<'s, S> {
         };
         match start {
             Start::Fresh => unit.restart()?,
-            Start::Queue(queue) => {
+            Start::Queue(queue, kind) => {
                 unit.current = lent(limits.need());
                 unit.next = lent(limits.need());
                 let bytes = area::encode(queue);
                 unit.current[..bytes.len()].copy_from_slice(&bytes);
-                unit.stored = Some(image::encode(queue));
+                unit.stored = Some(image::encode_as(*kind, queue));
             }
         }
         Ok(unit)
@@ -74,6 +74,22 @@ impl<'s, S: Side> Unit<'s, S> {
             }
         };
         expect(call, number, 100)
+    }
+
+    /// The number that opening this text gives back, and the area as it is then.
+    pub fn opened(&self, text: &[u8]) -> (u64, Vec<u8>) {
+        let mut area = self.to_open();
+        (self.side.open(text, &mut area), area)
+    }
+
+    /// An area to write, before the call.
+    pub fn to_open(&self) -> Vec<u8> {
+        lent(self.need)
+    }
+
+    /// The number for bytes lent as an area.
+    pub fn soundness(&self, area: &[u8]) -> u64 {
+        self.side.sound(area)
     }
 
     pub fn area(&self) -> &[u8] {

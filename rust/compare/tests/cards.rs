@@ -1,5 +1,5 @@
 //! Document 01's bench cards, the points that it leaves to the Rust, and examples for document 02's
-//! P1, each run on the model and the oracle, with what is expected written out.
+//! P1 and P4, each run on the model and the oracle, with what is expected written out.
 
 mod common;
 
@@ -11,7 +11,9 @@ use compare::list::{Call, Event, List, Look, Start, Write};
 use compare::run::Pair;
 use compare::side::Model;
 use model::rules::{Admission, Reconciliation};
-use model::{Confirmation, Height, Id, Limits, Queue, Reason, State, TimeMs, Withdrawn};
+use model::{
+    Confirmation, HeaderKind, Height, Id, Limits, Queue, Reason, State, TimeMs, Withdrawn,
+};
 
 const A: Id = [0x0a; 32];
 const B: Id = [0x0b; 32];
@@ -31,7 +33,9 @@ impl Cards {
         let [p, b, t, k] = limits;
         let list = List {
             limits: Limits::checked(p, b, t, k).unwrap(),
-            start: start.map_or(Start::Fresh, |queue| Start::Queue(Box::new(queue))),
+            start: start.map_or(Start::Fresh, |queue| {
+                Start::Queue(Box::new(queue), HeaderKind::NEWEST)
+            }),
             events: Vec::new(),
             probe: (TimeMs(0), Height(0)),
             fees: 0,
@@ -224,6 +228,97 @@ fn released_reopened_is_expired() {
         (State::Expired, Reason::RolledBackAfterRelease)
     );
     assert_eq!(cards.call(reopen(A)), "kind 0");
+}
+
+/// Whether the oracle shows another reason of some record.
+fn left_out(cards: &Cards) -> bool {
+    cards.counts.marks.events == 1
+}
+
+/// Document 02, P4, and the one reason that the comparison leaves out.
+#[test]
+fn released_reopened_confirmed_reopened_keeps_its_reason() {
+    let mut cards = Cards::new("reason-3", [2, 10, 1, 1], None);
+    let expired = (State::Expired, Reason::RolledBackAfterRelease);
+    cards.call(admit(A, 1, 6));
+    cards.call(reconcile(2, &[(A, 2, T1)], 0));
+    cards.call(reopen(A));
+    assert_eq!(cards.state(A), expired);
+    assert!(!left_out(&cards), "the oracle has reason 3, too");
+    assert_eq!(cards.call(reconcile(3, &[(A, 3, T1)], 9)), "kind 2");
+    // Confirmed at another place it keeps its mark.
+    assert_eq!(cards.call(reconcile(4, &[(A, 4, T2)], 9)), "kind 2");
+    let mark = cards.queue().record(&A).unwrap().withdrawn;
+    assert_eq!(mark, Withdrawn::RolledBackAfterRelease);
+    cards.call(reopen(A));
+    assert_eq!(cards.state(A), expired);
+    assert!(left_out(&cards));
+    assert_eq!(cards.counts.marks.released, 1);
+    // The answer of a cancellation has it.
+    assert_eq!(cards.call(Call::Cancel(A)), "kind 0");
+    assert!(left_out(&cards));
+    assert_eq!(cards.call(admit(A, 1, 6)), "kind 2");
+    assert!(!left_out(&cards), "an admission ends it");
+}
+
+/// Released, and rolled back.
+fn expired_with_reason_3(name: &str) -> Cards {
+    let mut cards = Cards::new(name, [2, 10, 1, 1], None);
+    cards.call(admit(A, 1, 6));
+    cards.call(reconcile(2, &[(A, 2, T1)], 0));
+    cards.call(reopen(A));
+    cards
+}
+
+/// Mark 3 counts once its image is in place, and so does the admission that ends it.
+#[test]
+fn a_reason_is_left_out_by_what_is_stored() {
+    for (write, kept) in [
+        (Write::Kept, true),
+        (Write::NotCreated, false),
+        (Write::NotRenamed, false),
+        (Write::CutBeforeRename, false),
+        (Write::CutAfterRename, true),
+    ] {
+        let mut cards = expired_with_reason_3("reason-3-mark");
+        cards.with_write(reconcile(3, &[(A, 3, T1)], 9), write);
+        cards.cut();
+        let kind = cards.call(reopen(A));
+        assert_eq!(kind == "kind 2", kept, "{}", write.name());
+        assert_eq!(left_out(&cards), kept, "{}", write.name());
+        drop(cards);
+
+        let mut cards = expired_with_reason_3("reason-3-admission");
+        cards.call(reconcile(3, &[(A, 3, T1)], 9));
+        cards.call(reopen(A));
+        cards.with_write(admit(A, 1, 6), write);
+        assert_eq!(left_out(&cards), !kept, "{}", write.name());
+        cards.cut();
+        cards.call(Call::SetCursor(Height(9), None));
+        assert_eq!(left_out(&cards), !kept, "{}, then a cut", write.name());
+    }
+}
+
+/// An Expired record with reason 3 that a list begins with is not left out, one with mark 3 is.
+#[test]
+fn reasons_and_marks_that_a_list_begins_with() {
+    let limits = Limits::checked(2, 10, 2, 1).unwrap();
+    let mut cards = Cards::new("reason-3-made", limits.numbers(), None);
+    for (id, input) in [(A, 1), (B, 2)] {
+        cards.call(admit(id, input, 1));
+    }
+    cards.call(reconcile(2, &[(A, 2, T1), (B, 2, T1)], 0));
+    cards.call(Call::Reopen(BTreeSet::from([A, B])));
+    cards.call(reconcile(3, &[(A, 3, T1)], 9));
+    let start = cards.queue();
+    drop(cards);
+    let mut cards = Cards::new("reason-3-start", limits.numbers(), Some(start));
+    cards.call(Call::SetCursor(Height(3), None));
+    assert!(!left_out(&cards), "B has reason 3 on both");
+    cards.cut();
+    cards.call(reopen(A));
+    assert!(left_out(&cards), "A had mark 3");
+    assert_eq!(cards.state(A), cards.state(B));
 }
 
 #[test]

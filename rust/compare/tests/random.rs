@@ -11,7 +11,7 @@ use compare::run::{self, Difference, Found};
 use compare::shrink::shrink;
 use compare::side::{Fees, Library, Model, Reading, Side};
 use model::calls::{self, AdmitArgs, ReconcileArgs};
-use model::{FinishNumber, Holder, Reason, Record, State};
+use model::{FinishNumber, Holder, Queue, Reason, Record, State, Withdrawn};
 
 /// Runs the random lists of these seeds; the first one that shows a difference.
 fn lists<S: Side>(
@@ -58,6 +58,26 @@ fn the_model_answers_as_the_oracle() {
         }
     }
     assert_eq!(counts.met_by_fees(), [4, 5, 21, 100]);
+    marks_were_met(&counts);
+}
+
+/// The reason that is left out was there often enough, and so were other kinds and marks.
+fn marks_were_met(counts: &Counts) {
+    let met = counts.marks;
+    assert!(met.events > 100, "{met}");
+    assert!(met.confirmed >= met.rolled_back, "{met}");
+    assert!(met.rolled_back > met.released, "{met}");
+    assert!(met.released > 5, "{met}");
+    for (kind, texts, areas) in [
+        (1, &[16, 100][..], &[3][..]),
+        (3, &[16, 100], &[3, 100]),
+        (0, &[16], &[3]),
+        (2, &[16], &[3]),
+        (4, &[16], &[3]),
+    ] {
+        assert_eq!(counts.met_by_kind("texts", kind), texts, "{kind}");
+        assert_eq!(counts.met_by_kind("areas", kind), areas, "{kind}");
+    }
 }
 
 #[test]
@@ -84,8 +104,10 @@ fn the_library_answers_as_the_oracle() {
     ] {
         assert!(count > 0, "{met}");
     }
+    marks_were_met(&counts);
 }
 
+type Reconcile = fn(&[u8], &mut [u8], &ReconcileArgs<'_>, &mut [u8]) -> u64;
 type BestFees = fn(&[u8], &Fees, &mut [u8]) -> u64;
 type ParentsFirst = fn(&[u8], u64, u32, &mut [u8]) -> u64;
 
@@ -93,6 +115,9 @@ type ParentsFirst = fn(&[u8], u64, u32, &mut [u8]) -> u64;
 struct Faulty {
     settle: fn(&[u8], &mut [u8], u64, u64) -> u64,
     cancel: fn(&[u8], &mut [u8], &[u8], &mut [u8]) -> u64,
+    reconcile: Reconcile,
+    reopen: fn(&[u8], &mut [u8], &[u8]) -> u64,
+    sound: fn(&[u8]) -> u64,
     open: fn(&[u8], &mut [u8]) -> u64,
     need: fn([u64; 4], &mut u64) -> u64,
     image_limits: fn(&[u8], &mut [u64; 5]) -> u64,
@@ -104,6 +129,9 @@ struct Faulty {
 const RIGHT: Faulty = Faulty {
     settle: calls::settle,
     cancel: calls::cancel,
+    reconcile: calls::reconcile,
+    reopen: calls::reopen,
+    sound: calls::sound,
     open: calls::open,
     need: |limits, value| Model.need(limits, value),
     image_limits: |text, numbers| Model.image_limits(text, numbers),
@@ -132,11 +160,11 @@ impl Side for Faulty {
         args: &ReconcileArgs<'_>,
         out: &mut [u8],
     ) -> u64 {
-        Model.reconcile(cur, next, args, out)
+        (self.reconcile)(cur, next, args, out)
     }
 
     fn reopen(&self, cur: &[u8], next: &mut [u8], ids: &[u8]) -> u64 {
-        Model.reopen(cur, next, ids)
+        (self.reopen)(cur, next, ids)
     }
 
     fn set_cursor(&self, cur: &[u8], next: &mut [u8], height: u32, flag: u8, tip: &[u8]) -> u64 {
@@ -168,7 +196,7 @@ impl Side for Faulty {
     }
 
     fn sound(&self, area: &[u8]) -> u64 {
-        Model.sound(area)
+        (self.sound)(area)
     }
 
     fn entry(&self, area: &[u8], id: &[u8], out: &mut [u8]) -> u64 {
@@ -482,6 +510,181 @@ fn a_wrong_order_is_noticed() {
     assert!(found.side.contains("it is not whole"), "{list}{found}");
 }
 
+/// The area with other records, where it is a sound one.
+fn with_records(area: &mut [u8], change: impl Fn(&mut Record)) {
+    let Some(mut queue) = model::area::decode(area) else {
+        return;
+    };
+    queue.records.iter_mut().for_each(change);
+    put(area, &queue);
+}
+
+fn put(area: &mut [u8], queue: &Queue) {
+    let bytes = model::area::encode(queue);
+    area[..bytes.len()].copy_from_slice(&bytes);
+}
+
+/// The marks that this reconciliation gave, changed from one to the other.
+fn with_marks(
+    cur: &[u8],
+    next: &mut [u8],
+    args: &ReconcileArgs<'_>,
+    out: &mut [u8],
+    (from, to): (Withdrawn, Withdrawn),
+) -> u64 {
+    let number = calls::reconcile(cur, next, args, out);
+    let before = model::area::decode(cur).expect("a sound area");
+    if number == 102 {
+        with_records(next, |record| {
+            let marked = before.record(&record.id).map(|old| old.withdrawn);
+            if record.withdrawn == from && marked == Some(Withdrawn::No) {
+                record.withdrawn = to;
+            }
+        });
+    }
+    number
+}
+
+const MARK_3: Withdrawn = Withdrawn::RolledBackAfterRelease;
+
+#[test]
+fn a_wrong_mark_or_reason_is_noticed() {
+    let sides: [(Faulty, &str, &str); 4] = [
+        (
+            // As before the request, and as the oracle has it.
+            Faulty {
+                reconcile: |cur, next, args, out| {
+                    with_marks(cur, next, args, out, (MARK_3, Withdrawn::Expired))
+                },
+                ..RIGHT
+            },
+            "marks-5-for-3",
+            "the stored image",
+        ),
+        (
+            Faulty {
+                reconcile: |cur, next, args, out| {
+                    with_marks(cur, next, args, out, (Withdrawn::Expired, MARK_3))
+                },
+                ..RIGHT
+            },
+            "marks-3-for-5",
+            "the stored image",
+        ),
+        (
+            // The oracle's reason.
+            Faulty {
+                reopen: |cur, next, ids| {
+                    let number = calls::reopen(cur, next, ids);
+                    let before = model::area::decode(cur).expect("a sound area");
+                    if number == 102 {
+                        with_records(next, |record| {
+                            let old = before.record(&record.id).map(|old| old.withdrawn);
+                            if old == Some(MARK_3) && record.state == State::Expired {
+                                record.reason = Reason::DeadlineElapsed;
+                            }
+                        });
+                    }
+                    number
+                },
+                ..RIGHT
+            },
+            "restores-reason-2",
+            "the stored image",
+        ),
+        (
+            // The same in the list's answer alone, of every Expired record.
+            Faulty {
+                read: |reading, area, out| {
+                    let mut shown = area.to_vec();
+                    if reading == Reading::List {
+                        with_records(&mut shown, |record| {
+                            if record.state == State::Expired {
+                                record.reason = Reason::DeadlineElapsed;
+                            }
+                        });
+                    }
+                    Model.read(reading, &shown, out)
+                },
+                ..RIGHT
+            },
+            "shows-reason-2",
+            "the answer of list",
+        ),
+    ];
+    for (side, name, what) in sides {
+        let (list, found) = noticed(side, name);
+        assert_eq!(found.what, what, "{list}{found}");
+        assert!(list.events.len() <= 5, "{list}{found}");
+    }
+}
+
+#[test]
+fn a_wrong_kind_is_noticed() {
+    let sides: [(Faulty, &str, &str); 4] = [
+        (
+            Faulty {
+                open: |text, area| match text.starts_with(b"01") {
+                    true => 16,
+                    false => calls::open(text, area),
+                },
+                ..RIGHT
+            },
+            "opens-no-01",
+            "the answer of open",
+        ),
+        (
+            // As one of kind 03, so that mark 3 is taken.
+            Faulty {
+                open: |text, area| match text.strip_prefix(b"01") {
+                    Some(rest) => calls::open(&[b"03", rest].concat(), area),
+                    None => calls::open(text, area),
+                },
+                ..RIGHT
+            },
+            "opens-mark-3-in-01",
+            "the answer of open",
+        ),
+        (
+            // Mark 5 of an older image as 3.
+            Faulty {
+                open: |text, area| {
+                    let number = calls::open(text, area);
+                    if number == 100 && text.starts_with(b"01") {
+                        with_records(area, |record| {
+                            if record.withdrawn == Withdrawn::Expired {
+                                record.withdrawn = MARK_3;
+                            }
+                        });
+                    }
+                    number
+                },
+                ..RIGHT
+            },
+            "opens-5-as-3",
+            "the opened area",
+        ),
+        (
+            Faulty {
+                sound: |area| {
+                    let mut newest = area.to_vec();
+                    if newest.get(4) == Some(&1) {
+                        newest[4] = 3;
+                    }
+                    calls::sound(&newest)
+                },
+                ..RIGHT
+            },
+            "takes-areas-of-01",
+            "the answer of sound",
+        ),
+    ];
+    for (side, name, what) in sides {
+        let (list, found) = noticed(side, name);
+        assert_eq!(found.what, what, "{list}{found}");
+    }
+}
+
 /// Tombstones as Queued holders of no bytes.
 fn with_tombstones_queued(area: &mut [u8], which: impl Fn(&Record) -> bool) {
     let mut queue = model::area::decode(area).expect("a sound area");
@@ -498,8 +701,7 @@ fn with_tombstones_queued(area: &mut [u8], which: impl Fn(&Record) -> bool) {
             });
         }
     }
-    let bytes = model::area::encode(&queue);
-    area[..bytes.len()].copy_from_slice(&bytes);
+    put(area, &queue);
 }
 
 #[test]

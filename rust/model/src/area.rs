@@ -1,6 +1,6 @@
 //! The area: docs/AREA.md.
 
-use crate::frame::{self, Reader};
+use crate::frame::{self, HeaderKind, Reader};
 use crate::sound::is_sound;
 use crate::values::{Height, Id, Queue};
 
@@ -16,15 +16,15 @@ pub fn encode(queue: &Queue) -> Vec<u8> {
 /// The encoding without the zeros.
 fn used(queue: &Queue) -> Vec<u8> {
     let mut bytes = queue.persisted.0.to_be_bytes().to_vec();
-    bytes.extend(frame::header(queue));
+    bytes.extend(frame::header(HeaderKind::NEWEST, queue));
     for record in &queue.records {
         bytes.extend(frame::record(record));
     }
     bytes
 }
 
-/// The queue whose encoding the area starts with; nothing unless that queue is sound and the
-/// area is as long as its limits need.
+/// The queue whose encoding, of the newest kind, the area starts with; nothing unless that queue is
+/// sound and the area is as long as its limits need.
 pub fn decode(area: &[u8]) -> Option<Queue> {
     let queue = parse(area)?;
     let need = queue.limits.need();
@@ -39,14 +39,14 @@ fn parse(area: &[u8]) -> Option<Queue> {
     let mut queue = header.queue;
     queue.persisted = persisted;
     for _ in 0..header.record_count {
-        queue.records.push(reader.record()?);
+        queue.records.push(reader.record(header.kind)?);
     }
     Some(queue)
 }
 
 /// Where a holder's signed bytes stand in the area of this queue: start and length.
 pub fn signed_bytes_place(queue: &Queue, id: &Id) -> Option<(usize, usize)> {
-    let mut end = 4 + frame::header(queue).len();
+    let mut end = 4 + frame::header(HeaderKind::NEWEST, queue).len();
     for record in &queue.records {
         end += frame::record(record).len();
         if record.id == *id {
@@ -56,4 +56,9 @@ pub fn signed_bytes_place(queue: &Queue, id: &Id) -> Option<(usize, usize)> {
         }
     }
     None
+}
+
+/// Where the `n`-th record's withdrawn mark stands in the area of this queue.
+pub fn mark_place(queue: &Queue, n: usize) -> usize {
+    4 + frame::mark_place(queue, n)
 }

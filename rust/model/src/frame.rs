@@ -6,18 +6,52 @@ use crate::values::{
     Withdrawn,
 };
 
-const HEADER_KIND: u8 = 1;
 const RECORD_KIND: u8 = 2;
+
+/// The kind of a header: which values the frames after it may have.
+#[derive(Debug, Clone, Copy, PartialEq, Eq, PartialOrd, Ord)]
+pub enum HeaderKind {
+    /// Document 01.
+    K01 = 1,
+    /// Document 02, P4: the withdrawn mark 3.
+    K03 = 3,
+}
+
+impl HeaderKind {
+    pub const ALL: [HeaderKind; 2] = [HeaderKind::K01, HeaderKind::K03];
+    /// What areas and new images have.
+    pub const NEWEST: HeaderKind = HeaderKind::K03;
+
+    pub fn from_number(number: u8) -> Option<HeaderKind> {
+        match number {
+            1 => Some(HeaderKind::K01),
+            3 => Some(HeaderKind::K03),
+            _ => None,
+        }
+    }
+
+    /// Whether a record under such a header may have this withdrawn mark.
+    pub fn has_mark(self, mark: Withdrawn) -> bool {
+        mark != Withdrawn::RolledBackAfterRelease || self >= HeaderKind::K03
+    }
+
+    /// Whether an image of this kind can hold the queue.
+    pub fn can_hold(self, queue: &Queue) -> bool {
+        let mut records = queue.records.iter();
+        records.all(|record| self.has_mark(record.withdrawn))
+    }
+}
 
 /// The header's values and the number of records that follow.
 pub struct Header {
+    pub kind: HeaderKind,
     pub queue: Queue,
     pub record_count: u32,
 }
 
-pub fn header(queue: &Queue) -> Vec<u8> {
+pub fn header(kind: HeaderKind, queue: &Queue) -> Vec<u8> {
     let limits = &queue.limits;
-    let mut bytes = vec![HEADER_KIND];
+    let mut bytes = vec![kind as u8];
     for limit in [
         limits.pending,
         limits.bytes,
@@ -79,6 +113,15 @@ pub fn put_head(bytes: &mut Vec<u8>, record: &Record) {
         bytes.extend(mined.height.0.to_be_bytes());
         bytes.extend(mined.block);
     }
+}
+
+/// Where the `n`-th record's withdrawn mark stands, counted from the header frame's first byte.
+pub fn mark_place(queue: &Queue, n: usize) -> usize {
+    let mut before = header(HeaderKind::NEWEST, queue);
+    before.extend(queue.records[..n].iter().flat_map(record));
+    before.push(RECORD_KIND);
+    put_head(&mut before, &queue.records[n]);
+    before.len()
 }
 
 fn put_optional<const N: usize>(bytes: &mut Vec<u8>, value: Option<[u8; N]>) {
@@ -157,9 +200,7 @@ impl<'a> Reader<'a> {
 
     /// A header frame with limits in range. The queue has no records yet, and persisted 0.
     pub fn header(&mut self) -> Option<Header> {
-        if self.byte()? != HEADER_KIND {
-            return None;
-        }
+        let kind = HeaderKind::from_number(self.byte()?)?;
         let queue = Queue {
             limits: self.limits()?,
             revision: self.u64()?,
@@ -171,12 +212,14 @@ impl<'a> Reader<'a> {
         };
         let record_count = self.u32()?;
         Some(Header {
+            kind,
             queue,
             record_count,
         })
     }
 
-    pub fn record(&mut self) -> Option<Record> {
+    /// A record frame after a header of this kind.
+    pub fn record(&mut self, kind: HeaderKind) -> Option<Record> {
         if self.byte()? != RECORD_KIND {
             return None;
         }
@@ -193,10 +236,15 @@ impl<'a> Reader<'a> {
             size: self.u32()?,
             cost: self.u64()?,
             mined: self.optional(Self::confirmation)?,
-            withdrawn: Withdrawn::from_number(self.byte()?)?,
+            withdrawn: self.mark(kind)?,
             finish: FinishNumber(self.u64()?),
             holder: self.optional(Self::holder)?,
         })
+    }
+
+    fn mark(&mut self, kind: HeaderKind) -> Option<Withdrawn> {
+        let mark = Withdrawn::from_number(self.byte()?)?;
+        kind.has_mark(mark).then_some(mark)
     }
 
     fn label(&mut self) -> Option<Vec<u8>> {

@@ -1,18 +1,30 @@
 //! The image: lines of lowercase hexadecimal, one frame a line, each ended by byte 10.
 
-use crate::frame::{self, Reader};
+use crate::frame::{self, HeaderKind, Reader};
 use crate::sound::is_sound;
 use crate::values::Queue;
 
 const LINE_END: u8 = 10;
 
+/// The image, of the newest kind.
 pub fn encode(queue: &Queue) -> Vec<u8> {
+    encode_as(HeaderKind::NEWEST, queue)
+}
+
+/// The text under a header of this kind. It is an image where that kind can hold the queue.
+pub fn encode_as(kind: HeaderKind, queue: &Queue) -> Vec<u8> {
     let mut text = Vec::new();
-    put_line(&mut text, &frame::header(queue));
+    put_line(&mut text, &frame::header(kind, queue));
     for record in &queue.records {
         put_line(&mut text, &frame::record(record));
     }
     text
+}
+
+/// Where the digits of the `n`-th record's withdrawn mark begin in the queue's image, of any kind.
+pub fn mark_place(queue: &Queue, n: usize) -> usize {
+    let lines = 1 + n;
+    2 * frame::mark_place(queue, n) + lines
 }
 
 fn put_line(text: &mut Vec<u8>, frame: &[u8]) {
@@ -27,14 +39,15 @@ fn digit(value: u8) -> u8 {
     b"0123456789abcdef"[usize::from(value)]
 }
 
-/// The queue of which this is the image, persisted set to the cursor height; nothing unless
-/// that queue is sound.
+/// The queue of which this is the image, in any kind, persisted set to the cursor height; nothing
+/// unless that queue is sound.
 pub fn decode(text: &[u8]) -> Option<Queue> {
-    let queue = parse(text)?;
-    (is_sound(&queue) && encode(&queue) == text).then_some(queue)
+    let (kind, queue) = parse(text)?;
+    (is_sound(&queue) && encode_as(kind, &queue) == text).then_some(queue)
 }
 
-fn parse(text: &[u8]) -> Option<Queue> {
+/// Each record is read under the header's kind.
+fn parse(text: &[u8]) -> Option<(HeaderKind, Queue)> {
     let mut lines = text.split_inclusive(|byte| *byte == LINE_END);
     let header = whole_frame(lines.next()?, |reader| reader.header())?;
     let mut queue = header.queue;
@@ -42,9 +55,10 @@ fn parse(text: &[u8]) -> Option<Queue> {
     for line in lines {
         queue
             .records
-            .push(whole_frame(line, |reader| reader.record())?);
+            .push(whole_frame(line, |reader| reader.record(header.kind))?);
     }
-    (queue.records.len() as u64 == u64::from(header.record_count)).then_some(queue)
+    let whole = queue.records.len() as u64 == u64::from(header.record_count);
+    whole.then_some((header.kind, queue))
 }
 
 /// What `read` reads from the line's bytes, all of them.

@@ -23,6 +23,7 @@ pub mod rules;
 pub mod sound;
 pub mod values;
 
+pub use frame::HeaderKind;
 pub use values::{
     Confirmation, FinishNumber, Height, Holder, Id, Limits, Queue, Reason, Record, State, TimeMs,
     Withdrawn,

@@ -256,9 +256,7 @@ impl Room {
             State::Expired => rng.pick(&[Reason::DeadlineElapsed, Reason::RolledBackAfterRelease]),
         };
         let withdrawn = match (state, &holder) {
-            (State::Mined, None) => {
-                rng.pick(&[Withdrawn::No, Withdrawn::Cancelled, Withdrawn::Expired])
-            }
+            (State::Mined, None) => rng.pick(&Withdrawn::ALL),
             _ => Withdrawn::No,
         };
         let size = match &holder {
@@ -583,9 +581,7 @@ fn alter_record(rng: &mut Rng, limits: &Limits, record: &mut Record) {
         1 => record.state = random_state(rng),
         2 => record.reason = random_reason(rng),
         3 => record.mined = rng.optional(confirmation),
-        4 => {
-            record.withdrawn = rng.pick(&[Withdrawn::No, Withdrawn::Cancelled, Withdrawn::Expired])
-        }
+        4 => record.withdrawn = rng.pick(&Withdrawn::ALL),
         5 => record.finish = FinishNumber(rng.below(5) as u64),
         6 => record.size = rng.below(5) as u32,
         7 => record.holder = None,

@@ -249,11 +249,13 @@ fn entered(queue: &Queue, given: &Reconciliation) -> Vec<Record> {
         .collect()
 }
 
-/// Mined there, reason 0, in any state; 4 or 5 becomes its withdrawn mark.
+/// Mined there, reason 0, in any state; 4 or 5 becomes its withdrawn mark, and 5 with reason 3
+/// mark 3 (document 02, P4).
 fn confirmed(record: &Record, found: &Confirmation) -> Record {
-    let withdrawn = match record.state {
-        State::Cancelled => Withdrawn::Cancelled,
-        State::Expired => Withdrawn::Expired,
+    let withdrawn = match (record.state, record.reason) {
+        (State::Cancelled, _) => Withdrawn::Cancelled,
+        (State::Expired, Reason::RolledBackAfterRelease) => Withdrawn::RolledBackAfterRelease,
+        (State::Expired, _) => Withdrawn::Expired,
         _ => record.withdrawn,
     };
     Record {
@@ -326,6 +328,7 @@ fn reopen_record(record: &mut Record) {
     let (state, reason) = match (record.withdrawn, &record.holder) {
         (Withdrawn::Cancelled, _) => (State::Cancelled, Reason::Cancelled),
         (Withdrawn::Expired, _) => (State::Expired, Reason::DeadlineElapsed),
+        (Withdrawn::RolledBackAfterRelease, _) => (State::Expired, Reason::RolledBackAfterRelease),
         (Withdrawn::No, None) => (State::Expired, Reason::RolledBackAfterRelease),
         (Withdrawn::No, Some(_)) => (State::Queued, Reason::RolledBack),
     };

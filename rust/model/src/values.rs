@@ -122,18 +122,29 @@ impl Reason {
     }
 }
 
-/// The withdrawn mark: the state that a confirmation overrode.
+/// The withdrawn mark: the state that a confirmation overrode, and why the record was Expired.
 #[derive(Debug, Clone, Copy, PartialEq, Eq)]
 pub enum Withdrawn {
     No = 0,
+    /// Expired with reason 3 (document 02, P4).
+    RolledBackAfterRelease = 3,
     Cancelled = 4,
+    /// Expired with reason 2.
     Expired = 5,
 }
 
 impl Withdrawn {
+    pub const ALL: [Withdrawn; 4] = [
+        Withdrawn::No,
+        Withdrawn::RolledBackAfterRelease,
+        Withdrawn::Cancelled,
+        Withdrawn::Expired,
+    ];
+
     pub fn from_number(number: u8) -> Option<Withdrawn> {
         match number {
             0 => Some(Withdrawn::No),
+            3 => Some(Withdrawn::RolledBackAfterRelease),
             4 => Some(Withdrawn::Cancelled),
             5 => Some(Withdrawn::Expired),
             _ => None,

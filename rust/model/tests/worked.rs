@@ -6,10 +6,10 @@ use model::{
 };
 
 const HEADER: &str =
-    "01 00000002 0000000a 00000001 00000001 0000000000000000 00000000 00 0000000000000000 00000000";
+    "03 00000002 0000000a 00000001 00000001 0000000000000000 00000000 00 0000000000000000 00000000";
 
 const CANCELLED: &str = "00000006 \
-    01 00000002 0000000a 00000001 00000001 0000000000000002 00000006 00 0000000000000001 00000001 \
+    03 00000002 0000000a 00000001 00000001 0000000000000002 00000006 00 0000000000000001 00000001 \
     02 1111111111111111111111111111111111111111111111111111111111111111 04 01 0000000000000005 \
     00 00 ffffffff 00 0000000000000007 00000003 0000000000000009 00 00 0000000000000001 00";
 
@@ -83,7 +83,10 @@ fn fresh_image() {
     assert_eq!(expected.len(), 85);
     let fresh = Queue::fresh(limits());
     assert_eq!(image::encode(&fresh), expected.as_bytes());
-    assert_eq!(image::decode(expected.as_bytes()), Some(fresh));
+    assert_eq!(image::decode(expected.as_bytes()), Some(fresh.clone()));
+    // As document 01 has it.
+    let older = expected.replacen("03", "01", 1);
+    assert_eq!(image::decode(older.as_bytes()), Some(fresh));
     assert_eq!(image::decode(b"0A"), None);
     assert_eq!(calls::open(b"0A", &mut []), 16);
 }

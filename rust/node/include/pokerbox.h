@@ -160,7 +160,7 @@ uint64_t pokerbox_settle(const uint8_t *cur, size_t cur_len, uint8_t *next, size
 uint64_t pokerbox_image(const uint8_t *area, size_t area_len, uint8_t *out, size_t out_len,
                         uint64_t *length);
 
-/* The queue of an image into `area`. Gives 16, 2 or 100. */
+/* The queue of an image, of any kind in docs/AREA.md, into `area`. Gives 16, 2 or 100. */
 uint64_t pokerbox_open(const uint8_t *text, size_t text_len, uint8_t *area, size_t area_len);
 
 /* The bytes that an area needs under the limits P, B, T, K behind `value`. Gives 1 or 100. */

@@ -36,7 +36,7 @@ pub enum Error {
     AlreadyMined = 14,
     /// The finish counter has no number left.
     CounterExhausted = 15,
-    /// Not the image of a sound queue.
+    /// Not the image of a sound queue, in any kind that this version knows.
     NotAnImage = 16,
     /// The write failed.
     WriteFailed = 17,
@@ -131,8 +131,8 @@ impl Error {
                  queue the pending transactions there"
             }
             Error::NotAnImage => {
-                "this is not the image of a sound queue: bring back a good copy of the file, or \
-                 move it away to start with an empty queue"
+                "this is not the image of a sound queue, or one of a later version: bring back that \
+                 version or a good copy of the file, or move it away to start with an empty queue"
             }
             Error::WriteFailed => {
                 "the image was not written, and the call took no effect beyond the cursor: free or \

@@ -11,7 +11,7 @@ mod every;
 use common::{area_to_write, lent_id, many, Met};
 use every::Args;
 use model::random::{self, Rng};
-use model::{area, calls, image, Queue};
+use model::{area, calls, image, HeaderKind, Queue, State};
 use pokerbox::raw;
 
 fn cases() -> u64 {
@@ -39,7 +39,7 @@ fn damaged_area(rng: &mut Rng) -> Vec<u8> {
     let good = area::encode(&queue);
     let used = used_length(&good);
     let mut bytes = good;
-    match rng.below(10) {
+    match rng.below(12) {
         0 => bytes = noise(rng),
         1 => bytes = area::encode(&random::altered(rng, &queue)),
         2 => {
@@ -56,6 +56,11 @@ fn damaged_area(rng: &mut Rng) -> Vec<u8> {
         }
         5 | 6 => put_extreme(rng, &mut bytes, used),
         7 => {}
+        8 => bytes[4] = kind(rng),
+        9 if !queue.records.is_empty() => {
+            let n = rng.below(queue.records.len());
+            bytes[area::mark_place(&queue, n)] = mark(rng);
+        }
         _ => {
             for _ in 0..1 + rng.below(3) {
                 random::damage(rng, &mut bytes, used);
@@ -65,6 +70,16 @@ fn damaged_area(rng: &mut Rng) -> Vec<u8> {
     // So that valgrind sees a read behind the end.
     bytes.shrink_to_fit();
     bytes
+}
+
+/// A header's kind, or another number.
+fn kind(rng: &mut Rng) -> u8 {
+    rng.pick(&[0, 1, 1, 2, 3, 4, 0x13, 0xff])
+}
+
+/// A withdrawn mark, or another number.
+fn mark(rng: &mut Rng) -> u8 {
+    rng.pick(&[0, 1, 2, 3, 3, 4, 5, 6, 0x13, 0xff])
 }
 
 /// Without the zeros at the end.
@@ -84,7 +99,7 @@ fn noise(rng: &mut Rng) -> Vec<u8> {
     let mut bytes = rng.bytes(length);
     // Often with the kind of a header frame, so that more of it is read.
     if length > 4 && rng.once_in(2) {
-        bytes[4] = 1;
+        bytes[4] = HeaderKind::NEWEST as u8;
     }
     bytes
 }
@@ -209,7 +224,7 @@ fn damaged_image(rng: &mut Rng) -> Vec<u8> {
     let queue = sound_queue(rng);
     let mut text = image::encode(&queue);
     let length = text.len();
-    match rng.below(12) {
+    match rng.below(14) {
         0 => text = noise(rng),
         1 => text = image::encode(&random::altered(rng, &queue)),
         2 => {
@@ -225,6 +240,12 @@ fn damaged_image(rng: &mut Rng) -> Vec<u8> {
         }
         8 => text.to_ascii_uppercase().clone_into(&mut text),
         9 => {}
+        10 => put_byte(&mut text, 0, kind(rng)),
+        11 if !queue.records.is_empty() => {
+            let n = rng.below(queue.records.len());
+            put_byte(&mut text, 0, rng.pick(&[1, 3]));
+            put_byte(&mut text, image::mark_place(&queue, n), mark(rng));
+        }
         _ => {
             for _ in 0..1 + rng.below(3) {
                 random::damage(rng, &mut text, length);
@@ -233,6 +254,11 @@ fn damaged_image(rng: &mut Rng) -> Vec<u8> {
     }
     text.shrink_to_fit();
     text
+}
+
+/// The two digits of a byte.
+fn put_byte(text: &mut [u8], at: usize, byte: u8) {
+    text[at..at + 2].copy_from_slice(format!("{byte:02x}").as_bytes());
 }
 
 /// A field that may be a count or a length becomes very large, or small.
@@ -294,6 +320,58 @@ fn limits_of_images() {
     expect(&met, &[16, 100]);
 }
 
+/// Every kind byte and every mark byte of areas and images, by document 02's words and not by the
+/// model.
+#[test]
+#[cfg(all(exported = "open", exported = "sound"))]
+fn kinds_and_marks() {
+    let (mut met, mut opened) = (Met::default(), Met::default());
+    many(cases() / 40, |rng| {
+        let queue = sound_queue(rng);
+        let (bytes, text) = (area::encode(&queue), image::encode(&queue));
+        let has_mark_3 = (queue.records.iter()).any(|record| record.withdrawn as u8 == 3);
+        for kind in 0..=255 {
+            let (mut bytes, mut text) = (bytes.clone(), text.clone());
+            bytes[4] = kind;
+            assert_eq!(raw::sound(&bytes).is_ok(), kind == 3, "area of kind {kind}");
+            put_byte(&mut text, 0, kind);
+            let taken = kind == 3 || (kind == 1 && !has_mark_3);
+            assert_eq!(opens(&text, &queue), taken, "image of kind {kind}");
+        }
+        for (n, record) in queue.records.iter().enumerate() {
+            let may_be_marked = record.state == State::Mined && record.holder.is_none();
+            let others = queue.records.iter().filter(|other| other.id != record.id);
+            let other_mark_3 = others.clone().any(|other| other.withdrawn as u8 == 3);
+            for mark in 0..=255 {
+                let right = mark == 0 || (may_be_marked && [3, 4, 5].contains(&mark));
+                let (mut bytes, mut text) = (bytes.clone(), text.clone());
+                bytes[area::mark_place(&queue, n)] = mark;
+                assert_eq!(raw::sound(&bytes).is_ok(), right, "mark {mark}");
+                met.count(u64::from(right));
+                put_byte(&mut text, image::mark_place(&queue, n), mark);
+                assert_eq!(opens(&text, &queue), right, "mark {mark} under 03");
+                put_byte(&mut text, 0, 1);
+                let right = right && mark != 3 && !other_mark_3;
+                assert_eq!(opens(&text, &queue), right, "mark {mark} under 01");
+                opened.count(u64::from(right));
+            }
+        }
+    });
+    expect(&met, &[0, 1]);
+    expect(&opened, &[0, 1]);
+}
+
+/// Whether the text opens, or is refused by 16, into an area for this queue.
+#[cfg(exported = "open")]
+fn opens(text: &[u8], queue: &Queue) -> bool {
+    let mut lent = vec![0; queue.limits.need()];
+    match common::Number::number(raw::open(text, &mut lent)) {
+        100 => true,
+        16 => false,
+        other => panic!("opening gave back {other}"),
+    }
+}
+
 /// Areas of no bytes, and all limits that a header may claim, in an area too short for them.
 #[test]
 fn short_areas() {
@@ -302,7 +380,7 @@ fn short_areas() {
     let args = args(&mut rng, &sound_queue(&mut Rng::new(2)));
     for limit in [0, 1, 2, 127, 128, 1_024, 16_777_216, 1 << 31, u32::MAX] {
         for length in [0, 1, 3, 4, 5, 20, 21, 45, 46, 47, 511, 2_177] {
-            let mut bytes = vec![0, 0, 0, 0, 1];
+            let mut bytes = vec![0, 0, 0, 0, HeaderKind::NEWEST as u8];
             for _ in 0..4 {
                 bytes.extend(limit.to_be_bytes());
             }

@@ -12,7 +12,7 @@ use common::{
 };
 use model::load::{self, Ids, Links, Load};
 use model::random::{self, Rng};
-use model::{area, calls, image, Height, Id, Limits, Queue, TimeMs};
+use model::{area, calls, image, HeaderKind, Height, Id, Limits, Queue, TimeMs};
 use pokerbox::raw;
 
 const CASES: u64 = 6_000;
@@ -407,7 +407,7 @@ fn open() {
     many(4 * CASES, |rng| {
         let limits = random::small_limits(rng);
         let queue = random::queue(rng, limits);
-        let mut text = image::encode(&queue);
+        let mut text = image::encode_as(rng.pick(&HeaderKind::ALL), &queue);
         let length = text.len();
         match rng.below(4) {
             0 => random::damage(rng, &mut text, length),
@@ -461,7 +461,7 @@ fn image_limits() {
     many(4 * CASES, |rng| {
         let limits = random::small_limits(rng);
         let queue = random::queue(rng, limits);
-        let mut text = image::encode(&queue);
+        let mut text = image::encode_as(rng.pick(&HeaderKind::ALL), &queue);
         let length = text.len();
         match rng.below(4) {
             0 => random::damage(rng, &mut text, length),

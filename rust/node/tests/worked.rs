@@ -5,10 +5,10 @@ use pokerbox::{raw, Error, Kind};
 const NEED: usize = 3_348;
 
 const HEADER: &str =
-    "01 00000002 0000000a 00000001 00000001 0000000000000000 00000000 00 0000000000000000 00000000";
+    "03 00000002 0000000a 00000001 00000001 0000000000000000 00000000 00 0000000000000000 00000000";
 
 const CANCELLED_HEADER: &str =
-    "01 00000002 0000000a 00000001 00000001 0000000000000002 00000006 00 0000000000000001 00000001";
+    "03 00000002 0000000a 00000001 00000001 0000000000000002 00000006 00 0000000000000001 00000001";
 
 /// From the id to the confirmation's flag: what the record's frame and its entry share.
 const CANCELLED_HEAD: &str =
@@ -72,6 +72,10 @@ fn the_fresh_image() {
     let mut lent = vec![0; NEED];
     assert_eq!(raw::open(text.as_bytes(), &mut lent), Ok(()));
     assert!(lent == area(&format!("00000000 {HEADER}")));
+    // As document 01 has it.
+    let (older, mut lent) = (text.replacen("03", "01", 1), vec![0; NEED]);
+    assert_eq!(raw::open(older.as_bytes(), &mut lent), Ok(()));
+    assert!(lent == area(&format!("00000000 {HEADER}")));
     assert_eq!(raw::open(b"0A", &mut lent), Err(Error::NotAnImage));
 }
 
@@ -95,6 +99,14 @@ fn the_cancelled_record() {
         String::new(),
     ];
     assert_eq!(image(&cancelled), lines.join("\n"));
+}
+
+/// Of the kind that document 01's images have.
+#[test]
+fn a_fresh_area_with_its_kind_byte_set_to_01() {
+    let mut lent = area(&format!("00000000 {HEADER}"));
+    lent[4] = 1;
+    assert_eq!(raw::sound(&lent), Err(Error::AreaNotSound));
 }
 
 #[test]

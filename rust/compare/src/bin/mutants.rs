@@ -1,7 +1,7 @@
-//! Builds the comparison with each wrong edit in `mutants.txt`, of the oracle's text or the model's,
-//! and looks whether the library is then found to differ, or of an edit of the model's `rules.rs`
-//! the model. The edits are made in a copy of the sources. Of an edit of the model's best fees,
-//! parents first or decisions, its own tests are run as well.
+//! Builds the comparison with each wrong edit in `mutants.txt`, of the oracle's text, the model's or the
+//! comparison's own, and looks whether the library is then found to differ, or of an edit of the
+//! model's `rules.rs` or of the comparison the model. The edits are made in a copy of the sources.
+//! Where `mutants.txt` names tests, they are run as well.
 
 use std::collections::BTreeSet;
 use std::fs;
@@ -43,10 +43,12 @@ struct Edit {
     file: String,
     what: String,
     call: String,
+    /// What `cargo test` is to run, after `--package`.
+    tests: Option<String>,
     /// No answer can differ.
     same: bool,
-    /// The comparison cannot notice; the model's tests have to.
-    tests: bool,
+    /// The comparison cannot notice; the tests have to.
+    by_tests: bool,
     /// A withdrawn id is selected, and nothing else is looked at.
     withdrawn: bool,
     old: String,
@@ -56,9 +58,9 @@ struct Edit {
 impl Edit {
     /// What is compared with the oracle.
     fn side(&self) -> &'static str {
-        match self.file.as_str() {
-            RULES => "model",
-            _ => "library",
+        match self.file == RULES || self.file.starts_with("compare/") {
+            true => "model",
+            false => "library",
         }
     }
 }
@@ -180,7 +182,7 @@ fn run(settings: &Settings) -> Result<bool, String> {
                 ("a stop".into(), format!("{seconds:.2}"), what.clone())
             }
             Seen::Nothing(events) => {
-                let silent = edit.same || edit.tests;
+                let silent = edit.same || edit.by_tests;
                 let note = if silent { ", as it must be" } else { "" };
                 (
                     format!("NOT in {events} events{note}"),
@@ -191,7 +193,7 @@ fn run(settings: &Settings) -> Result<bool, String> {
         };
         let failed = tests.is_some_and(|count| count > 0);
         let by = match tests {
-            Some(count) if failed => format!("{by}; {count} of the model's tests"),
+            Some(count) if failed => format!("{by}; failing tests: {count}"),
             _ => by,
         };
         let (what, call, side) = (&edit.what, &edit.call, edit.side());
@@ -199,8 +201,8 @@ fn run(settings: &Settings) -> Result<bool, String> {
             "| {number} | {what} | {call} | {side} | {after} | {seconds} | {by} |"
         ));
         let is_noticed = !matches!(seen, Seen::Nothing(_));
-        noticed += usize::from(is_noticed || (edit.tests && failed));
-        right += usize::from(match edit.tests {
+        noticed += usize::from(is_noticed || (edit.by_tests && failed));
+        right += usize::from(match edit.by_tests {
             true => !is_noticed && failed,
             false => is_noticed != edit.same,
         });
@@ -212,8 +214,8 @@ fn run(settings: &Settings) -> Result<bool, String> {
     Ok(right == tried)
 }
 
-/// What the comparison said, and where the model has tests for the call how many of them failed; or
-/// what the compiler said.
+/// What the comparison said, and where there are tests for it how many of them failed; or what the
+/// compiler said.
 type Built = Result<(Seen, Option<usize>), String>;
 
 fn seen(settings: &Settings, copy: &Copy, edit: &Edit) -> Result<Built, String> {
@@ -227,13 +229,12 @@ fn seen(settings: &Settings, copy: &Copy, edit: &Edit) -> Result<Built, String> 
     let look = if edit.withdrawn { "withdrawn" } else { "all" };
     let program = copy.target.join("debug/compare");
     let seen = compare(settings, &program, edit.side(), look)?;
-    let tests = match edit.call.as_str() {
-        "best_fees" => "fees",
-        "selection_parents_first" => "parents",
-        _ if edit.file == RULES => "decisions",
-        _ => return Ok(Ok((seen, None))),
+    let Some(tests) = &edit.tests else {
+        return Ok(Ok((seen, None)));
     };
-    let said = copy.cargo(settings, &["test", "--package", "model", "--test", tests])?;
+    let words = ["test", "--package"].into_iter();
+    let words: Vec<&str> = words.chain(tests.split(' ')).collect();
+    let said = copy.cargo(settings, &words)?;
     let said = said.unwrap_or_else(|said| said);
     let failed = between(&said, " passed; ", " failed;").and_then(|count| count.parse().ok());
     Ok(Ok((seen, failed)))
@@ -325,11 +326,16 @@ fn files(root: &Path) -> io::Result<BTreeSet<PathBuf>> {
 }
 
 fn read(text: &str) -> Result<Vec<Edit>, String> {
-    let (mut edits, mut file) = (Vec::new(), String::new());
+    let (mut edits, mut file, mut tests) = (Vec::new(), String::new(), None);
     let mut lines = text.lines();
     while let Some(line) = lines.next() {
         if let Some(name) = line.strip_prefix("@ ") {
+            let (name, run) = match name.split_once(" | ") {
+                Some((name, run)) => (name, Some(run)),
+                None => (name, None),
+            };
             file = name.into();
+            tests = run.map(str::to_string);
         }
         let Some(head) = line.strip_prefix("## ") else {
             continue;
@@ -349,8 +355,9 @@ fn read(text: &str) -> Result<Vec<Edit>, String> {
             file: file.clone(),
             what: what.into(),
             call: call.into(),
+            tests: tests.clone(),
             same: mark == "same",
-            tests: mark == "tests",
+            by_tests: mark == "tests",
             withdrawn: mark == "withdrawn",
             old: old.join("\n"),
             new: new.join("\n"),

@@ -1,0 +1,215 @@
+//! Kept images: what libraries wrote, a folder for each header kind. Each opens with every value
+//! unchanged. `cargo run -p compare --bin images` writes those of the newest kind.
+
+mod common;
+
+use std::collections::BTreeSet;
+use std::fs;
+use std::path::Path;
+
+use common::Folder;
+use model::{area, image, HeaderKind, Queue, Record, Withdrawn};
+use pokerbox::store::FileStore;
+use pokerbox::Error;
+
+const NAMES: [&str; 4] = ["every", "fresh", "full", "worked"];
+
+/// An image as it was written.
+struct Kept {
+    kind: HeaderKind,
+    name: &'static str,
+    text: Vec<u8>,
+}
+
+impl Kept {
+    fn new(kind: HeaderKind, name: &'static str) -> Kept {
+        let folder = Path::new(env!("CARGO_MANIFEST_DIR")).join("tests/images");
+        let path = folder.join(format!("{:02x}/{name}.txt", kind as u8));
+        let text = fs::read(&path);
+        Kept {
+            kind,
+            name,
+            text: text.unwrap_or_else(|error| panic!("{}: {error}", path.display())),
+        }
+    }
+
+    fn what(&self) -> String {
+        format!("{:02x}/{}", self.kind as u8, self.name)
+    }
+
+    /// By the model.
+    fn queue(&self) -> Queue {
+        image::decode(&self.text).unwrap_or_else(|| panic!("{} is no image", self.what()))
+    }
+
+    fn with_kind(&self, digits: &str) -> Vec<u8> {
+        [digits.as_bytes(), &self.text[2..]].concat()
+    }
+}
+
+/// All images of all kinds.
+fn kept() -> impl Iterator<Item = Kept> {
+    let kinds = HeaderKind::ALL.into_iter();
+    kinds.flat_map(|kind| NAMES.map(|name| Kept::new(kind, name)))
+}
+
+/// What the library opens, as the model reads its area.
+fn opened(text: &[u8]) -> Result<Queue, Error> {
+    let opened = pokerbox::Queue::open(text)?;
+    Ok(area::decode(opened.area()).expect("a sound area"))
+}
+
+#[test]
+fn every_kind_has_a_folder_and_every_folder_is_a_kind() {
+    let folder = Path::new(env!("CARGO_MANIFEST_DIR")).join("tests/images");
+    let names = fs::read_dir(folder).expect("a folder").map(|entry| {
+        let name = entry.expect("an entry").file_name();
+        name.into_string().expect("a name")
+    });
+    let kinds = HeaderKind::ALL.map(|kind| format!("{:02x}", kind as u8));
+    assert_eq!(names.collect::<BTreeSet<_>>(), BTreeSet::from(kinds));
+}
+
+#[test]
+fn kept_images_open_with_every_value_unchanged() {
+    for kept in kept() {
+        let queue = kept.queue();
+        let what = kept.what();
+        // The model's reading is all that is there: written again, it is the same text.
+        assert!(
+            image::encode_as(kept.kind, &queue) == kept.text,
+            "{what} by the model"
+        );
+        let opened = opened(&kept.text).unwrap_or_else(|error| panic!("{what}: {error}"));
+        assert!(opened == queue, "{what} as it is opened");
+    }
+}
+
+/// What is written next has the newest kind: of these kinds the same text but for the kind's digits.
+#[test]
+fn kept_images_are_written_again_in_the_newest_kind() {
+    for kept in kept() {
+        let opened = pokerbox::Queue::open(&kept.text).expect("an image");
+        assert_eq!(opened.area()[4], 3, "{}: the area", kept.what());
+        let written = opened.image().expect("an image");
+        assert!(written == kept.with_kind("03"), "{}", kept.what());
+    }
+}
+
+#[test]
+fn no_other_kind_is_an_image() {
+    for kept in kept() {
+        for kind in ["00", "02", "04", "05", "06", "10", "30", "ff"] {
+            let refused = opened(&kept.with_kind(kind));
+            assert_eq!(refused, Err(Error::NotAnImage), "{} as {kind}", kept.what());
+        }
+    }
+}
+
+/// State, reason, mark, and whether it is a holder.
+fn sort(record: &Record) -> [u8; 4] {
+    let holder = u8::from(record.holder.is_some());
+    let mark = record.withdrawn as u8;
+    [record.state as u8, record.reason as u8, mark, holder]
+}
+
+/// Every sort of record that a kind can have is in its image `every`, and every shape of its parts.
+#[test]
+fn every_sort_of_record_is_kept() {
+    for kind in HeaderKind::ALL {
+        let queue = Kept::new(kind, "every").queue();
+        let sorts: BTreeSet<[u8; 4]> = queue.records.iter().map(sort).collect();
+        let mut expected = BTreeSet::from([
+            [0, 0, 0, 1],
+            [0, 4, 0, 1],
+            [3, 5, 0, 1],
+            [2, 0, 0, 1],
+            [4, 1, 0, 0],
+            [5, 2, 0, 0],
+            [5, 3, 0, 0],
+        ]);
+        let marks = Withdrawn::ALL.into_iter();
+        let marks = marks.filter(|mark| kind.has_mark(*mark));
+        expected.extend(marks.map(|mark| [2, 0, mark as u8, 0]));
+        assert_eq!(sorts, expected, "{kind:?}");
+        for sort_of in &sorts {
+            let records = queue.records.iter().filter(|one| sort(one) == *sort_of);
+            let labels = records.clone().map(|one| one.label.as_ref().map(Vec::len));
+            let labels: BTreeSet<Option<usize>> = labels.collect();
+            assert_eq!(labels, BTreeSet::from([None, Some(0), Some(200)]));
+            let deadlines = records.clone().map(|one| {
+                let (time, height) = (one.time_deadline, one.height_deadline);
+                (time.is_some(), height.is_some())
+            });
+            assert_eq!(deadlines.collect::<BTreeSet<_>>().len(), 4);
+        }
+        let holders = || queue.records.iter().filter_map(|one| one.holder.as_ref());
+        assert!(holders().any(|holder| holder.inputs.is_empty()));
+        assert!(holders().any(|holder| holder.bytes.is_empty()));
+        assert!(holders().any(|holder| holder.inputs.len() == 3));
+        let repeats = |inputs: &[[u8; 32]]| inputs.len() == 2 && inputs[0] == inputs[1];
+        assert!(holders().any(|holder| repeats(&holder.inputs)));
+    }
+}
+
+/// The image `full` is as large as its limits allow.
+#[test]
+fn a_full_queue_is_kept() {
+    for kind in HeaderKind::ALL {
+        let queue = Kept::new(kind, "full").queue();
+        let limits = queue.limits;
+        let bytes: usize = queue.holders().map(Record::byte_count).sum();
+        assert_eq!(queue.holders().count(), 2 * limits.pending as usize);
+        assert_eq!(bytes, 2 * limits.bytes as usize);
+        assert_eq!(queue.tombstones().count(), limits.tombstones as usize);
+        let k = limits.inputs as usize;
+        assert!(queue
+            .holders()
+            .all(|one| one.inputs().len() == k && one.outputs().len() == k));
+    }
+}
+
+/// Mark 5 of an older image stays 5; where it is made 3, the text is no image of kind 01, and one of
+/// kind 03.
+#[test]
+fn mark_3_is_in_no_image_of_kind_01() {
+    let kept = Kept::new(HeaderKind::K01, "every");
+    let queue = kept.queue();
+    let mut tried = 0;
+    for (n, record) in queue.records.iter().enumerate() {
+        if record.withdrawn != Withdrawn::Expired {
+            continue;
+        }
+        let place = image::mark_place(&queue, n);
+        let mut text = kept.text.clone();
+        assert_eq!(text[place..place + 2], *b"05");
+        text[place + 1] = b'3';
+        assert_eq!(opened(&text), Err(Error::NotAnImage));
+        text[..2].copy_from_slice(b"03");
+        let mut expected = queue.clone();
+        expected.records[n].withdrawn = Withdrawn::RolledBackAfterRelease;
+        assert!(opened(&text) == Ok(expected));
+        tried += 1;
+    }
+    assert_eq!(tried, 6);
+}
+
+/// A store whose image an older library wrote: it opens, stays as it is until a call writes, and is
+/// of the newest kind then.
+#[test]
+fn a_store_goes_on_from_a_kept_image() {
+    for kept in kept().filter(|kept| kept.name == "full") {
+        let queue = kept.queue();
+        let folder = Folder::new(&format!("kept-{:02x}", kept.kind as u8));
+        let path = folder.path().join("image");
+        fs::write(&path, &kept.text).expect("a file");
+        let limits = pokerbox::Limits::new(1, 1, 1, 1).expect("limits");
+        let mut store = FileStore::open(&path, limits).expect("a store");
+        assert!(area::decode(store.queue().area()) == Some(queue.clone()));
+        assert!(fs::read(&path).expect("a file") == kept.text);
+        let id = queue.pending().next().expect("a pending record").id;
+        store.cancel(pokerbox::TxId(id)).expect("cancelled");
+        let next = model::rules::cancel(&queue, &id).expect("cancelled").next;
+        assert!(fs::read(&path).expect("a file") == image::encode(&next));
+    }
+}
