@@ -85,7 +85,8 @@ pub struct List {
     pub events: Vec<Event>,
     /// The time and height with which reading calls are asked after each event.
     pub probe: (TimeMs, Height),
-    /// The seed of what best fees is asked, at the start and after each event.
+    /// The seed of what best fees is asked, at the start and after each event, and of the kind and the
+    /// mark that are put into texts and areas.
     pub fees: u64,
     pub look: Look,
 }
@@ -126,7 +127,7 @@ impl fmt::Display for List {
         }
         writeln!(
             f,
-            "reading calls at {:?}, best fees by seed {}",
+            "reading calls at {:?}, best fees, kinds and marks by seed {}",
             self.probe, self.fees
         )
     }

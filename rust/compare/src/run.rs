@@ -352,10 +352,10 @@ impl<'a, S: Side> Pair<'a, S> {
     }
 
     /// Texts and areas with other header kinds and other marks, which the oracle has not, are judged by
-    /// the model: after each event one kind, and with it a mark of one record.
+    /// the model: in each list one kind, and with it a mark of one record.
     fn kinds(&self, queue: &Queue, counts: &mut Counts) -> Result<(), Difference> {
-        let kind = KINDS[self.at % KINDS.len()];
-        let mark = MARKS[self.at % MARKS.len()];
+        let mut rng = Rng::new(self.fees);
+        let (kind, mark) = (rng.pick(&KINDS), rng.pick(&MARKS));
         let (mut bytes, mut text) = (self.unit.area().to_vec(), image::encode(queue));
         bytes[4] = kind;
         put_digits(&mut text, 0, kind);
@@ -363,7 +363,7 @@ impl<'a, S: Side> Pair<'a, S> {
         if queue.records.is_empty() {
             return Ok(());
         }
-        let n = self.at % queue.records.len();
+        let n = rng.below(queue.records.len());
         bytes[area::mark_place(queue, n)] = mark;
         put_digits(&mut text, image::mark_place(queue, n), mark);
         self.judged(kind, &bytes, &text, counts)

@@ -29,17 +29,18 @@ fn main() -> ExitCode {
 fn run() -> Result<(), String> {
     let kept = Path::new(env!("CARGO_MANIFEST_DIR")).join(IMAGES);
     let folder = std::env::args().nth(1).map_or(kept, PathBuf::from);
-    let images = [
-        ("fresh", fresh(Limits::MAX)),
-        ("worked", fresh(worked_limits())),
-        ("every", every()),
-        ("full", full()),
-    ];
-    for (name, text) in images {
-        let text = text.map_err(|error| format!("{name}: {error}"))?;
-        keep(&folder, name, &text)?;
-    }
-    Ok(())
+    let images = images().map_err(|error| error.to_string())?;
+    let mut images = images.iter();
+    images.try_for_each(|(name, text)| keep(&folder, name, text))
+}
+
+fn images() -> Result<[(&'static str, Vec<u8>); 4], Error> {
+    Ok([
+        ("fresh", fresh(Limits::MAX)?),
+        ("worked", fresh(worked_limits())?),
+        ("every", every()?),
+        ("full", full()?),
+    ])
 }
 
 /// Writes the image below the folder of its kind, its first two digits. What is kept never changes.
