@@ -2,6 +2,7 @@ pub mod paper
 pub mod Answers
 pub mod Runs
 pub mod Theorem
+pub mod FromImage
 pub mod Refusing
 pub mod Withdrawing
 pub mod Examples

@@ -11,6 +11,7 @@ use Rattle.queue.specs.declared.Answer.{Answer}
 use Rattle.queue.specs.declared.Answer.the-variants.{Refused, Done}
 use Rattle.queue.specs.Codec.{All}
 use Rattle.queue.specs.Lists.{Sub}
+use Rattle.queue.specs.Areas.{readImage}
 use Rattle.queue.specs.paper.Records.{Bytes, Limits, Queue}
 use Rattle.queue.specs.paper.Lists.{maybe, isEmpty?, map}
 use Rattle.queue.specs.paper.Sound.{inRange, need, holders, holderBytes, tombstones, apart?, different?}
@@ -21,6 +22,7 @@ use Rattle.queue.specs.paper.Reading.{selectedAt}
 use Rattle.queue.specs.paper.Calls.{idsBytes, Call, admitting, cancelling, expiring, reconciling, reopening, settingCursor, work, byKind, freshOf, toldOut, selectionAtOf}
 use Rattle.queue.specs.paper.Fees.{bestFees, candidates, sizeOf, feeOf, searchOf, budget?, bestFeesOf}
 use Rattle.queue.specs.paper.Parents.{parentsFirstAt, parentsFirstOf, ParentsFirst}
+use Rattle.image.specs.paper.Image.{openOf}
 use Rattle.pokerbox.specs.paper.Machine.{Fate, kept, failed, cutBefore, cutAfter, Step, call, cut, Told, run, Plain, restart, plainStep, World, worldStep, starts}
 
 -- ---- which lists: any, as far as numbers fit their widths and bytes are bytes (a caller can lend nothing else), and "all
@@ -115,6 +117,29 @@ Always C = (m : Limits) (first : Bytes) (second : Option Bytes) (xs : List Step)
 
 unfoldable pub Claim : Type 0
 Claim = Always Holds
+
+-- Document 02, P4: "those of kind 01 open with every value unchanged". A unit that starts from an image, of whatever kind, goes on
+-- as the plain machine with its queue stored. The first file is that text until a write replaces it, and then as above.
+pub record GoesOn (m : Limits) (text : Bytes) (q : Queue) (xs : List Step) (v : List Told × World) (p : List Told × Plain) : Type 0 where
+  pub answers : v .0 ≡ p .0
+  pub later : Bytes
+  pub queue : v .1 .area ≡ areaBytes (p .1 .queue) ++ later
+  pub unwritten : Bool
+  pub before : unwritten ≡ true → (v .1 .file ≡ some text) × (p .1 .stored ≡ some q)
+  pub since : unwritten ≡ false → v .1 .file ≡ maybe none (λ q. some (imageBytes q)) (p .1 .stored)
+  pub opening : (other : Bytes) → need m ≤ length other → (rest : Bytes) × (starts m (v .1 .file) other ≡ (Done Nothing, areaBytes (restart m (p .1 .stored) .queue) ++ rest))
+  pub records : restart m (p .1 .stored) .queue .recs ≡ p .1 .queue .recs
+  pub limits : p .1 .queue .limits ≡ m
+  pub apart : apart? (p .1 .queue .recs) ≡ true
+  pub holders : holders (p .1 .queue .recs) ≤ 2 * m .P
+  pub bytes : holderBytes (p .1 .queue .recs) ≤ 2 * m .B
+  pub tombstones : tombstones (p .1 .queue .recs) ≤ m .T
+  pub cursor : movedLast m (restart m (some q)) false xs ≡ true → p .1 .queue .cursor ≤ maybe 0 (λ q. q .cursor) (p .1 .stored) + 31
+
+unfoldable pub FromImage : Type 0
+FromImage = (m : Limits) (text : Bytes) (q : Queue) (first : Bytes) (second : Option Bytes) (xs : List Step)
+    → readImage text ≡ some q → q .limits ≡ m → need m ≤ length first → StepsOk m (restart m (some q)) xs
+    → GoesOn m text q xs (run (worldStep m) (record { area = openOf text first .1; file = some text; second = second }) xs) (run (plainStep m) (restart m (some q)) xs)
 
 -- ---- "An input spent twice in a template voids the block, and the reward goes to another pool."
 
