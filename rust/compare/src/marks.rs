@@ -72,6 +72,10 @@ impl Marked {
         self.memory = self.stored.clone();
     }
 
+    pub fn is_empty(&self) -> bool {
+        self.memory.is_empty() && self.stored.is_empty()
+    }
+
     pub fn has(&self, id: &Id) -> bool {
         self.memory.contains(id)
     }

@@ -110,6 +110,9 @@ impl Oracle {
 
     /// How many records there are whose reason is left out.
     pub fn left_out(&self) -> usize {
+        if self.marked.is_empty() {
+            return 0;
+        }
         let records = self.records();
         let left_out =
             |record: &&Record| record.state == State::Expired && self.marked.has(&record.id);
@@ -143,7 +146,9 @@ impl Oracle {
             Write::NotRenamed => Some(self.unrenamable.clone()),
         };
         let before = self.file();
-        let records = self.records();
+        // Only a confirmation makes a marked record.
+        let follows = !self.marked.is_empty() || matches!(call, Call::Reconcile(_));
+        let records = follows.then(|| self.records());
         if let Some(path) = &fails {
             inspect::set_path(&mut self.queue, path);
         }
@@ -154,7 +159,7 @@ impl Oracle {
         }
         let failed = answer == Err(17);
         let stored = self.file() != before;
-        let moved = self.marked.called(&records, &self.records(), stored);
+        let moved = records.map(|before| self.marked.called(&before, &self.records(), stored));
         let wrote = failed || stored;
         let cut = wrote && matches!(write, Write::CutBeforeRename | Write::CutAfterRename);
         if cut {
@@ -165,7 +170,7 @@ impl Oracle {
             answer: answer.unwrap_or_default(),
             wrote,
             cut,
-            moved,
+            moved: moved.unwrap_or_default(),
         })
     }
 

@@ -352,20 +352,18 @@ impl<'a, S: Side> Pair<'a, S> {
     }
 
     /// Texts and areas with other header kinds and other marks, which the oracle has not, are judged by
-    /// the model: in each list one kind, and with it a mark of one record.
+    /// the model: in each list one kind, mostly with a mark of one record.
     fn kinds(&self, queue: &Queue, counts: &mut Counts) -> Result<(), Difference> {
         let mut rng = Rng::new(self.fees);
         let (kind, mark) = (rng.pick(&KINDS), rng.pick(&MARKS));
         let (mut bytes, mut text) = (self.unit.area().to_vec(), image::encode(queue));
         bytes[4] = kind;
         put_digits(&mut text, 0, kind);
-        self.judged(kind, &bytes, &text, counts)?;
-        if queue.records.is_empty() {
-            return Ok(());
+        if let (Some(mark), false) = (mark, queue.records.is_empty()) {
+            let n = rng.below(queue.records.len());
+            bytes[area::mark_place(queue, n)] = mark;
+            put_digits(&mut text, image::mark_place(queue, n), mark);
         }
-        let n = rng.below(queue.records.len());
-        bytes[area::mark_place(queue, n)] = mark;
-        put_digits(&mut text, image::mark_place(queue, n), mark);
         self.judged(kind, &bytes, &text, counts)
     }
 
@@ -528,8 +526,8 @@ impl<'a, S: Side> Pair<'a, S> {
 
 /// Header kinds, mostly those that there are.
 const KINDS: [u8; 7] = [1, 3, 1, 3, 0, 2, 4];
-/// Withdrawn marks, and two numbers that are none.
-const MARKS: [u8; 6] = [3, 5, 4, 0, 1, 2];
+/// Withdrawn marks, two numbers that are none, and the mark that is there.
+const MARKS: [Option<u8>; 7] = [Some(3), Some(5), Some(4), Some(0), Some(1), Some(2), None];
 
 fn put_digits(text: &mut [u8], at: usize, byte: u8) {
     text[at..at + 2].copy_from_slice(format!("{byte:02x}").as_bytes());
