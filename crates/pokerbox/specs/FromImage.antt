@@ -73,19 +73,26 @@ module _ (m : Limits) (t t′ : Bytes) (same : (other : Bytes) → openOf t othe
 
   step-twin : (w w′ : World) (y : Step) → Twin t t′ w w′ → Alike t t′ (worldStep m w y) (worldStep m w′ y)
   unfolding worldStep
-  step-twin w w′ (call c l fate) x = rw (x .area) (tell (callOf c (w′ .area) (l .next) (l .out)))
+  step-twin w w′ (call c l fate) x = tell (callOf c (w .area) (l .next) (l .out)) (callOf c (w′ .area) (l .next) (l .out)) (ap (λ (a : Bytes). callOf c a (l .next) (l .out)) (x .area))
     where
-      tell : (o : Answer × (Bytes × Bytes))
+      alike : (o : Answer × (Bytes × Bytes))
           → Alike t t′ (tells (o .0) (o .1 .1) (settlingBytes m w l (o .1 .0) fate (o .0))) (tells (o .0) (o .1 .1) (settlingBytes m w′ l (o .1 .0) fate (o .0)))
-      tell o =
+      alike o =
           let s = settling-twin w w′ x l (o .1 .0) fate (o .0) in
           record { told = ap (λ z. record { answer = o .0; out = o .1 .1; settled = z }) (s .told); twin = s .twin }
-  step-twin w w′ (cut l) x = record { told = refl; twin = record {
-    area = ap (λ z. z .1) (twin-starts w w′ x (l .other));
-    unwritten = x .unwritten;
-    before = x .before;
-    since = x .since;
-  } }
+
+      tell : (o o′ : Answer × (Bytes × Bytes)) → o ≡ o′
+          → Alike t t′ (tells (o .0) (o .1 .1) (settlingBytes m w l (o .1 .0) fate (o .0))) (tells (o′ .0) (o′ .1 .1) (settlingBytes m w′ l (o′ .1 .0) fate (o′ .0)))
+      tell o o′ e = rw e (alike o′)
+  step-twin w w′ (cut l) x = record {
+    told = refl;
+    twin = record {
+      area = ap (λ z. z .1) (twin-starts w w′ x (l .other));
+      unwritten = x .unwritten;
+      before = x .before;
+      since = x .since;
+    };
+  }
 
   run-twin : (xs : List Step) (w w′ : World) → Twin t t′ w w′ → Alike t t′ (run (worldStep m) w xs) (run (worldStep m) w′ xs)
   run-twin [] w w′ x = record { told = refl; twin = x }
@@ -140,7 +147,7 @@ goes m text q fit lev range xs v v′ p sam k s =
     }
 
 pub from-image : FromImage
-unfolding FromImage over
+unfolding FromImage over starts
 from-image m text q first second xs read lim room ok =
     let fit = opens-fit text q read in
     let lev = reads-image text q read .1 .1 .0 in
@@ -148,9 +155,9 @@ from-image m text q first second xs read lim room ok =
     let st : StoredOk m (some q) = (fit, (lev, lim)) in
     let t′ = imageBytes q in
     let sam = open-same text t′ (read ∙ sym (fit-image q fit lev)) in
-    let w = record { area = openOf text first .1; file = some text; second = second } in
-    let w′ = record { area = openOf t′ first .1; file = some t′; second = second } in
+    let w : World = record { area = openOf text first .1; file = some text; second = second } in
+    let w′ : World = record { area = openOf t′ first .1; file = some t′; second = second } in
     let k = run-twin m text t′ sam xs w w′ (record { area = ap (λ z. z .1) (sam first); unwritten = true; before = λ z. (refl, refl); since = λ z. false-true (sym z) }) in
     let s = run-same m range xs false (restart m (some q)) w′ (restart-inv m false (some q) range st)
-        (record { later = drop (length (areaBytes (restart m (some q) .queue))) first; area = ap (λ z. z .1) (starts-is m (some q) first range st room); file = refl }) ok in
+    (record { later = drop (length (areaBytes (restart m (some q) .queue))) first; area = ap (λ z. z .1) (starts-is m (some q) first range st room); file = refl }) ok in
     goes m text q fit lev range xs (run (worldStep m) w xs) (run (worldStep m) w′ xs) (run (plainStep m) (restart m (some q)) xs) sam k s

@@ -11,12 +11,13 @@ use Rattle.queue.specs.declared.Kind.the-variants.{Nothing}
 use Rattle.queue.specs.declared.Answer.the-variants.{Refused, Done}
 use Rattle.queue.specs.Areas.{readImage}
 use Rattle.queue.specs.Opens.{limits}
-use Rattle.queue.specs.Sounds.{Fit}
-use Rattle.queue.specs.Bound.{fit-image}
+use Rattle.queue.specs.Sounds.{Fit, fit-sound, fit-ok}
+use Rattle.queue.specs.Bound.{image-reads, fit-image}
 use Rattle.queue.specs.Keeps.{fresh-fit}
 use Rattle.queue.specs.paper.Records.{Bytes, Limits, Queue}
 use Rattle.queue.specs.paper.Sound.{inRange, need}
-use Rattle.queue.specs.paper.Area.{imageBytes}
+use Rattle.queue.specs.paper.Kinds.{says?}
+use Rattle.queue.specs.paper.Area.{imageUnder, imageBytes}
 use Rattle.queue.specs.paper.Calls.{fresh, freshOf}
 use Rattle.image.specs.paper.Image.{openOf, Five, limitsNeed, needOf, imageLimitsOf}
 
@@ -43,7 +44,7 @@ pub image-limits : (q : Queue) (old : Five) → Fit q → q .persisted ≡ q .cu
 unfolding imageLimitsOf
 image-limits q old f e = rw (fit-image q f e)
 
--- ---- cards: document 01's worked image, and a limit of 0
+-- ---- cards: document 01's worked image, under 03 and as it was under 01, and a limit of 0
 pub worked-need : (old : ℕ) → needOf (limits 2 10 1 1) old ≡ (Done Nothing, 3348)
 unfolding needOf inRange need
 worked-need old = refl
@@ -55,3 +56,10 @@ no-need old = refl
 pub worked-limits : (old : Five) → imageLimitsOf (imageBytes (fresh (limits 2 10 1 1))) old ≡ (Done Nothing, (2, (10, (1, (1, 3348)))))
 unfolding inRange need
 worked-limits old = image-limits (fresh (limits 2 10 1 1)) old (fresh-fit (limits 2 10 1 1) refl) refl
+
+pub older-limits : (old : Five) → imageLimitsOf (imageUnder 1 (fresh (limits 2 10 1 1))) old ≡ (Done Nothing, (2, (10, (1, (1, 3348)))))
+unfolding imageLimitsOf inRange need says?
+older-limits old =
+    let q = fresh (limits 2 10 1 1) in
+    let f = fresh-fit (limits 2 10 1 1) refl in
+    rw (image-reads 1 q refl refl (fit-sound q f) (fit-ok q f) refl)
