@@ -15,9 +15,10 @@ ghost use Rattle.queue.specs.Codec.{beC, optC};
 ghost use Rattle.queue.specs.Frames.{idC, labelC, termsC, placeC, bodyC, restK, recK, recC, limitsC, headK};
 ghost use Rattle.queue.specs.Reads.{Reads, Span, OptSpan, Counted, flagC};
 ghost use Rattle.queue.specs.Facts.{TagAt, MarkAt, NumAt, OptAt, PlaceAs, TermsAs, BodyAs, RestAs, SeenAs, LimAs, HeadAs};
-ghost use mathlib.Core.Bool.{false};
+ghost use mathlib.Core.Bool.{true, false};
 ghost use Rattle.queue.specs.paper.Sound.{labelLen};
 ghost use Rattle.queue.specs.paper.Kinds.{kind?};
+ghost use Rattle.queue.specs.Near.{Near};
 ghost use Rattle.queue.specs.View.{view};
 
 // Milliseconds.
@@ -558,17 +559,24 @@ fn rec_any(s: &[u8], form: Form, base: usize) -> Seen
     }
 }
 
-// A record of an area. Most are read the short way.
+// Can the record of an area at base be read the short way? Most can.
+fn is_near(s: &[u8], base: usize) -> bool
+    ensures { λ r. ⌜ (r ≡ true → Near (view false (now (s .entry)) base) 0 400 × (getD (view false (now (s .entry)) base) 0 0 ≡ 2)) ⌝ }
+{
+    if size(s, false, base) < 400 {
+        return false;
+    }
+    fetch(s, false, base, 0) == 2
+}
+
+// A record of an area.
 pub fn rec_at(s: &[u8], base: usize) -> Seen
     ensures { λ r. ⌜ Reads recC (view false (now (s .entry)) base) 0 (r .ok) (r .size) (SeenAs (view false (now (s .entry)) base) r) ⌝ }
 {
-    if size(s, false, base) < 400 {
-        return rec_any(s, AREA, base);
+    if is_near(s, base) {
+        return rec_near(s, base);
     }
-    if fetch(s, false, base, 0) != 2 {
-        return rec_any(s, AREA, base);
-    }
-    rec_near(s, base)
+    rec_any(s, AREA, base)
 }
 
 // A record in any form.
@@ -581,7 +589,10 @@ pub fn rec_in(s: &[u8], form: Form, base: usize) -> Seen
     if form.kind != NEWEST {
         return rec_any(s, form, base);
     }
-    rec_at(s, base)
+    if is_near(s, base) {
+        return rec_near(s, base);
+    }
+    rec_any(s, form, base)
 }
 
 pub fn limits_at(s: &[u8], hex: bool, base: usize, at: usize) -> Lim
