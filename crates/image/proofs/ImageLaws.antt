@@ -1,6 +1,6 @@
 -- Laws of the image: a text that is read, frames in the other form, and each exit of the calls. Assumes nothing.
 use mathlib.Core.Path.{_≡_, refl, ap, sym, _∙_}
-use mathlib.Core.Bool.{Bool, true, false, not}
+use mathlib.Core.Bool.{Bool, true, false}
 use mathlib.Core.Option.{some}
 use mathlib.Core.List.{List, [], _∷_, _++_}
 use Prim.Native.Nat.{ℕ, zero, suc, _+_, _-_, _*_, _≤_, _<_}
@@ -20,7 +20,7 @@ use Rattle.queue.specs.Frames.{Head, headK, headC, recK, recC}
 use Rattle.queue.specs.Reads.{Reads, whole, listAt, behind, isGot, valOf, restOf}
 use Rattle.queue.specs.ReadLaws.{false-true, Turn, none-left}
 use Rattle.queue.specs.View.{view, view-raw}
-use Rattle.queue.specs.Hex.{textOf, text-length}
+use Rattle.queue.specs.Hex.{text-length}
 use Rattle.queue.specs.Splice.{splice, be, Put}
 use Rattle.queue.specs.Forms.{formC, lineEnc, afterIn, Framed, turn-in, Store, headFor, headIn, recIn, storeIn, areaForm, textForm, framesC, framesEnc, store-length, storeOf, queueWith, queueC, form-raw, ok-queue}
 use Rattle.queue.specs.Kinds.{rec-enc, headTail, head-first}

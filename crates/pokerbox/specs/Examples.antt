@@ -16,7 +16,7 @@ use Rattle.queue.specs.paper.Area.{termsBytes, placeBytes}
 use Rattle.queue.specs.paper.Changing.{committed, moved, newRec, admit, finished, finishThose, forget, cancel, reconcile, touch, releases, touchedRecs, toRelease}
 use Rattle.queue.specs.paper.Calls.{number, items, entryBytes, idsBytes, releasedBytes, Call, admitting, cancelling, reconciling, work}
 use Rattle.pokerbox.specs.paper.Machine.{kept, failed, cutBefore, cutAfter, Lent, Step, call, cut, Told, run, Plain, restart, plainStep, World, worldStep}
-use Rattle.pokerbox.specs.paper.Claim.{Small, CallOk, movedLast, Holds, Claim}
+use Rattle.pokerbox.specs.paper.Claim.{Small, CallOk, movedLast, Holds, Image, Claim}
 use Rattle.pokerbox.specs.Runs.{imageCursor}
 use Rattle.pokerbox.specs.Theorem.{the-claim, imageRoom, RoomyOk, roomy, world}
 
@@ -148,7 +148,7 @@ range : inRange m ≡ true
 unfolding inRange
 range = refl
 
-pub holds : Holds m steps (run (worldStep m) began steps) (run (plainStep m) start steps)
+pub holds : Holds m none Image steps (run (worldStep m) began steps) (run (plainStep m) start steps)
 unfolding Claim
 holds = the-claim m (replicate 2184 0) none steps range other-room (roomy m steps range steps-ok)
 

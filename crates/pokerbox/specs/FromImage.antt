@@ -3,8 +3,8 @@
 use mathlib.Core.Path.{_≡_, refl, ap, sym, _∙_}
 use mathlib.Core.Bool.{Bool, true, false}
 use mathlib.Core.Option.{Option, none, some}
-use mathlib.Core.List.{List, [], _∷_, _++_}
-use Prim.Native.Nat.{ℕ, _+_, _*_, _≤_}
+use mathlib.Core.List.{List, [], _∷_}
+use Prim.Native.Nat.{ℕ}
 use native.Mathlib.Omega.{arith}
 use lib.ListN.{length, drop}
 use Rattle.queue.specs.declared.Kind.the-variants.{Nothing, Memory, Whole, Cursor}
@@ -12,16 +12,17 @@ use Rattle.queue.specs.declared.Answer.{Answer}
 use Rattle.queue.specs.declared.Answer.the-variants.{Refused, Done}
 use Rattle.queue.specs.ReadLaws.{false-true}
 use Rattle.queue.specs.Areas.{readImage}
-use Rattle.queue.specs.Sounds.{Fit, of-apart, of-range}
+use Rattle.queue.specs.Sounds.{Fit, of-range}
 use Rattle.queue.specs.Bound.{fit-image, opens-fit, reads-image}
 use Rattle.queue.specs.paper.Records.{Bytes, Limits, Queue}
-use Rattle.queue.specs.paper.Sound.{inRange, need}
+use Rattle.queue.specs.paper.Sound.{inRange}
 use Rattle.queue.specs.paper.Area.{areaBytes, imageBytes, over}
-use Rattle.queue.specs.paper.Calls.{Call, callOf, settleOf}
+use Rattle.queue.specs.paper.Calls.{callOf, settleOf}
 use Rattle.image.specs.paper.Image.{openOf}
-use Rattle.pokerbox.specs.paper.Machine.{Fate, kept, failed, cutBefore, cutAfter, Lent, Step, call, cut, Told, run, Plain, restart, plainStep, World, imageText, starts, restarted, settledIn, wroteBytes, settlingBytes, worldStep, tells}
-use Rattle.pokerbox.specs.paper.Claim.{StepsOk, movedLast, GoesOn, FromImage}
-use Rattle.pokerbox.specs.Runs.{images, StoredOk, starts-is, Inv, Same, restart-inv, run-same}
+use Rattle.pokerbox.specs.paper.Machine.{Fate, kept, failed, cutBefore, cutAfter, Lent, Step, call, cut, run, restart, plainStep, World, imageText, starts, restarted, wroteBytes, settlingBytes, worldStep, tells}
+use Rattle.pokerbox.specs.paper.Claim.{TextOr, FromImage}
+use Rattle.pokerbox.specs.Runs.{images, StoredOk, starts-is, restart-inv, run-same}
+use Rattle.pokerbox.specs.Theorem.{same-holds}
 
 -- ---- two worlds with the same area, whose first files are t and t′, or the same since a write
 pub record Twin (t t′ : Bytes) (w w′ : World) : Type 0 where
@@ -114,38 +115,6 @@ open-same : (t t′ : Bytes) → readImage t ≡ readImage t′ → (other : Byt
 unfolding openOf
 open-same t t′ e other = rw e
 
-goes : (m : Limits) (text : Bytes) (q : Queue) → Fit q → q .persisted ≡ q .cursor → inRange m ≡ true → (xs : List Step) (v v′ : List Told × World) (p : List Told × Plain)
-    → ((other : Bytes) → openOf text other ≡ openOf (imageBytes q) other)
-    → Alike text (imageBytes q) v v′ → Same m (movedLast m (restart m (some q)) false xs) p v′ → GoesOn m text q xs v p
-unfolding over
-goes m text q fit lev range xs v v′ p sam k s =
-    let i = s .inv in
-    let r = s .rep in
-    let n = ap (λ (k : Limits). 2 * k .P) (i .limits) in
-    let b = ap (λ (k : Limits). 2 * k .B) (i .limits) in
-    let t = ap (λ (k : Limits). k .T) (i .limits) in
-    let c = i .tied in
-    let f = i .fit .sound in
-    record {
-      answers = k .told ∙ s .told;
-      later = r .later;
-      queue = k .twin .area ∙ r .area;
-      unwritten = k .twin .unwritten;
-      before = λ e. let z = k .twin .before e in (z .0, one-queue m q fit lev (p .1 .stored) (i .stored) (sym (z .1) ∙ r .file));
-      since = λ e. k .twin .since e ∙ r .file;
-      opening = λ other h. (
-        drop (length (areaBytes (restart m (p .1 .stored) .queue))) other,
-        twin-starts m text (imageBytes q) sam (v .1) (v′ .1) (k .twin) other ∙ ap (λ z. starts m z other) (r .file) ∙ starts-is m (p .1 .stored) other range (i .stored) h,
-      );
-      records = i .recs;
-      limits = i .limits;
-      apart = of-apart (p .1 .queue .recs) (f .apart);
-      holders = let z = f .fewHolders in omega arith;
-      bytes = let z = f .fewBytes in omega arith;
-      tombstones = let z = f .fewTombs in omega arith;
-      cursor = λ e. let z = i .close e in omega arith;
-    }
-
 pub from-image : FromImage
 unfolding FromImage over starts
 from-image m text q first second xs read lim room ok =
@@ -160,4 +129,11 @@ from-image m text q first second xs read lim room ok =
     let k = run-twin m text t′ sam xs w w′ (record { area = ap (λ z. z .1) (sam first); unwritten = true; before = λ z. (refl, refl); since = λ z. false-true (sym z) }) in
     let s = run-same m range xs false (restart m (some q)) w′ (restart-inv m false (some q) range st)
     (record { later = drop (length (areaBytes (restart m (some q) .queue))) first; area = ap (λ z. z .1) (starts-is m (some q) first range st room); file = refl }) ok in
-    goes m text q fit lev range xs (run (worldStep m) w xs) (run (worldStep m) w′ xs) (run (plainStep m) (restart m (some q)) xs) sam k s
+    let r = s .rep in
+    same-holds m (some q) (TextOr text q) xs (run (worldStep m) w xs .0) (run (worldStep m) w xs .1) (run (worldStep m) w′ xs .1) (run (plainStep m) (restart m (some q)) xs) range
+    (record { told = k .told ∙ s .told; inv = s .inv; rep = r }) (k .twin .area) (twin-starts m text t′ sam (run (worldStep m) w xs .1) (run (worldStep m) w′ xs .1) (k .twin))
+    (record {
+      unwritten = k .twin .unwritten;
+      before = λ e. let z = k .twin .before e in (z .0, one-queue m q fit lev (run (plainStep m) (restart m (some q)) xs .1 .stored) (s .inv .stored) (sym (z .1) ∙ r .file));
+      since = λ e. k .twin .since e ∙ r .file;
+    })

@@ -1,6 +1,6 @@
 -- What a node lends by the numbers that it was given is enough: neither a fresh queue nor opening is then refused by 2. And the
 -- limits of an image are those of its queue. Assumes nothing.
-use mathlib.Core.Path.{_≡_, refl, sym, _∙_}
+use mathlib.Core.Path.{_≡_, refl}
 use mathlib.Core.Bool.{Bool, true, false}
 use mathlib.Core.Option.{Option, none, some}
 use Prim.Native.Nat.{ℕ, _≤_}

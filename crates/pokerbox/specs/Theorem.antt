@@ -38,15 +38,17 @@ use Rattle.queue.specs.paper.Parents.{parentsFirstAt, parentsFirstOf, waitsFor?
 use Rattle.queue.specs.parents.Laws.{inside-pairwise}
 use Rattle.queue.specs.parents.Claims.{selected-differ, selected-once, such, parents-first}
 use Rattle.pokerbox.specs.paper.Machine.{Step, call, cut, Told, run, Plain, restart, plainStep, World, worldStep, starts}
-use Rattle.pokerbox.specs.paper.Claim.{CallOk, StepOk, StepsOk, mover, movedBy, movedLast, Holds, Claim, Template, Templates, BestSet, BestSets, Ordered, OrderedLists, OnePasses}
+use Rattle.pokerbox.specs.paper.Claim.{CallOk, StepOk, StepsOk, mover, movedBy, movedLast, Holds, Image, Claim, Template, Templates, BestSet, BestSets, Ordered, OrderedLists, OnePasses}
 use Rattle.pokerbox.specs.Answers.{Good, work-good}
 use Rattle.pokerbox.specs.Runs.{image-room, fresh-is, starts-is, Inv, Same, restart-inv, step-same, run-same, images, TextOk}
 
--- what holds between steps is what is claimed
-same-holds : (m : Limits) (xs : List Step) (v : List Told × World) (p : List Told × Plain) → inRange m ≡ true
-    → Same m (movedLast m (restart m none) false xs) p v → Holds m xs v p
+-- What holds between steps is what is claimed; of a world w that stands beside w′, with the same area and a first file that opens
+-- alike.
+pub same-holds : (m : Limits) (o : Option Queue) (File : Option Bytes → Option Queue → Type 0) (xs : List Step) (told : List Told) (w w′ : World) (p : List Told × Plain) → inRange m ≡ true
+    → Same m (movedLast m (restart m o) false xs) p (told, w′) → w .area ≡ w′ .area → ((other : Bytes) → starts m (w .file) other ≡ starts m (w′ .file) other) → File (w .file) (p .1 .stored)
+    → Holds m o File xs (told, w) p
 unfolding over
-same-holds m xs v p range s =
+same-holds m o File xs told w w′ p range s same alike file =
     let i = s .inv in
     let r = s .rep in
     let n = ap (λ (k : Limits). 2 * k .P) (i .limits) in
@@ -57,9 +59,9 @@ same-holds m xs v p range s =
     record {
       answers = s .told;
       later = r .later;
-      queue = r .area;
-      file = r .file;
-      opening = λ other h. (drop (length (areaBytes (restart m (p .1 .stored) .queue))) other, ap (λ z. starts m z other) (r .file) ∙ starts-is m (p .1 .stored) other range (i .stored) h);
+      queue = same ∙ r .area;
+      file = file;
+      opening = λ other h. (drop (length (areaBytes (restart m (p .1 .stored) .queue))) other, alike other ∙ ap (λ z. starts m z other) (r .file) ∙ starts-is m (p .1 .stored) other range (i .stored) h);
       records = i .recs;
       limits = i .limits;
       apart = of-apart (p .1 .queue .recs) (f .apart);
@@ -82,7 +84,10 @@ all-same m first second xs range room ok = run-same m range xs false (restart m 
 
 pub the-claim : Claim
 unfolding Claim
-the-claim m first second xs range room ok = same-holds m xs _ _ range (all-same m first second xs range room ok)
+the-claim m first second xs range room ok =
+    let s = all-same m first second xs range room ok in
+    let w = run (worldStep m) (world m first second) xs .1 in
+    same-holds m none Image xs (run (worldStep m) (world m first second) xs .0) w w (run (plainStep m) (restart m none) xs) range s refl (λ other. refl) (s .rep .file)
 
 -- ---- what a selection answers
 

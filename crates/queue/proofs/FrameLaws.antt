@@ -13,8 +13,8 @@ use lib.Seq.{drop-cons, take-at}
 use borrow.Author.Tests.{lt-ltb, eq-eqb, ne-eqb}
 use Rattle.queue.specs.Codec.{Bytes, Got, fail, got, _>>=_, Codec, cases, byteC, be, beDec, beC, pairDec, pairC, mapC, optEnc, optC, decs, vecC, countedC, encs, vec-bwd}
 use Rattle.queue.specs.paper.Records.{Id, Limits, Terms, Held, Rec}
-use Rattle.queue.specs.Frames.{tagC, tagDec, idC, labelC, termsC, termsOf, termsTuple, heldC, heldOf, heldTuple, bodyC, placeC, markC, restK, recK, recOf, recTuple, limitsC, Head, headK, headOf, headTuple}
-use Rattle.queue.specs.Choice.{pickC, guardDec, guardC}
+use Rattle.queue.specs.Frames.{tagC, tagDec, idC, labelC, termsC, termsOf, termsTuple, heldC, heldOf, heldTuple, bodyC, placeC, markSince, markC, restK, recK, recOf, recTuple, limitsC, Head, headK, headOf, headTuple}
+use Rattle.queue.specs.Choice.{guardDec, guardC}
 use Rattle.queue.specs.Kinds.{mark-enc, mark-up}
 use Rattle.queue.specs.Ids.{part}
 use Rattle.queue.specs.Lists.{and-true}
@@ -331,7 +331,7 @@ mark-size k m h = rw (mark-enc k m) (spans-be 1 .size m (mark-up k m h))
 pub mark-read : (k : ℕ) {s : Bytes} {at next v : ℕ} {ok ok′ said : Bool} → NumAt 1 s at ok next v → said ≡ markSaid? k v → ok′ ≡ (ok && said) → MarkAt k s at ok′ next v
 mark-read k {s} {at} {next} {v} {ok} x e f = (ok-as (f ∙ rw e) (go (hasMark3 k)), x .1)
   where
-    go : (since : Bool) → Reads (pickC since (beC 1) (guardC (λ m. not (eqb m 3)) (beC 1))) s at (ok && (since || not (eqb v 3))) next (λ m. m ≡ v)
+    go : (since : Bool) → Reads (markSince since) s at (ok && (since || not (eqb v 3))) next (λ m. m ≡ v)
     go true = ok-as (and-r ok) (x .0)
     go false = guarded (λ m. not (eqb m 3)) (λ m. m ≡ v) (not (eqb v 3)) (λ m w. rw w) (x .0)
 

@@ -1,13 +1,13 @@
 -- One law for every loop over encoded values. F st l is what the loop has still to work out, from the state st on over l. Assumes nothing.
 use mathlib.Core.Path.{_≡_, refl, ap, sym, _∙_}
-use mathlib.Core.Bool.{Bool, true, false}
-use mathlib.Core.List.{List, [], _∷_, _++_}
-use Prim.Native.Nat.{ℕ, zero, suc, _+_, _-_, _*_, _≤_, _<_}
-use lib.ListN.{length, drop}
+use mathlib.Core.Bool.{Bool, true}
+use mathlib.Core.List.{List, [], _∷_}
+use Prim.Native.Nat.{ℕ, _-_, _≤_, _<_}
+use lib.ListN.{length}
 use native.Mathlib.Omega.{arith}
 use native.Mathlib.Nat.{le-refl}
 use Rattle.queue.specs.Codec.{Bytes, Codec}
-use Rattle.queue.specs.Reads.{Reads, whole, listAt, behind}
+use Rattle.queue.specs.Reads.{Reads, whole, listAt}
 use Rattle.queue.specs.ReadLaws.{Turn, turn, none-left}
 use Rattle.queue.specs.Frames.{recK, recC}
 use Rattle.queue.specs.Forms.{formC, afterIn, Framed, turn-in, recIn}

@@ -3,7 +3,7 @@ use mathlib.Core.Path.{_≡_, refl, ap, sym, _∙_}
 use mathlib.Core.Bool.{Bool, true, false, cond, _&&_}
 use mathlib.Core.Option.{Option, none, some}
 use mathlib.Core.List.{[], _∷_, _++_, append-assoc, append-nil}
-use Prim.Native.Nat.{ℕ, zero, suc, _+_, _*_, _-_, _≤_}
+use Prim.Native.Nat.{ℕ, zero, suc, _+_, _-_, _≤_}
 use native.Mathlib.Omega.{arith}
 use lib.Dec.{ltb, leb, eqb}
 use lib.ListN.{length, take, drop, getD, replicate, take-append-drop, length-append, length-drop, length-replicate}
@@ -18,7 +18,7 @@ use Rattle.queue.specs.View.{pairs, view}
 use Rattle.queue.specs.Frames.{headK}
 use Rattle.queue.specs.Forms.{Store, headFor, lineEnc, recIn, storeIn, areaForm, textForm, queueC, storeOf, queueWith, image-enc, store-ok, ok-store, queue-ok, ok-queue, head-cursor}
 use Rattle.queue.specs.Kinds.{recs-up, queue-said, said-queue, head-first, head-up, head-down, kind-byte}
-use Rattle.queue.specs.paper.Records.{Bytes, Limits, Queue}
+use Rattle.queue.specs.paper.Records.{Bytes, Queue}
 use Rattle.queue.specs.paper.Sound.{sound?, need}
 use Rattle.queue.specs.paper.Kinds.{kind?, says?}
 

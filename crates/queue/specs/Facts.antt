@@ -1,19 +1,16 @@
 -- What the rules look at in a record, and how what was read stands to the record or the header.
-use mathlib.Core.Path.{_≡_, refl}
-use mathlib.Core.Bool.{Bool, true, false, cond, not, _&&_}
+use mathlib.Core.Path.{_≡_}
+use mathlib.Core.Bool.{Bool, true}
 use mathlib.Core.Option.{Option, none, some}
-use mathlib.Core.List.{List, [], _∷_, _++_}
-use Prim.Native.Nat.{ℕ, zero, suc, _+_, _*_, _^_, _≤_, _<_}
+use mathlib.Core.List.{_++_}
+use Prim.Native.Nat.{ℕ, _+_, _^_, _≤_, _<_}
 use lib.ListN.{length, take, drop}
-use Rattle.queue.specs.Codec.{Codec, beC, optC}
+use Rattle.queue.specs.Codec.{beC, optC}
 use Rattle.queue.specs.paper.Records.{Bytes, Id, Limits, Terms, Held, Rec}
 use Rattle.queue.specs.paper.Lists.{isSome}
 use Rattle.queue.specs.paper.Sound.{labelLen, inputs, outputs, content}
 use Rattle.queue.specs.Frames.{Head, tagC, markC, idC, termsC, placeC, bodyC, limitsC}
 use Rattle.queue.specs.Reads.{Reads, whole, listAt}
-use Rattle.queue.specs.declared.frame.Time.{Time}
-use Rattle.queue.specs.declared.frame.Height.{Height}
-use Rattle.queue.specs.declared.frame.Finish.{Finish}
 use Rattle.queue.specs.declared.frame.TermsR.{TermsR}
 use Rattle.queue.specs.declared.frame.PlaceR.{PlaceR}
 use Rattle.queue.specs.declared.frame.BodyR.{BodyR}

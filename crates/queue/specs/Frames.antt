@@ -1,13 +1,13 @@
 -- The frames of document 01's image and of the area as codecs, each under a header kind: a header, a record.
-use mathlib.Core.Path.{_≡_, refl, ap}
-use mathlib.Core.Bool.{Bool, true, false, cond, not, _&&_}
-use mathlib.Core.Option.{Option, none, some}
+use mathlib.Core.Path.{_≡_, refl}
+use mathlib.Core.Bool.{Bool, cond, not, _&&_}
+use mathlib.Core.Option.{Option}
 use mathlib.Core.List.{List, [], _∷_, _++_}
-use Prim.Native.Nat.{ℕ, zero, suc, _+_, _*_, _^_, _≤_, _<_}
+use Prim.Native.Nat.{ℕ, _+_, _<_}
 use native.Mathlib.Omega.{arith}
 use lib.Dec.{ltb, eqb}
 use borrow.Author.Tests.{lt-ltb, ltb-true, eqb-true, eq-eqb}
-use Rattle.queue.specs.Codec.{Got, fail, got, _>>=_, no-got, if-got, Codec, byteC, beC, pairC, mapC, optC, vecC, countedC}
+use Rattle.queue.specs.Codec.{Got, fail, got, no-got, if-got, Codec, byteC, beC, pairC, mapC, optC, vecC, countedC}
 use Rattle.queue.specs.Choice.{pickC, guardC}
 use Rattle.queue.specs.Lists.{and-true}
 use Rattle.queue.specs.paper.Records.{Bytes, Id, Limits, Terms, Held, Rec}
@@ -91,8 +91,11 @@ abbrev pub recTuple : Rec → RecT
 recTuple r = (tt, (r .id, (r .state, (r .reason, (r .terms, (r .place, (r .mark, (r .finish, r .body))))))))
 
 -- every mark since kind 03, before it all but 3
+abbrev pub markSince : Bool → Codec ℕ
+markSince since = pickC since (beC 1) (guardC (λ m. not (eqb m 3)) (beC 1))
+
 abbrev pub markC : ℕ → Codec ℕ
-markC k = pickC (hasMark3 k) (beC 1) (guardC (λ m. not (eqb m 3)) (beC 1))
+markC k = markSince (hasMark3 k)
 
 -- what stands behind the terms: mined place, withdrawn mark, finish number, holder
 abbrev pub restK : ℕ → Codec (Option (ℕ × Id) × (ℕ × (ℕ × Option Held)))

@@ -1,10 +1,10 @@
 -- The front of an area as it is written: the persisted height and the header.
-use mathlib.Core.Bool.{Bool, true, false, cond}
+use mathlib.Core.Bool.{Bool, cond}
 use mathlib.Core.Option.{Option, none, some}
 use mathlib.Core.List.{List, [], _∷_, _++_}
 use Prim.Native.Nat.{ℕ, _<_}
 use Rattle.queue.specs.Splice as split
-use Rattle.queue.specs.Codec.{Codec, be, optC}
+use Rattle.queue.specs.Codec.{be, optC}
 use Rattle.queue.specs.Frames.{Head, idC, limitsC, headC}
 use Rattle.queue.specs.paper.Records.{Bytes, Id, Limits, Rec, Queue}
 use Rattle.queue.specs.paper.Kinds.{newest}

@@ -1,39 +1,36 @@
 -- What is read under an older kind stands under the newest, with the same record; what an older kind can say stands under it.
-use mathlib.Core.Path.{_≡_, refl, ap, _∙_}
-use mathlib.Core.Bool.{Bool, true, false, not, _&&_, _||_}
+use mathlib.Core.Path.{_≡_, refl}
+use mathlib.Core.Bool.{Bool, true, false, not, _||_}
 use mathlib.Core.List.{List, [], _∷_, _++_}
 use Prim.Native.Nat.{ℕ, _<_}
 use native.Mathlib.Omega.{arith}
 use lib.Dec.{eqb}
 use borrow.Author.Tests.{eqb-true}
-use Rattle.queue.specs.Codec.{All, Codec, beC, pairC, mapC, optC}
-use Rattle.queue.specs.Choice.{pickC, guardC}
-use Rattle.queue.specs.Frames.{Head, tagC, idC, limitsC, markC, recK, headK, recC, headC}
+use Rattle.queue.specs.Codec.{All, beC, pairC, mapC, optC}
+use Rattle.queue.specs.Choice.{guardC}
+use Rattle.queue.specs.Frames.{Head, tagC, idC, limitsC, markSince, markC, recK, headK, recC, headC}
 use Rattle.queue.specs.Lists.{and-true, and-both}
 use Rattle.queue.specs.paper.Records.{Bytes, Rec, Queue}
 use Rattle.queue.specs.paper.Lists.{all?}
 use Rattle.queue.specs.paper.Kinds.{newest, kind?, hasMark3, markSaid?, says?}
 
 -- ---- the withdrawn mark; since: whether the kind has mark 3
-abbrev marks : Bool → Codec ℕ
-marks since = pickC since (beC 1) (guardC (λ m. not (eqb m 3)) (beC 1))
-
-marks-enc : (since : Bool) (m : ℕ) → marks since .enc m ≡ beC 1 .enc m
+marks-enc : (since : Bool) (m : ℕ) → markSince since .enc m ≡ beC 1 .enc m
 unfolding guardC
 marks-enc true m = refl
 marks-enc false m = refl
 
-marks-up : (since : Bool) (m : ℕ) → marks since .ok m → beC 1 .ok m
+marks-up : (since : Bool) (m : ℕ) → markSince since .ok m → beC 1 .ok m
 unfolding guardC
 marks-up true m h = h
 marks-up false m h = h .0
 
-marks-said : (since : Bool) (m : ℕ) → marks since .ok m → (since || not (eqb m 3)) ≡ true
+marks-said : (since : Bool) (m : ℕ) → markSince since .ok m → (since || not (eqb m 3)) ≡ true
 unfolding guardC
 marks-said true m h = refl
 marks-said false m h = h .1
 
-marks-down : (since : Bool) (m : ℕ) → (since || not (eqb m 3)) ≡ true → beC 1 .ok m → marks since .ok m
+marks-down : (since : Bool) (m : ℕ) → (since || not (eqb m 3)) ≡ true → beC 1 .ok m → markSince since .ok m
 unfolding guardC
 marks-down true m s h = h
 marks-down false m s h = (h, s)

@@ -1,12 +1,11 @@
 -- What a queue that was read from bytes or from a text says of the queue.
 use mathlib.Core.Path.{_≡_, refl}
-use mathlib.Core.Bool.{Bool, true, false, cond, not, _&&_}
-use mathlib.Core.Option.{Option, none, some}
-use mathlib.Core.List.{List, [], _∷_, _++_}
-use Prim.Native.Nat.{ℕ, _+_, _*_, _-_, _≤_, _<_}
+use mathlib.Core.Bool.{Bool, true, false, _&&_}
+use mathlib.Core.Option.{none, some}
+use mathlib.Core.List.{List}
+use Prim.Native.Nat.{ℕ, _-_, _≤_}
 use lib.Dec.{leb}
 use lib.ListN.{length, take, drop}
-use Rattle.queue.specs.Codec.{Codec}
 use Rattle.queue.specs.Frames.{headK, recC}
 use Rattle.queue.specs.Reads.{whole, listAt, behind}
 use Rattle.queue.specs.View.{view}

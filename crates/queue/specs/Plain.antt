@@ -1,13 +1,11 @@
 -- The encoding that document 01 and docs/AREA.md say in plain words is that of the codecs.
 use mathlib.Core.Path.{_≡_, refl, ap, _∙_}
-use mathlib.Core.Bool.{true}
 use mathlib.Core.Option.{Option, none, some}
 use mathlib.Core.List.{List, [], _∷_, _++_}
 use Prim.Native.Nat.{ℕ}
 use lib.ListN.{length}
 use Rattle.queue.specs.Codec.{Codec, be, byteC, beC, pairC, mapC, optC, optEnc, vecC, countedC, encs}
-use Rattle.queue.specs.Frames.{tagC, idC, labelC, termsC, heldC, bodyC, placeC, recK, recC, limitsC, headK, headC}
-use Rattle.queue.specs.Hex.{textOf}
+use Rattle.queue.specs.Frames.{tagC, idC, labelC, termsC, heldC, bodyC, placeC, recK, recC, limitsC, headK}
 use Rattle.queue.specs.Forms.{headFor, storeOf, formC, lineEnc, recIn, textForm, queueC, queue-enc, image-enc}
 use Rattle.queue.specs.Kinds.{rec-enc}
 use Rattle.queue.specs.Areas.{layout, image}

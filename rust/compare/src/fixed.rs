@@ -528,22 +528,11 @@ fn rolled_back_twice(fixed: &mut Fixed, folder: &Path) -> Result<(), String> {
     Ok(())
 }
 
-/// An admission with nothing beside the id.
+/// An admission with nothing beside the id, at height 5.
 fn plain(id: Id) -> Admission {
     Admission {
-        id,
-        inputs: Vec::new(),
-        outputs: Vec::new(),
-        signed: Vec::new(),
-        now: TimeMs(5),
-        time_deadline: None,
-        height_deadline: None,
-        priority: 0,
-        label: None,
-        fee: 1,
-        cost: 1,
         tip_height: Height(5),
-        tip: None,
+        ..Admission::plain(id)
     }
 }
 

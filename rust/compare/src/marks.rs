@@ -119,7 +119,7 @@ fn find<'a>(records: &'a [Record], record: &Record) -> Option<&'a Record> {
 
 #[cfg(test)]
 mod tests {
-    use model::{Confirmation, FinishNumber, Height, Holder, Limits, TimeMs};
+    use model::{Confirmation, FinishNumber, Height, Holder, Limits};
 
     use super::*;
 
@@ -133,21 +133,9 @@ mod tests {
             block: [7; 32],
         };
         Record {
-            id,
-            state,
-            reason,
-            created: TimeMs(5),
-            time_deadline: None,
-            height_deadline: None,
-            priority: 0,
-            label: None,
-            fee: 0,
-            size: 0,
-            cost: 0,
             mined: (state == State::Mined).then_some(found),
             withdrawn,
-            finish: FinishNumber(1),
-            holder: None,
+            ..Record::tombstone(id, state, reason)
         }
     }
 

@@ -88,21 +88,7 @@ mod tests {
     const B: Id = [0x0b; 32];
 
     fn admission(id: Id) -> Call {
-        Call::Admit(Admission {
-            id,
-            inputs: Vec::new(),
-            outputs: Vec::new(),
-            signed: Vec::new(),
-            now: TimeMs(5),
-            time_deadline: None,
-            height_deadline: None,
-            priority: 0,
-            label: None,
-            fee: 0,
-            cost: 0,
-            tip_height: Height(9),
-            tip: None,
-        })
+        Call::Admit(Admission::plain(id))
     }
 
     fn confirmation(id: Id) -> Call {

@@ -90,19 +90,9 @@ impl Cards {
 
 fn admission(id: Id, input: u8, signed: usize) -> Admission {
     Admission {
-        id,
         inputs: vec![[input; 32]],
-        outputs: Vec::new(),
         signed: vec![1; signed],
-        now: TimeMs(5),
-        time_deadline: None,
-        height_deadline: None,
-        priority: 0,
-        label: None,
-        fee: 1,
-        cost: 1,
-        tip_height: Height(1),
-        tip: None,
+        ..Admission::plain(id)
     }
 }
 

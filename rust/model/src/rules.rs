@@ -55,6 +55,27 @@ pub struct Admission {
     pub tip: Option<Id>,
 }
 
+impl Admission {
+    /// Of this id at time 5 and height 1, with nothing beside it.
+    pub fn plain(id: Id) -> Self {
+        Self {
+            id,
+            inputs: Vec::new(),
+            outputs: Vec::new(),
+            signed: Vec::new(),
+            now: TimeMs(5),
+            time_deadline: None,
+            height_deadline: None,
+            priority: 0,
+            label: None,
+            fee: 1,
+            cost: 1,
+            tip_height: Height(1),
+            tip: None,
+        }
+    }
+}
+
 /// Admission: checks 7, 8, 9; a pending or Mined id then gives its old record, kind 0; then 10,
 /// 11, 12. The answer is the record.
 pub fn admit(queue: &Queue, given: &Admission) -> Result<Change<Record>, Refusal> {

@@ -189,6 +189,27 @@ pub struct Record {
 }
 
 impl Record {
+    /// A tombstone with finish number 1, and with nothing beside what is given.
+    pub fn tombstone(id: Id, state: State, reason: Reason) -> Self {
+        Self {
+            id,
+            state,
+            reason,
+            created: TimeMs(5),
+            time_deadline: None,
+            height_deadline: None,
+            priority: 0,
+            label: None,
+            fee: 1,
+            size: 3,
+            cost: 1,
+            mined: None,
+            withdrawn: Withdrawn::No,
+            finish: FinishNumber(1),
+            holder: None,
+        }
+    }
+
     /// The input ids; a tombstone has none.
     pub fn inputs(&self) -> &[Id] {
         self.holder.as_ref().map_or(&[], |holder| &holder.inputs)

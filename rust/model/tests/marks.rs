@@ -5,8 +5,7 @@ use std::collections::{BTreeMap, BTreeSet};
 use model::random::{self, Rng};
 use model::rules::{admit, cancel, reconcile, reopen, Admission, Kind, Reconciliation};
 use model::{
-    Confirmation, FinishNumber, Height, Holder, Id, Limits, Queue, Reason, Record, State, TimeMs,
-    Withdrawn,
+    Confirmation, FinishNumber, Height, Holder, Id, Limits, Queue, Reason, Record, State, Withdrawn,
 };
 
 const ID: Id = [0x0a; 32];
@@ -15,23 +14,7 @@ const WIDE: u32 = 100;
 
 /// Cancelled, or Expired by one of the two reasons.
 fn tombstone(state: State, reason: Reason) -> Record {
-    Record {
-        id: ID,
-        state,
-        reason,
-        created: TimeMs(5),
-        time_deadline: None,
-        height_deadline: None,
-        priority: 0,
-        label: None,
-        fee: 1,
-        size: 3,
-        cost: 1,
-        mined: None,
-        withdrawn: Withdrawn::No,
-        finish: FinishNumber(1),
-        holder: None,
-    }
+    Record::tombstone(ID, state, reason)
 }
 
 /// P 2, B 10, T 1, K 1.
@@ -134,19 +117,9 @@ fn without_a_mark_a_tombstone_comes_back_with_reason_3_and_a_holder_queued() {
 #[test]
 fn a_released_confirmation_rolled_back_twice_has_no_deadline_as_its_reason() {
     let admission = Admission {
-        id: ID,
         inputs: vec![[1; 32]],
-        outputs: Vec::new(),
         signed: vec![1; 3],
-        now: TimeMs(5),
-        time_deadline: None,
-        height_deadline: None,
-        priority: 0,
-        label: None,
-        fee: 1,
-        cost: 1,
-        tip_height: Height(1),
-        tip: None,
+        ..Admission::plain(ID)
     };
     let admitted = admit(&Queue::fresh(limits()), &admission).expect("admitted");
     let released = reconcile(&admitted.next, &given(2, 0)).expect("not refused");

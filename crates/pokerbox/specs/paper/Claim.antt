@@ -88,14 +88,14 @@ movedLast m p old (x ∷ xs) = movedLast m (plainStep m p x .1) (movedBy p old x
 
 -- ---- the claim
 
--- After a list of steps, on bytes and files (v) and on the plain machine (p): "All answers and the queue equal those of document
--- 01's plain machine, fed the same"; the first file is "byte for byte the image of the machine's stored queue, or absent"; and
--- the bounds. Nothing is claimed of the second file.
-pub record Holds (m : Limits) (xs : List Step) (v : List Told × World) (p : List Told × Plain) : Type 0 where
+-- After a list of steps, on bytes and files (v) and on the plain machine (p), which began with o stored: "All answers and the queue
+-- equal those of document 01's plain machine, fed the same"; what the first file is to the machine's stored queue; and the bounds.
+-- Nothing is claimed of the second file.
+pub record Holds (m : Limits) (o : Option Queue) (File : Option Bytes → Option Queue → Type 0) (xs : List Step) (v : List Told × World) (p : List Told × Plain) : Type 0 where
   pub answers : v .0 ≡ p .0
   pub later : Bytes
   pub queue : v .1 .area ≡ areaBytes (p .1 .queue) ++ later
-  pub file : v .1 .file ≡ maybe none (λ q. some (imageBytes q)) (p .1 .stored)
+  pub file : File (v .1 .file) (p .1 .stored)
   -- "Opening what is stored, or starting fresh where nothing is, gives exactly the records of that machine's queue"
   pub opening : (other : Bytes) → need m ≤ length other → (rest : Bytes) × (starts m (v .1 .file) other ≡ (Done Nothing, areaBytes (restart m (p .1 .stored) .queue) ++ rest))
   pub records : restart m (p .1 .stored) .queue .recs ≡ p .1 .queue .recs
@@ -107,7 +107,7 @@ pub record Holds (m : Limits) (xs : List Step) (v : List Told × World) (p : Lis
   pub holders : holders (p .1 .queue .recs) ≤ 2 * m .P
   pub bytes : holderBytes (p .1 .queue .recs) ≤ 2 * m .B
   pub tombstones : tombstones (p .1 .queue .recs) ≤ m .T
-  pub cursor : movedLast m (restart m none) false xs ≡ true → p .1 .queue .cursor ≤ maybe 0 (λ q. q .cursor) (p .1 .stored) + 31
+  pub cursor : movedLast m (restart m o) false xs ≡ true → p .1 .queue .cursor ≤ maybe 0 (λ q. q .cursor) (p .1 .stored) + 31
 
 -- "The queue starts fresh, under any limits in range, with nothing stored": the area, and no first file; the second may hold
 -- anything. "For every list .." (every list, so every first part of one: the claim holds after each call and each cut)
@@ -115,31 +115,24 @@ abbrev pub Always : (Limits → List Step → List Told × World → List Told �
 Always C = (m : Limits) (first : Bytes) (second : Option Bytes) (xs : List Step) → inRange m ≡ true → need m ≤ length first → StepsOk m (restart m none) xs
     → C m xs (run (worldStep m) (record { area = freshOf m first .1; file = none; second = second }) xs) (run (plainStep m) (restart m none) xs)
 
-unfoldable pub Claim : Type 0
-Claim = Always Holds
+-- The first file is "byte for byte the image of the machine's stored queue, or absent".
+abbrev pub Image : Option Bytes → Option Queue → Type 0
+Image file stored = file ≡ maybe none (λ q. some (imageBytes q)) stored
 
--- Document 02, P4: "those of kind 01 open with every value unchanged". A unit that starts from an image, of whatever kind, goes on
--- as the plain machine with its queue stored. The first file is that text until a write replaces it, and then as above.
-pub record GoesOn (m : Limits) (text : Bytes) (q : Queue) (xs : List Step) (v : List Told × World) (p : List Told × Plain) : Type 0 where
-  pub answers : v .0 ≡ p .0
-  pub later : Bytes
-  pub queue : v .1 .area ≡ areaBytes (p .1 .queue) ++ later
+unfoldable pub Claim : Type 0
+Claim = Always λ m xs v p. Holds m none Image xs v p
+
+-- Document 02, P4: "those of kind 01 open with every value unchanged". A unit that starts from a text which opens as q, of whatever
+-- kind, goes on as the plain machine with q stored. Its first file is that text until a write replaces it, and then as above.
+pub record TextOr (text : Bytes) (q : Queue) (file : Option Bytes) (stored : Option Queue) : Type 0 where
   pub unwritten : Bool
-  pub before : unwritten ≡ true → (v .1 .file ≡ some text) × (p .1 .stored ≡ some q)
-  pub since : unwritten ≡ false → v .1 .file ≡ maybe none (λ q. some (imageBytes q)) (p .1 .stored)
-  pub opening : (other : Bytes) → need m ≤ length other → (rest : Bytes) × (starts m (v .1 .file) other ≡ (Done Nothing, areaBytes (restart m (p .1 .stored) .queue) ++ rest))
-  pub records : restart m (p .1 .stored) .queue .recs ≡ p .1 .queue .recs
-  pub limits : p .1 .queue .limits ≡ m
-  pub apart : apart? (p .1 .queue .recs) ≡ true
-  pub holders : holders (p .1 .queue .recs) ≤ 2 * m .P
-  pub bytes : holderBytes (p .1 .queue .recs) ≤ 2 * m .B
-  pub tombstones : tombstones (p .1 .queue .recs) ≤ m .T
-  pub cursor : movedLast m (restart m (some q)) false xs ≡ true → p .1 .queue .cursor ≤ maybe 0 (λ q. q .cursor) (p .1 .stored) + 31
+  pub before : unwritten ≡ true → (file ≡ some text) × (stored ≡ some q)
+  pub since : unwritten ≡ false → Image file stored
 
 unfoldable pub FromImage : Type 0
 FromImage = (m : Limits) (text : Bytes) (q : Queue) (first : Bytes) (second : Option Bytes) (xs : List Step)
     → readImage text ≡ some q → q .limits ≡ m → need m ≤ length first → StepsOk m (restart m (some q)) xs
-    → GoesOn m text q xs (run (worldStep m) (record { area = openOf text first .1; file = some text; second = second }) xs) (run (plainStep m) (restart m (some q)) xs)
+    → Holds m (some q) (TextOr text q) xs (run (worldStep m) (record { area = openOf text first .1; file = some text; second = second }) xs) (run (plainStep m) (restart m (some q)) xs)
 
 -- ---- "An input spent twice in a template voids the block, and the reward goes to another pool."
 

@@ -1,9 +1,9 @@
 -- Document 01, "Image", and docs/AREA.md: the bytes of a sound queue in an area, and its image. Numbers are big-endian.
 use mathlib.Core.Option.{Option}
-use mathlib.Core.List.{List, [], _∷_, _++_}
+use mathlib.Core.List.{[], _∷_, _++_}
 use Prim.Native.Nat.{ℕ, _+_, _-_, _*_, _^_}
 use lib.ListN.{length, drop, replicate}
-use Rattle.queue.specs.paper.Records.{Bytes, Id, Limits, Terms, Held, Rec, Queue}
+use Rattle.queue.specs.paper.Records.{Bytes, Id, Terms, Held, Rec, Queue}
 use Rattle.queue.specs.paper.Lists.{maybe, map, concat}
 use Rattle.queue.specs.paper.Sound.{need}
 use Rattle.queue.specs.paper.Kinds.{newest}
