@@ -7,7 +7,7 @@ use Prim.Native.Nat.{ℕ, zero, suc, _+_, _-_, _*_, _/_, _%_, _^_, _≤_, _<_}
 use native.Mathlib.Omega.{arith}
 use lib.Dec.{ltb, leb, eqb}
 use lib.ListN.{length, drop, take}
-use borrow.Author.Tests.{lt-ltb, le-ltb, ltb-false, eq-eqb, ne-eqb, eqb-true}
+use borrow.Author.Tests.{lt-ltb, le-ltb, ltb-false, leb-true, eq-eqb, ne-eqb, eqb-true}
 use Rattle.queue.specs.Codec.{cases, optC}
 use Rattle.queue.specs.Splice.{Put, splice}
 use Rattle.queue.specs.Frames.{Head, idC, recC}
@@ -16,7 +16,7 @@ use Rattle.queue.specs.View.{view}
 use Rattle.queue.specs.Reads.{whole, listAt}
 use Rattle.queue.specs.ReadLaws as readlaws
 use Rattle.queue.specs.Forms.{formC, queueC, headFor, storeOf}
-use Rattle.queue.specs.Facts.{HeadAs, factsOf}
+use Rattle.queue.specs.Facts.{HeadAs, factsOf, head-K}
 use Rattle.queue.specs.Areas.{readArea}
 use Rattle.queue.specs.Bound.{fits-need}
 use Rattle.queue.specs.Lists.{and-true}
@@ -34,9 +34,9 @@ use Rattle.queue.specs.Reopens.{IdsIn, idsAt}
 use Rattle.queue.specs.Admitting.{argsOf, newOf, TermsFit, HeldFit, withR, WithFrom, WithTo, roomOf, RoomIs, entryNewLen, NumbersFit, AskedIn, FreeOf, TipFor, NewTold, FoundTold, AdmitTold, ListsAre, FlagsAre, LentIn}
 use Rattle.queue.specs.paper.Records.{Bytes, Id, Rec, Queue}
 use Rattle.queue.specs.paper.Lists.{find, isEmpty?}
-use Rattle.queue.specs.paper.Sound.{need, pending?, mined?, labelLen, clash?}
+use Rattle.queue.specs.paper.Sound.{need, pending?, mined?, labelLen, clash?, callerRight?}
 use Rattle.queue.specs.paper.Area.{areaBytes, over}
-use Rattle.queue.specs.paper.Changing.{Out, refused, done, named?, reached?, Admission, newRec, committed, pendings, pendingBytes, admitNew, admit}
+use Rattle.queue.specs.paper.Changing.{Out, refused, done, named?, reached?, Admission, newRec, committed, pendings, pendingBytes, pendingsOf, shareOf, admitNew, admit}
 use Rattle.queue.specs.Checked.{Outcome, outcome, told, admitShape?, admitOf}
 use Rattle.queue.specs.paper.Calls.{id?, whole?, items, flag?, given, givenId?, AdmitArgs, admission, overK?, entryBytes}
 use Rattle.queue.specs.declared.Kind.the-variants.{Nothing, Whole}
@@ -82,18 +82,20 @@ tip-is a q [] = refl
 tip-is a q (r ∷ l) = rw (lt-ltb 0 (length (r ∷ l)) (omega arith))
 
 -- ---- room
-room-split : (b c : Bool) → _≡_ {A = ℕ} (cond b 10 (cond c 11 0)) 0 → (b ≡ false) × (c ≡ false)
-room-split true c e = absurd (let y : ⊥ = omega arith in y)
-room-split false true e = absurd (let y : ⊥ = omega arith in y)
-room-split false false e = (refl, refl)
+room-split : (b d c : Bool) → _≡_ {A = ℕ} (cond b 10 (cond d 18 (cond c 11 0))) 0 → (b ≡ false) × (d ≡ false) × (c ≡ false)
+room-split true d c e = absurd (let y : ⊥ = omega arith in y)
+room-split false true c e = absurd (let y : ⊥ = omega arith in y)
+room-split false false true e = absurd (let y : ⊥ = omega arith in y)
+room-split false false false e = (refl, refl, refl)
 
-room-full : {A : Type 0} (b c : Bool) (n : ℕ) (o : Out A) → n ≡ cond b 10 (cond c 11 0) → (n ≡ 0 → ⊥) → cond b (refused 10) (cond c (refused 11) o) ≡ refused n
-room-full true c n o e h = ap refused (sym e)
-room-full false true n o e h = ap refused (sym e)
-room-full false false n o e h = absurd (h e)
+room-full : {A : Type 0} (b d c : Bool) (n : ℕ) (o : Out A) → n ≡ cond b 10 (cond d 18 (cond c 11 0)) → (n ≡ 0 → ⊥) → cond b (refused 10) (cond d (refused 18) (cond c (refused 11) o)) ≡ refused n
+room-full true d c n o e h = ap refused (sym e)
+room-full false true c n o e h = ap refused (sym e)
+room-full false false true n o e h = ap refused (sym e)
+room-full false false false n o e h = absurd (h e)
 
 -- ---- what is lent, and the area
-module _ {s : Bytes} {a : Area} (w : AreaIn s a) {x : Asked} {id ins outs bytes label tip : Bytes} (i : AskedIn x id ins outs bytes label tip (a .open .head .k)) where
+module _ {s : Bytes} {a : Area} (w : AreaIn s a) {x : Asked} {id ins outs bytes label tip : Bytes} (i : AskedIn x id ins outs bytes label tip (a .open .head .limits .k)) where
   abbrev G : AdmitArgs
   G = argsOf x id ins outs bytes label tip
 
@@ -101,18 +103,22 @@ module _ {s : Bytes} {a : Area} (w : AreaIn s a) {x : Asked} {id ins outs bytes 
   R = newOf x id ins outs bytes label
 
   admissible : Admissible (w .q .limits .K) (admission G)
-  admissible = let k : w .q .limits .K ≡ a .open .head .k = w .read .store .head .K in rw k (admission-ok (a .open .head .k) G (i .lent) (i .shape) (i .few))
+  admissible = let k : w .q .limits .K ≡ a .open .head .limits .k = head-K (w .read .store .head) in rw k (admission-ok (a .open .head .limits .k) G (i .lent) (i .shape) (i .few))
 
-  parts : (id? id ≡ true) × (whole? 32 ins ≡ true) × (whole? 32 outs ≡ true) × (givenId? (x .tipflag) tip ≡ true)
+  parts : ((id? id ≡ true) × (x .caller ≤ 15)) × (whole? 32 ins ≡ true) × (whole? 32 outs ≡ true) × (givenId? (x .tipflag) tip ≡ true)
   parts =
-      let u = and-true (id? id && (whole? 32 ins && whole? 32 outs)) ((flag? (x .timeflag) && flag? (x .heightflag)) && (flag? (x .labelflag) && givenId? (x .tipflag) tip)) (i .shape) in
-      let v = and-true (id? id) (whole? 32 ins && whole? 32 outs) (u .0) in
+      let u = and-true ((id? id && callerRight? (x .caller)) && (whole? 32 ins && whole? 32 outs)) ((flag? (x .timeflag) && flag? (x .heightflag)) && (flag? (x .labelflag) && givenId? (x .tipflag) tip)) (i .shape) in
+      let v = and-true (id? id && callerRight? (x .caller)) (whole? 32 ins && whole? 32 outs) (u .0) in
+      let c = and-true (id? id) (callerRight? (x .caller)) (v .0) in
       let y = and-true (whole? 32 ins) (whole? 32 outs) (v .1) in
       let z = and-true (flag? (x .timeflag) && flag? (x .heightflag)) (flag? (x .labelflag) && givenId? (x .tipflag) tip) (u .1) in
-      (v .0, y .0, y .1, and-true (flag? (x .labelflag)) (givenId? (x .tipflag) tip) (z .1) .1)
+      ((c .0, leb-true (x .caller) 15 (c .1)), y .0, y .1, and-true (flag? (x .labelflag)) (givenId? (x .tipflag) tip) (z .1) .1)
 
   id-32 : length id ≡ 32
-  id-32 = eqb-true (length id) 32 (parts .0)
+  id-32 = eqb-true (length id) 32 (parts .0 .0)
+
+  pub few-callers : x .caller ≤ 15
+  few-callers = parts .0 .1
 
   pub tip-32 : x .tipflag ≡ 1 → length tip ≡ 32
   tip-32 e =
@@ -124,20 +130,20 @@ module _ {s : Bytes} {a : Area} (w : AreaIn s a) {x : Asked} {id ins outs bytes 
 
   pub few-ids : (length ins / 32 ≤ 128) × (length outs / 32 ≤ 128)
   few-ids =
-      let k : w .q .limits .K ≡ a .open .head .k = w .read .store .head .K in
+      let k : w .q .limits .K ≡ a .open .head .limits .k = head-K (w .read .store .head) in
       let f = fit (w .read) .sound .range .K-high in
-      let u = or-false (ltb (a .open .head .k) (length ins / 32)) (ltb (a .open .head .k) (length outs / 32)) (i .few) in
-      let v = ltb-false (a .open .head .k) (length ins / 32) (u .0) in
-      let y = ltb-false (a .open .head .k) (length outs / 32) (u .1) in
+      let u = or-false (ltb (a .open .head .limits .k) (length ins / 32)) (ltb (a .open .head .limits .k) (length outs / 32)) (i .few) in
+      let v = ltb-false (a .open .head .limits .k) (length ins / 32) (u .0) in
+      let y = ltb-false (a .open .head .limits .k) (length outs / 32) (u .1) in
       (omega arith, omega arith)
 
   pub few-bytes : length ins < 4294967296
   few-bytes = let f = few-ids in omega arith
 
-  -- 10 and 11
-  pub new-room : (next out : Bytes) {r : ℕ} → RoomIs s (length bytes) r → (r ≡ 0 → ⊥) → NewTold s G (outcome (Refused r) next out) next out
+  -- 10, 18 and 11
+  pub new-room : (next out : Bytes) {r : ℕ} → RoomIs s (x .caller) (length bytes) r → (r ≡ 0 → ⊥) → NewTold s G (outcome (Refused r) next out) next out
   unfolding roomOf
-  new-room next out {r} m n q e = rw (← (one-queue s (w .is) e), room-full (leb (w .q .limits .P) (pendings (w .q .recs))) (ltb (w .q .limits .B) (pendingBytes (w .q .recs) + length bytes)) r _ (m (w .q) (w .is)) n)
+  new-room next out {r} m n q e = rw (← (one-queue s (w .is) e), room-full (leb (w .q .limits .P) (pendings (w .q .recs))) (leb (shareOf (x .caller) (w .q .limits)) (pendingsOf (x .caller) (w .q .recs))) (ltb (w .q .limits .B) (pendingBytes (w .q .recs) + length bytes)) r _ (m (w .q) (w .is)) n)
 
   pub ids-lent : IdsIn ins (length ins / 32)
   ids-lent = ids-in ins (length ins / 32) (i .lent .inputs) refl (eqb-true (length ins % 32) 0 (parts .1))
@@ -148,17 +154,17 @@ module _ {s : Bytes} {a : Area} (w : AreaIn s a) {x : Asked} {id ins outs bytes 
   pub free-of : {r : Bool} → r ≡ clash? (idsAt ins (length ins / 32)) (listAt (formC false recC) (a .open .head .count) s (a .open .start)) → r ≡ false → FreeOf s ins
   free-of c t q e = rw (← (one-queue s (w .is) e)) (clash-is c ∙ t)
 
-  module _ (m : RoomIs s (length bytes) 0) where
-    rooms : (leb (w .q .limits .P) (pendings (w .q .recs)) ≡ false) × (ltb (w .q .limits .B) (pendingBytes (w .q .recs) + length bytes) ≡ false)
+  module _ (m : RoomIs s (x .caller) (length bytes) 0) where
+    rooms : (leb (w .q .limits .P) (pendings (w .q .recs)) ≡ false) × (leb (shareOf (x .caller) (w .q .limits)) (pendingsOf (x .caller) (w .q .recs)) ≡ false) × (ltb (w .q .limits .B) (pendingBytes (w .q .recs) + length bytes) ≡ false)
     unfolding roomOf
-    rooms = room-split (leb (w .q .limits .P) (pendings (w .q .recs))) (ltb (w .q .limits .B) (pendingBytes (w .q .recs) + length bytes)) (sym (m (w .q) (w .is)))
+    rooms = room-split (leb (w .q .limits .P) (pendings (w .q .recs))) (leb (shareOf (x .caller) (w .q .limits)) (pendingsOf (x .caller) (w .q .recs))) (ltb (w .q .limits .B) (pendingBytes (w .q .recs) + length bytes)) (sym (m (w .q) (w .is)))
 
     -- 12
     pub new-12 : (next out : Bytes) {r : Bool} → r ≡ clash? (idsAt ins (length ins / 32)) (listAt (formC false recC) (a .open .head .count) s (a .open .start)) → r ≡ true → NewTold s G (outcome (Refused 12) next out) next out
-    new-12 next out c t q e = rw (← (one-queue s (w .is) e), rooms .0, rooms .1, clash-is c ∙ t)
+    new-12 next out c t q e = rw (← (one-queue s (w .is) e), rooms .0, rooms .1, rooms .2, clash-is c ∙ t)
 
     bytes-few : length bytes ≤ 16777216
-    bytes-few = let u = ltb-false (w .q .limits .B) (pendingBytes (w .q .recs) + length bytes) (rooms .1) in let v = fit (w .read) .sound .range .B-high in omega arith
+    bytes-few = let u = ltb-false (w .q .limits .B) (pendingBytes (w .q .recs) + length bytes) (rooms .2) in let v = fit (w .read) .sound .range .B-high in omega arith
 
     pub held-fit : HeldFit ins outs bytes
     held-fit = let f = few-ids in let b = bytes-few in record {
@@ -170,7 +176,8 @@ module _ {s : Bytes} {a : Area} (w : AreaIn s a) {x : Asked} {id ins outs bytes 
     }
 
     pub terms-fit : TermsFit x label (length bytes)
-    terms-fit = let b = bytes-few in record {
+    terms-fit = let b = bytes-few in let c = few-callers in record {
+      caller = omega arith;
       now = i .lent .now;
       time = i .lent .time;
       height = i .lent .height;
@@ -190,7 +197,7 @@ module _ {s : Bytes} {a : Area} (w : AreaIn s a) {x : Asked} {id ins outs bytes 
 
       new-is : admitNew (admission G) (w .q) ≡ done Whole Next R
       unfolding withR newOf newRec
-      new-is = rw (rooms .0, rooms .1, f (w .q) (w .is))
+      new-is = rw (rooms .0, rooms .1, rooms .2, f (w .q) (w .is))
 
       next-fit : Fit Next
       next-fit = leaves-kept (w .q) Next (admitNew (admission G) (w .q)) Whole R (new-leaves (admission G) (w .q) (fit (w .read)) admissible (i .short)) new-is .fit
@@ -328,16 +335,16 @@ small-of s h = small-all s h
 and-of : {a a′ b b′ : Bool} → a ≡ a′ → b ≡ b′ → (a && b) ≡ (a′ && b′)
 and-of e f = cc
 
-pub lists-are : (id ins outs : Bytes) {a b c : ℕ} {r u : Bool} → r ≡ (eqb a 32 && u) → u ≡ (eqb (b % 32) 0 && eqb (c % 32) 0)
-    → a ≡ length (view false id 0) → readlaws.Small (view false id 0) → b ≡ length (view false ins 0) → readlaws.Small (view false ins 0) → c ≡ length (view false outs 0) → readlaws.Small (view false outs 0) → ListsAre id ins outs r
-lists-are id ins outs e f la sa lb sb lc sc = (e ∙ and-of (long-is id la) (f ∙ and-of (mod-is ins lb) (mod-is outs lc)), (small-of id sa, small-of ins sb, small-of outs sc))
+pub lists-are : (id ins outs : Bytes) (caller : ℕ) {a b c : ℕ} {r t u : Bool} → r ≡ (t && u) → t ≡ (eqb a 32 && leb caller 15) → u ≡ (eqb (b % 32) 0 && eqb (c % 32) 0)
+    → a ≡ length (view false id 0) → readlaws.Small (view false id 0) → b ≡ length (view false ins 0) → readlaws.Small (view false ins 0) → c ≡ length (view false outs 0) → readlaws.Small (view false outs 0) → ListsAre id caller ins outs r
+lists-are id ins outs caller e g f la sa lb sb lc sc = (e ∙ and-of (g ∙ and-of (long-is id la) refl) (f ∙ and-of (mod-is ins lb) (mod-is outs lc)), (small-of id sa, small-of ins sb, small-of outs sc))
 
 pub flags-are : (x : Asked) (bytes label tip : Bytes) {c : ℕ} {r d u v : Bool} → r ≡ (d && u) → d ≡ (leb (x .timeflag) 1 && leb (x .heightflag) 1) → u ≡ (leb (x .labelflag) 1 && v) → v ≡ (leb (x .tipflag) 1 && (eqb (x .tipflag) 0 || eqb c 32))
     → readlaws.Small (view false bytes 0) → readlaws.Small (view false label 0) → c ≡ length (view false tip 0) → readlaws.Small (view false tip 0) → FlagsAre x bytes label tip r
 flags-are x bytes label tip e f g h sb sl lt st =
     (e ∙ and-of f (g ∙ and-of {a = leb (x .labelflag) 1} refl (h ∙ and-of {a = leb (x .tipflag) 1} refl (ap (λ (k : Bool). eqb (x .tipflag) 0 || k) (long-is tip lt)))), (small-of bytes sb, small-of label sl, small-of tip st))
 
-pub lent-of : {x : Asked} {id ins outs bytes label tip : Bytes} {l f : Bool} → NumbersFit x → ListsAre id ins outs l → FlagsAre x bytes label tip f → AdmitLent (argsOf x id ins outs bytes label tip)
+pub lent-of : {x : Asked} {id ins outs bytes label tip : Bytes} {l f : Bool} → NumbersFit x → ListsAre id (x .caller) ins outs l → FlagsAre x bytes label tip f → AdmitLent (argsOf x id ins outs bytes label tip)
 lent-of n l f = record {
   id = l .1 .0;
   inputs = l .1 .1;
@@ -366,7 +373,7 @@ module _ (cur next out : Bytes) {a : Area} (i : AreaIs cur a) (t : a .ok ≡ tru
   unfolding admitOf
   admit-2 h = let g = i .good t in rw (g .1, lt-ltb (length next) (need (g .0 .limits)) (omega (arith, g .2 .need)))
 
-  module _ (h : a .need ≤ length next) {l f r : Bool} (L : ListsAre id ins outs l) (F : FlagsAre x bytes label tip f) (e : r ≡ (l && f)) where
+  module _ (h : a .need ≤ length next) {l f r : Bool} (L : ListsAre id (x .caller) ins outs l) (F : FlagsAre x bytes label tip f) (e : r ≡ (l && f)) where
     enough : ltb (length next) (need (i .good t .0 .limits)) ≡ false
     enough = le-ltb (length next) (need (i .good t .0 .limits)) (omega (arith, i .good t .2 .need))
 
@@ -377,19 +384,19 @@ module _ (cur next out : Bytes) {a : Area} (i : AreaIs cur a) (t : a .ok ≡ tru
     unfolding admitOf
     admit-5 n = let g = i .good t in rw (g .1, enough, shape-is ∙ n)
 
-    module _ (n : r ≡ true) {b : Bool} (k : b ≡ (ltb (a .open .head .k) (length ins / 32) || ltb (a .open .head .k) (length outs / 32))) where
+    module _ (n : r ≡ true) {b : Bool} (k : b ≡ (ltb (a .open .head .limits .k) (length ins / 32) || ltb (a .open .head .limits .k) (length outs / 32))) where
       over-is : overK? (i .good t .0 .limits .K) Given ≡ b
-      over-is = let u : i .good t .0 .limits .K ≡ a .open .head .k = i .good t .2 .store .head .K in ap (λ v. overK? v Given) u ∙ sym k
+      over-is = let u : i .good t .0 .limits .K ≡ a .open .head .limits .k = head-K (i .good t .2 .store .head) in ap (λ v. overK? v Given) u ∙ sym k
 
       pub admit-6 : b ≡ true → outcome (Refused 6) next out ≡ admitOf cur next out Given
       unfolding admitOf
       admit-6 y = let g = i .good t in rw (g .1, enough, shape-is ∙ n, over-is ∙ y)
 
       pub id-whole : length id ≡ 32
-      id-whole = eqb-true (length id) 32 (and-true (id? id) (whole? 32 ins && whole? 32 outs) (sym (L .0) ∙ and-true l f (sym e ∙ n) .0) .0)
+      id-whole = eqb-true (length id) 32 (and-true (id? id) (callerRight? (x .caller)) (and-true (id? id && callerRight? (x .caller)) (whole? 32 ins && whole? 32 outs) (sym (L .0) ∙ and-true l f (sym e ∙ n) .0) .0) .0)
 
       module _ (y : b ≡ false) {j : Id} (z : j ≡ part 32 (view false id 0) 0) where
-        pub lent-in : NumbersFit x → LentIn x j ins outs bytes label tip (a .open .head .k)
+        pub lent-in : NumbersFit x → LentIn x j ins outs bytes label tip (a .open .head .limits .k)
         lent-in m = rw (key id-whole z) (record { lent = lent-of m L F; shape = shape-is ∙ n; few = sym k ∙ y })
 
         pub admit-rest : {o : Outcome} → AdmitTold cur (argsOf x j ins outs bytes label tip) o next out → o ≡ admitOf cur next out Given
@@ -399,5 +406,5 @@ module _ (cur next out : Bytes) {a : Area} (i : AreaIs cur a) (t : a .ok ≡ tru
             let v = c (g .0) (g .1) ∙ ap (λ (u : Id). told entryBytes next out (admit (admission (argsOf x u ins outs bytes label tip)) (g .0))) (key id-whole z) in
             rw (g .1, enough, shape-is ∙ n, over-is ∙ y) v
 
-pub no-refusal : (s : Bytes) (n : ℕ) {r : ℕ} → RoomIs s n r → r ≡ 0 → RoomIs s n 0
-no-refusal s n m e q f = sym e ∙ m q f
+pub no-refusal : (s : Bytes) (c n : ℕ) {r : ℕ} → RoomIs s c n r → r ≡ 0 → RoomIs s c n 0
+no-refusal s c n m e q f = sym e ∙ m q f

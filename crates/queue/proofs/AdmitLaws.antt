@@ -7,9 +7,10 @@ use Prim.Native.Nat.{ℕ, zero, suc, _+_, _-_, _*_, _/_, _%_, _^_, _≤_, _<_}
 use native.Mathlib.Omega.{arith}
 use native.Mathlib.Nat.{div-add-mod'}
 use lib.Dec.{ltb, leb, eqb}
-use lib.ListN.{length, drop, take, replicate, length-append, length-drop}
+use lib.ListN.{length, drop, take, replicate, length-append, length-drop, getD}
 use lib.Seq.{take-all, length-take-le}
 use borrow.Author.Tests.{lt-ltb, le-ltb, le-leb, lt-leb, eq-eqb, ne-eqb}
+use Rattle.queue.specs.Facts.{termsAt, factsOf, limitsIn, head-P, head-B}
 use Rattle.queue.specs.Codec as codec
 use Rattle.queue.specs.Codec.{Codec, cases, encs, be-length}
 use Rattle.queue.specs.Splice.{Put, be}
@@ -23,27 +24,28 @@ use Rattle.queue.specs.Lists.{all-map, total-split}
 use Rattle.queue.specs.Sounds.{Fit}
 use Rattle.queue.specs.Admits.{held-split, weight-split}
 use Rattle.queue.specs.CallsAs.{AreaIn}
-use Rattle.queue.specs.Rules.{sum}
-use Rattle.queue.specs.Opens.{limits, AreaAs, AreaIs}
+use Rattle.queue.specs.Rules.{weight, sum}
+use Rattle.queue.specs.ListLaws.{one-le}
+use Rattle.queue.specs.Opens.{AreaAs, AreaIs}
 use Rattle.queue.specs.Fronts.{frontLen, tipOf, tipSize, frontBytes, queueOf}
 use Rattle.queue.specs.Finishing.{picked}
 use Rattle.queue.specs.Plain.{rec-plain}
 use Rattle.queue.specs.Reopens.{leadBytes}
-use Rattle.queue.specs.Admitting.{argsOf, newOf, optLen, labelSize, termsLen, heldLen, newLen, newTerms, heldOf, TermsFit, HeldFit, putF, recIf, keepBytes, withR, WithFrom, WithTo, roomOf, RoomIs, entryNewLen}
+use Rattle.queue.specs.Admitting.{argsOf, newOf, optLen, labelSize, termsLen, heldLen, newLen, newTerms, heldOf, TermsFit, HeldFit, putF, recIf, keepBytes, withR, WithFrom, WithTo, roomOf, PendingsAre, FullIs, RoomIs, entryNewLen}
 use Rattle.queue.specs.paper.Records.{Bytes, Id, Limits, Terms, Held, Rec, Queue}
 use Rattle.queue.specs.paper.Lists.{one, filter, insert, concat, count}
 use Rattle.queue.specs.paper.Ids.{cmpL, below?}
 use Rattle.queue.specs.paper.Sound.{need, holder?, pending?, mined?, content, holders, minedHolders, minedBytes}
-use Rattle.queue.specs.paper.Area.{flagged, termsBytes, placeBytes, heldBytes, recBytes, areaBytes, over}
-use Rattle.queue.specs.paper.Changing.{named?, put, newRec, committed, pendings, pendingBytes}
-use Rattle.queue.specs.paper.Calls.{items, pieces, given, admission, entryBytes}
+use Rattle.queue.specs.paper.Area.{flagged, termsBytes, placeBytes, heldBytes, recUnder, recBytes, areaBytes, over}
+use Rattle.queue.specs.paper.Changing.{named?, put, newRec, committed, pendings, pendingBytes, pendingsOf, shareOf}
+use Rattle.queue.specs.paper.Calls.{items, pieces, numbers, given, admission, entryBytes}
 use Rattle.queue.specs.declared.admit.Asked.{Asked}
 use Rattle.queue.specs.declared.frame.Seen.{Seen}
 use Rattle.queue.specs.declared.frame.Height.{Height}
 use Rattle.queue.specs.declared.area.Area.{Area}
 use Rattle.queue.specs.declared.head.Marks.{Marks}
 use Rattle.queue.specs.declared.finish.Change.the-variants.{Named}
-use Rattle.queue.specs.declared.rules.Query.the-variants.{Holders, HeldBytes, MinedHolders, MinedBytes}
+use Rattle.queue.specs.declared.rules.Query.the-variants.{Holders, HeldBytes, MinedHolders, MinedBytes, PendingOf}
 use Rattle.queue.proofs.Turns.{SeenIn, ReadsRec}
 use Rattle.queue.proofs.PutLaws as puts
 use Rattle.queue.proofs.PutLaws.{then, recast, kept, Left, begun, onward, nothing}
@@ -51,7 +53,7 @@ use Rattle.queue.proofs.ByteLaws.{be-same}
 use Rattle.queue.proofs.FinishLaws.{encs-append, raw-after, raw-within}
 use Rattle.queue.proofs.FrontLaws.{area-done}
 use Rattle.queue.proofs.OpenLaws.{holders-sum, bytes-sum, mined-sum, minedBytes-sum}
-use Rattle.queue.proofs.WriteLaws.{fit, one-queue, same-queue, the-limits, queue-long}
+use Rattle.queue.proofs.WriteLaws.{fit, one-queue, same-queue, the-limits, shares-sixteen, queue-long}
 use Rattle.queue.proofs.ReopenLaws.{pieces-join, pieces-many}
 
 all-of : (s : Bytes) → take (length s) (drop 0 s) ≡ s
@@ -134,29 +136,32 @@ held-put ins outs bytes f a b c d e g h =
     (omega arith) refl
 
 -- ---- the whole record
-lead-zero : (i : Id) → leadBytes i 0 0 ≡ 2 ∷ (i ++ (0 ∷ 0 ∷ []))
+lead-zero : (i : Id) (c : ℕ) → c < 256 → leadBytes i c 0 0 ≡ 2 ∷ (i ++ (codec.be 1 c ++ (0 ∷ 0 ∷ [])))
 unfolding leadBytes
-lead-zero i = ap (λ (y : Bytes). 2 ∷ y) (append-assoc i (be 1 0) (be 1 0))
-
-regroup : (i t h : Bytes) → ((2 ∷ (i ++ (0 ∷ 0 ∷ []))) ++ t) ++ (replicate 10 0 ++ h) ≡ 2 ∷ (i ++ (0 ∷ 0 ∷ (t ++ (replicate 10 0 ++ h))))
-regroup i t h = ap (λ (y : Bytes). 2 ∷ y) (inner i (0 ∷ 0 ∷ []) t (replicate 10 0 ++ h))
+lead-zero i c h = ap (λ (y : Bytes). ((2 ∷ (i ++ y)) ++ be 1 0) ++ be 1 0) (be-same 1 c h) ∙ ap (λ (y : Bytes). 2 ∷ y) (inner i (codec.be 1 c) (be 1 0) (be 1 0))
   where
-    inner : (i z t h : Bytes) → ((i ++ z) ++ t) ++ h ≡ i ++ (z ++ (t ++ h))
-    inner i z t h = simp append-assoc
+    inner : (i c a b : Bytes) → ((i ++ c) ++ a) ++ b ≡ i ++ (c ++ (a ++ b))
+    inner i c a b = simp append-assoc
 
-new-shape : (x : Asked) (id ins outs bytes label : Bytes) → 2 ∷ (id ++ (0 ∷ 0 ∷ (termsBytes (newTerms x label (length bytes)) ++ (replicate 10 0 ++ flagged heldBytes (some (heldOf ins outs bytes)))))) ≡ recBytes (newOf x id ins outs bytes label)
-unfolding recBytes newOf newRec placeBytes
+regroup : (i c t h : Bytes) → ((2 ∷ (i ++ (c ++ (0 ∷ 0 ∷ [])))) ++ t) ++ (replicate 10 0 ++ h) ≡ 2 ∷ (i ++ (c ++ (0 ∷ 0 ∷ (t ++ (replicate 10 0 ++ h)))))
+regroup i c t h = ap (λ (y : Bytes). 2 ∷ y) (inner i c (0 ∷ 0 ∷ []) t (replicate 10 0 ++ h))
+  where
+    inner : (i c z t h : Bytes) → ((i ++ (c ++ z)) ++ t) ++ h ≡ i ++ (c ++ (z ++ (t ++ h)))
+    inner i c z t h = simp append-assoc
+
+new-shape : (x : Asked) (id ins outs bytes label : Bytes) → 2 ∷ (id ++ (codec.be 1 (x .caller) ++ (0 ∷ 0 ∷ (termsBytes (newTerms x label (length bytes)) ++ (replicate 10 0 ++ flagged heldBytes (some (heldOf ins outs bytes))))))) ≡ recBytes (newOf x id ins outs bytes label)
+unfolding recUnder newOf newRec placeBytes
 new-shape x id ins outs bytes label = refl
 
-pub new-put : {d d₁ d₂ d₃ d₄ : Bytes} {at a b c r : ℕ} (x : Asked) (id ins outs bytes label : Bytes)
-    → Put d at (leadBytes id 0 0) 35 a d₁ → Put d₁ a (termsBytes (newTerms x label (length bytes))) (termsLen x label) b d₂ → Put d₂ b (replicate (b + 10 - b) 0) (b + 10 - b) c d₃
+pub new-put : {d d₁ d₂ d₃ d₄ : Bytes} {at a b c r : ℕ} (x : Asked) (id ins outs bytes label : Bytes) → x .caller < 256
+    → Put d at (leadBytes id (x .caller) 0 0) termsAt a d₁ → Put d₁ a (termsBytes (newTerms x label (length bytes))) (termsLen x label) b d₂ → Put d₂ b (replicate (b + 10 - b) 0) (b + 10 - b) c d₃
     → Put d₃ c (flagged heldBytes (some (heldOf ins outs bytes))) (heldLen ins outs bytes) r d₄
     → Put d at (recC .enc (newOf x id ins outs bytes label)) (newLen x ins outs bytes label) r d₄
-new-put {b = b} x id ins outs bytes label p q s t =
+new-put {b = b} x id ins outs bytes label l p q s t =
     let z : b + 10 - b ≡ 10 = omega arith in
     recast (then (then (then p q) s) t)
-    (append-assoc (leadBytes id 0 0 ++ termsBytes (newTerms x label (length bytes))) (replicate (b + 10 - b) 0) (flagged heldBytes (some (heldOf ins outs bytes)))
-    ∙ rw (z, lead-zero id) (regroup id (termsBytes (newTerms x label (length bytes))) (flagged heldBytes (some (heldOf ins outs bytes))))
+    (append-assoc (leadBytes id (x .caller) 0 0 ++ termsBytes (newTerms x label (length bytes))) (replicate (b + 10 - b) 0) (flagged heldBytes (some (heldOf ins outs bytes)))
+    ∙ rw (z, lead-zero id (x .caller) l) (regroup id (codec.be 1 (x .caller)) (termsBytes (newTerms x label (length bytes))) (flagged heldBytes (some (heldOf ins outs bytes))))
     ∙ new-shape x id ins outs bytes label ∙ sym (rec-plain (newOf x id ins outs bytes label)))
     (omega arith) refl
 
@@ -220,7 +225,9 @@ held-size ins outs bytes f =
 pub new-long : (x : Asked) (id ins outs bytes label : Bytes) → length id ≡ 32 → HeldFit ins outs bytes → length (recC .enc (newOf x id ins outs bytes label)) ≡ newLen x ins outs bytes label
 new-long x id ins outs bytes label l f =
     let t = terms-size x label (length bytes) in let h = held-size ins outs bytes f in
-    let a = length-append id (0 ∷ 0 ∷ (termsBytes (newTerms x label (length bytes)) ++ (replicate 10 0 ++ flagged heldBytes (some (heldOf ins outs bytes))))) in
+    let a = length-append id (codec.be 1 (x .caller) ++ (0 ∷ 0 ∷ (termsBytes (newTerms x label (length bytes)) ++ (replicate 10 0 ++ flagged heldBytes (some (heldOf ins outs bytes)))))) in
+    let c = length-append (codec.be 1 (x .caller)) (0 ∷ 0 ∷ (termsBytes (newTerms x label (length bytes)) ++ (replicate 10 0 ++ flagged heldBytes (some (heldOf ins outs bytes))))) in
+    let e = be-length 1 (x .caller) in
     let b = length-append (termsBytes (newTerms x label (length bytes))) (replicate 10 0 ++ flagged heldBytes (some (heldOf ins outs bytes))) in
     ap length (rec-plain (newOf x id ins outs bytes label) ∙ sym (new-shape x id ins outs bytes label)) ∙ omega arith
 
@@ -345,48 +352,84 @@ module _ {s : Bytes} {a : Area} (w : AreaIn s a) where
       let u = total-split (λ r. length (content (r .body))) (λ r. cond (pending? (r .state)) (length (content (r .body))) 0) (λ r. cond (mined? r) (length (content (r .body))) 0) (w .q .recs) (all-map (w .q .recs) (λ r h. weight-split (r .state) (r .body) (h .held)) (fit (w .read) .sound .right)) in
       e ∙ ap (sum HeldBytes) l ∙ bytes-sum (w .q .recs) ∙ u ∙ ap (λ k. pendingBytes (w .q .recs) + k) (sym (f ∙ ap (sum MinedBytes) l ∙ minedBytes-sum (w .q .recs)))
 
-  module _ (n : ℕ) {h : ℕ} (g : ℕ) (e : h ≡ pendings (w .q .recs) + g) where
-    pub room-10 : a .open .head .p ≤ h - g → RoomIs s n 10
+  pub pendings-are : {h : ℕ} (g : ℕ) → h ≡ pendings (w .q .recs) + g → PendingsAre s (h - g)
+  pendings-are {h} g e q f = let z : h - g ≡ pendings (w .q .recs) = omega arith in z ∙ ap (λ (x : Queue). pendings (x .recs)) (one-queue s (w .is) f)
+
+  -- a caller's pending records are some of all
+  some-of : (c : ℕ) (l : List Rec) → pendingsOf c l ≤ pendings l
+  some-of c [] = omega arith
+  some-of c (r ∷ l) = let i = some-of c l in cases (pending? (r .state)) (λ t. rw t (let j = one-le (eqb (r .caller) c) in omega arith)) (λ t. rw t (omega arith))
+
+  share-of : (c : ℕ) {v : ℕ} → v ≡ getD (numbers (a .open .head .limits .shares)) c 0 → v ≡ shareOf c (w .q .limits)
+  share-of c e = e ∙ ap (λ (m : Limits). getD (m .shares) c 0) (w .read .store .head .lim)
+
+  pub share-free : (c : ℕ) {n v : ℕ} → v ≡ getD (numbers (a .open .head .limits .shares)) c 0 → PendingsAre s n → n < v → FullIs s c false
+  share-free c {n} {v} e p h q f =
+      let i = some-of c (w .q .recs) in
+      let j = p (w .q) (w .is) in
+      let k = share-of c e in
+      rw (← (one-queue s (w .is) f)) (sym (lt-leb (shareOf c (w .q .limits)) (pendingsOf c (w .q .recs)) (omega arith)))
+
+  pub share-told : (c : ℕ) {v k : ℕ} → v ≡ getD (numbers (a .open .head .limits .shares)) c 0 → k ≡ sum (PendingOf c) (listAt (formC false recC) (a .open .head .count) s (a .open .start)) → FullIs s c (leb v k)
+  unfolding sum weight factsOf
+  share-told c {v} {k} e f q g =
+      let l : k ≡ pendingsOf c (w .q .recs) = f ∙ ap (sum (PendingOf c)) (w .read .store .list) in
+      rw (← (one-queue s (w .is) g)) (ap (λ (y : ℕ). leb y k) (share-of c e) ∙ ap (leb (shareOf c (w .q .limits))) l)
+
+  module _ (c n : ℕ) {h : ℕ} (g : ℕ) (e : h ≡ pendings (w .q .recs) + g) where
+    pub room-10 : a .open .head .limits .p ≤ h - g → RoomIs s c n 10
     unfolding roomOf
-    room-10 k q f = let p : w .q .limits .P ≡ a .open .head .p = w .read .store .head .P in rw (← (one-queue s (w .is) f), le-leb (w .q .limits .P) (pendings (w .q .recs)) (omega arith))
+    room-10 k q f = let p : w .q .limits .P ≡ a .open .head .limits .p = head-P (w .read .store .head) in rw (← (one-queue s (w .is) f), le-leb (w .q .limits .P) (pendings (w .q .recs)) (omega arith))
 
-    module _ (k : h - g < a .open .head .p) where
+    module _ (k : h - g < a .open .head .limits .p) {b18 : Bool} (full : FullIs s c b18) where
       few : leb (w .q .limits .P) (pendings (w .q .recs)) ≡ false
-      few = let p : w .q .limits .P ≡ a .open .head .p = w .read .store .head .P in lt-leb (w .q .limits .P) (pendings (w .q .recs)) (omega arith)
+      few = let p : w .q .limits .P ≡ a .open .head .limits .p = head-P (w .read .store .head) in lt-leb (w .q .limits .P) (pendings (w .q .recs)) (omega arith)
 
-      pub room-11 : a .open .head .b < n → RoomIs s n 11
+      pub room-18 : b18 ≡ true → RoomIs s c n 18
       unfolding roomOf
-      room-11 j q f = let b : w .q .limits .B ≡ a .open .head .b = w .read .store .head .B in rw (← (one-queue s (w .is) f), few, lt-ltb (w .q .limits .B) (pendingBytes (w .q .recs) + n) (omega arith))
+      room-18 t q f = rw (← (one-queue s (w .is) f), few, ← (full (w .q) (w .is)), t)
 
-      module _ (j : n ≤ a .open .head .b) {i : ℕ} (r : ℕ) (y : i ≡ pendingBytes (w .q .recs) + r) where
-        pub room-11′ : a .open .head .b - n < i - r → RoomIs s n 11
-        unfolding roomOf
-        room-11′ z q f = let b : w .q .limits .B ≡ a .open .head .b = w .read .store .head .B in rw (← (one-queue s (w .is) f), few, lt-ltb (w .q .limits .B) (pendingBytes (w .q .recs) + n) (omega arith))
+      module _ (t : b18 ≡ false) where
+        free : leb (shareOf c (w .q .limits)) (pendingsOf c (w .q .recs)) ≡ false
+        free = sym (full (w .q) (w .is)) ∙ t
 
-        pub room-0 : i - r ≤ a .open .head .b - n → RoomIs s n 0
+        pub room-11 : a .open .head .limits .b < n → RoomIs s c n 11
         unfolding roomOf
-        room-0 z q f = let b : w .q .limits .B ≡ a .open .head .b = w .read .store .head .B in rw (← (one-queue s (w .is) f), few, le-ltb (w .q .limits .B) (pendingBytes (w .q .recs) + n) (omega arith))
+        room-11 j q f = let b : w .q .limits .B ≡ a .open .head .limits .b = head-B (w .read .store .head) in rw (← (one-queue s (w .is) f), few, free, lt-ltb (w .q .limits .B) (pendingBytes (w .q .recs) + n) (omega arith))
+
+        module _ (j : n ≤ a .open .head .limits .b) {i : ℕ} (r : ℕ) (y : i ≡ pendingBytes (w .q .recs) + r) where
+          pub room-11′ : a .open .head .limits .b - n < i - r → RoomIs s c n 11
+          unfolding roomOf
+          room-11′ z q f = let b : w .q .limits .B ≡ a .open .head .limits .b = head-B (w .read .store .head) in rw (← (one-queue s (w .is) f), few, free, lt-ltb (w .q .limits .B) (pendingBytes (w .q .recs) + n) (omega arith))
+
+          pub room-0 : i - r ≤ a .open .head .limits .b - n → RoomIs s c n 0
+          unfolding roomOf
+          room-0 z q f = let b : w .q .limits .B ≡ a .open .head .limits .b = head-B (w .read .store .head) in rw (← (one-queue s (w .is) f), few, free, le-ltb (w .q .limits .B) (pendingBytes (w .q .recs) + n) (omega arith))
 
 -- ---- the entry of a new record
-entry-shape : (x : Asked) (id ins outs bytes label : Bytes) → id ++ (0 ∷ 0 ∷ (termsBytes (newTerms x label (length bytes)) ++ (0 ∷ (codec.be 2 (length (items 32 ins)) ++ concat (items 32 ins))))) ≡ entryBytes (newOf x id ins outs bytes label)
+entry-shape : (x : Asked) (id ins outs bytes label : Bytes) → id ++ (codec.be 1 (x .caller) ++ (0 ∷ 0 ∷ (termsBytes (newTerms x label (length bytes)) ++ (0 ∷ (codec.be 2 (length (items 32 ins)) ++ concat (items 32 ins)))))) ≡ entryBytes (newOf x id ins outs bytes label)
 unfolding entryBytes newOf newRec placeBytes
 entry-shape x id ins outs bytes label = refl
 
 pub entry-long : (x : Asked) (id ins outs bytes label : Bytes) → length id ≡ 32 → HeldFit ins outs bytes → length (entryBytes (newOf x id ins outs bytes label)) ≡ entryNewLen x ins label
 entry-long x id ins outs bytes label l f =
     let t = terms-size x label (length bytes) in let j = ap length (items-join ins (f .wholeIns)) in let b = be-length 2 (length (items 32 ins)) in
-    let u = length-append id (0 ∷ 0 ∷ (termsBytes (newTerms x label (length bytes)) ++ (0 ∷ (codec.be 2 (length (items 32 ins)) ++ concat (items 32 ins))))) in
+    let u = length-append id (codec.be 1 (x .caller) ++ (0 ∷ 0 ∷ (termsBytes (newTerms x label (length bytes)) ++ (0 ∷ (codec.be 2 (length (items 32 ins)) ++ concat (items 32 ins)))))) in
+    let c = length-append (codec.be 1 (x .caller)) (0 ∷ 0 ∷ (termsBytes (newTerms x label (length bytes)) ++ (0 ∷ (codec.be 2 (length (items 32 ins)) ++ concat (items 32 ins))))) in
+    let e = be-length 1 (x .caller) in
     let v = length-append (termsBytes (newTerms x label (length bytes))) (0 ∷ (codec.be 2 (length (items 32 ins)) ++ concat (items 32 ins))) in
     let w = length-append (codec.be 2 (length (items 32 ins))) (concat (items 32 ins)) in
     sym (ap length (entry-shape x id ins outs bytes label)) ∙ omega arith
 
-pub entry-put : {d d₁ d₂ d₃ d₄ d₅ d₆ : Bytes} {p1 p2 p3 p4 p5 r : ℕ} (x : Asked) (id ins outs bytes label : Bytes) → HeldFit ins outs bytes
-    → Put d 0 id 32 p1 d₁ → Put d₁ p1 (be 2 0) 2 p2 d₂ → Put d₂ p2 (termsBytes (newTerms x label (length bytes))) (termsLen x label) p3 d₃ → Put d₃ p3 (0 ∷ []) 1 p4 d₄
+pub entry-put : {d d₀ d₁ d₂ d₃ d₄ d₅ d₆ : Bytes} {p0 p1 p2 p3 p4 p5 r : ℕ} (x : Asked) (id ins outs bytes label : Bytes) → x .caller < 256 → HeldFit ins outs bytes
+    → Put d 0 id 32 p0 d₀ → Put d₀ p0 (be 1 (x .caller)) 1 p1 d₁ → Put d₁ p1 (be 2 0) 2 p2 d₂ → Put d₂ p2 (termsBytes (newTerms x label (length bytes))) (termsLen x label) p3 d₃ → Put d₃ p3 (0 ∷ []) 1 p4 d₄
     → Put d₄ p4 (be 2 (length ins / 32)) 2 p5 d₅ → Put d₅ p5 (take (length ins) (drop 0 ins)) (length ins) r d₆
     → Put d 0 (entryBytes (newOf x id ins outs bytes label)) (entryNewLen x ins label) r d₆
-entry-put x id ins outs bytes label f a b c e g h =
-    recast (then (then (then (then (then a b) c) e) g) h)
-    (glue id (termsBytes (newTerms x label (length bytes))) (be-same 2 (length ins / 32) (f .fewIns) ∙ ap (codec.be 2) (sym (items-many ins))) (all-of ins ∙ sym (items-join ins (f .wholeIns)))
+entry-put x id ins outs bytes label l f a w b c e g h =
+    recast (then (then (then (then (then (then a w) b) c) e) g) h)
+    (ap (λ (y : Bytes). (((((id ++ y) ++ be 2 0) ++ termsBytes (newTerms x label (length bytes))) ++ (0 ∷ [])) ++ be 2 (length ins / 32)) ++ take (length ins) (drop 0 ins)) (be-same 1 (x .caller) l)
+    ∙ glue (id ++ codec.be 1 (x .caller)) (termsBytes (newTerms x label (length bytes))) (be-same 2 (length ins / 32) (f .fewIns) ∙ ap (codec.be 2) (sym (items-many ins))) (all-of ins ∙ sym (items-join ins (f .wholeIns)))
+    ∙ append-assoc id (codec.be 1 (x .caller)) _
     ∙ entry-shape x id ins outs bytes label)
     (omega arith) refl
   where
@@ -417,7 +460,7 @@ put-long r l =
 -- ---- the whole area
 module _ {s : Bytes} {a : Area} (cursor : Height) (has : Bool) (tip : Id) {r : Rec} (w : WithFrom s a (cursor .0) (tipOf has tip) r) where
   abbrev pub Limz : Limits
-  Limz = limits (a .open .head .p) (a .open .head .b) (a .open .head .t) (a .open .head .k)
+  Limz = limitsIn (a .open .head .limits)
 
   abbrev pub recsWith : List Rec
   recsWith = putF r false (listAt (formC false recC) (a .open .head .count) s (a .open .start))
@@ -452,7 +495,7 @@ module _ {s : Bytes} {a : Area} (cursor : Height) (has : Bool) (tip : Id) {r : R
 
       pub with-room : frontLen + tipSize has + length (encs recC recsWith) ≤ a .need
       with-room =
-          let q = queue-long Limz marksWith tip recsWith with-many l in
+          let q = queue-long Limz marksWith tip recsWith (shares-sixteen (w .read)) with-many l in
           let v = ap need (the-limits (w .read)) in let y = with-fits in omega (arith, w .read .need)
 
       pub with-done : {d d₁ d₂ d₃ : Bytes} {o y y′ to : ℕ} {q′ : Queue} → readArea s ≡ some q′ → a .need ≤ length d → to ≡ frontLen + tipSize has

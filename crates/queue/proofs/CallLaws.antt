@@ -9,7 +9,7 @@ use native.Mathlib.Nat.{zero-add}
 use lib.Dec.{ltb, leb, eqb}
 use lib.ListN.{length, drop, take, getD, replicate, length-append, length-drop}
 use lib.Seq.{take-at, drop-at, drop-drop}
-use borrow.Author.Tests.{lt-ltb, le-ltb, le-leb, lt-leb, leb-true, ltb-true, ltb-false, eq-eqb, ne-eqb, eqb-true}
+use borrow.Author.Tests.{lt-ltb, le-ltb, le-leb, lt-leb, leb-true, ltb-true, ltb-false, eq-eqb, ne-eqb, eqb-true, eqb-false}
 use Rattle.queue.specs.Codec as codec
 use Rattle.queue.specs.Codec.{Codec, cases, All, beC, be-length, optC, encs, vecC, byteC}
 use Rattle.queue.specs.Lists.{and-true}
@@ -25,16 +25,17 @@ use Rattle.queue.specs.Areas.{readArea, layout}
 use Rattle.queue.specs.Bound.{fits-need, area-size, reads-area, over-same}
 use Rattle.queue.specs.Sounds.{Fit, fit-of, fit-sound, fit-ok}
 use Rattle.queue.specs.Keeps.{Kept, Leaves, leaves-kept, fresh-fit, moved-fit, settled-fit}
-use Rattle.queue.specs.Opens.{limits, AreaAs, AreaIs}
+use Rattle.queue.specs.Opens.{AreaAs, AreaIs}
 use Rattle.queue.specs.Fronts.{tipOf, frontBytes, queueOf}
 use Rattle.queue.specs.Writes.{MovedFrom, MovedTo}
 use Rattle.queue.specs.paper.Records.{Bytes, Id, Limits, Rec, Queue}
-use Rattle.queue.specs.paper.Lists.{map, concat}
-use Rattle.queue.specs.paper.Sound.{inRange, need}
+use Rattle.queue.specs.Shares.{LentShares}
+use Rattle.queue.specs.paper.Lists.{all?, map, concat}
+use Rattle.queue.specs.paper.Sound.{inRange, sharesRight?, limitsRight?, need}
 use Rattle.queue.specs.paper.Area.{headUnder, headBytes, recBytes, queueBytes, areaBytes, over}
 use Rattle.queue.specs.paper.Changing.{moved, setCursor}
 use Rattle.queue.specs.Checked.{Outcome, outcome, Written, written, setCursorOf}
-use Rattle.queue.specs.paper.Calls.{id?, fresh, freshOf, settleShape?, settleOf}
+use Rattle.queue.specs.paper.Calls.{id?, numbers, limitsOf, fresh, freshOf, settleShape?, settleOf}
 use Rattle.queue.specs.declared.Kind.the-variants.{Nothing, Memory, Whole}
 use Rattle.queue.specs.declared.Answer.the-variants.{Refused, Done}
 use Rattle.queue.specs.declared.frame.Height.{Height}
@@ -43,6 +44,7 @@ use Rattle.queue.specs.declared.head.Marks.{Marks}
 use Rattle.queue.proofs.PutLaws.{nothing, recast, over-splice, splice-is}
 use Rattle.queue.proofs.ByteLaws.{be-same}
 use Rattle.queue.proofs.FrontLaws.{area-done}
+use Rattle.queue.proofs.ShareLaws.{sixteen, zeros-fit}
 use Rattle.queue.proofs.WriteLaws.{fit, long-need}
 use Rattle.queue.proofs.ReadingLaws.{key}
 
@@ -51,29 +53,68 @@ pub need-512 : (m : Limits) → 512 ≤ need m
 unfolding need
 need-512 m = omega arith
 
-pub fresh-1 : (m : Limits) (area : Bytes) → inRange m ≡ false → written (Refused 1) area ≡ freshOf m area
-unfolding freshOf
-fresh-1 m area e = rw e
+-- limits and shares as they are lent; v: the shares that the code has, l: with the limits
+module _ (p b t k : ℕ) (shares area : Bytes) {v : Bytes} (w : LentShares shares v) where
+  abbrev Asks : Limits
+  Asks = limitsOf p b t k shares
 
-pub fresh-2 : (m : Limits) (area : Bytes) {n : ℕ} → inRange m ≡ true → n ≡ need m → length area < n → written (Refused 2) area ≡ freshOf m area
-unfolding freshOf
-fresh-2 m area e f h = rw (e, lt-ltb (length area) (need m) (omega arith))
+  abbrev Has : Limits
+  Has = limitsOf p b t k v
+
+  -- shares that are not whole are not looked at
+  asked-is : {f : Bool} → f ≡ all? (λ n. leb n p) (numbers v) → (inRange Asks && (not (eqb (length shares) 64) || sharesRight? Asks)) ≡ (inRange Has && f)
+  unfolding inRange sharesRight?
+  asked-is {f} e = cases (eqb (length shares) 64)
+      (λ h. let n = eqb-true (length shares) 64 h in let z = w .whole n in
+      rw (h, eq-eqb _ 16 (sixteen shares n), ← z, ← e))
+      (λ h. let z = w .zeros (eqb-false (length shares) 64 h) in let y = e ∙ ap (λ (s : Bytes). all? (λ n. leb n p) (numbers s)) z ∙ zeros-fit p in rw (h, y))
+
+  pub fresh-1 : {c f r : Bool} → c ≡ inRange Has → f ≡ all? (λ n. leb n p) (numbers v) → r ≡ (c && f) → r ≡ false → written (Refused 1) area ≡ freshOf p b t k shares area
+  unfolding freshOf
+  fresh-1 e g h z = let y : (inRange Has && all? (λ n. leb n p) (numbers v)) ≡ false = rw (← e, ← g, ← h) z in rw (asked-is refl ∙ y)
+
+  module _ {c f r : Bool} (e : c ≡ inRange Has) (g : f ≡ all? (λ n. leb n p) (numbers v)) (h : r ≡ (c && f)) (z : r ≡ true) where
+    both-hold : (inRange Has ≡ true) × (all? (λ n. leb n p) (numbers v) ≡ true)
+    both-hold = let y = and-true c f (sym h ∙ z) in (sym e ∙ y .0, sym g ∙ y .1)
+
+    pub fresh-range : inRange Has ≡ true
+    fresh-range = both-hold .0
+
+    asked-holds : (inRange Asks && (not (eqb (length shares) 64) || sharesRight? Asks)) ≡ true
+    asked-holds = asked-is refl ∙ rw (both-hold .0, both-hold .1)
+
+    pub fresh-2 : {n : ℕ} → n ≡ need Has → length area < n → written (Refused 2) area ≡ freshOf p b t k shares area
+    unfolding freshOf need
+    fresh-2 {n} i l = rw (asked-holds, lt-ltb (length area) (need Asks) (omega arith))
+
+    pub fresh-5 : {n : ℕ} → n ≡ need Has → n ≤ length area → (length shares ≡ 64 → ⊥) → written (Refused 5) area ≡ freshOf p b t k shares area
+    unfolding freshOf need
+    fresh-5 {n} i l j = rw (asked-holds, le-ltb (length area) (need Asks) (omega arith), ne-eqb (length shares) 64 j)
 
 abbrev pub freshMarks : Marks
 freshMarks = record { persisted = record { 0 = 0 }; revision = 0; cursor = record { 0 = 0 }; tip = false; counter = record { 0 = 0 }; count = 0 }
 
-fresh-fits : (m : Limits) → inRange m ≡ true → length (queueC .enc (fresh m)) ≤ need m
+fresh-fits : (m : Limits) → limitsRight? m ≡ true → length (queueC .enc (fresh m)) ≤ need m
 fresh-fits m e = let f = fresh-fit m e in fits-need (fresh m) (fit-sound (fresh m) f) (fit-ok (fresh m) f)
 
 none-put : (d : Bytes) (at : ℕ) → Put d at (encs recC []) (length (encs recC [])) at d
 unfolding encs
 none-put d at = nothing d at
 
-pub fresh-done : (m : Limits) (tip : Id) {d d₁ d₂ : Bytes} {e r n : ℕ} → inRange m ≡ true → n ≡ need m → n ≤ length d → Put d 0 (frontBytes m freshMarks tip) 46 e d₁ → Put d₁ e (replicate (n - e) 0) (n - e) r d₂ → written (Done Nothing) d₂ ≡ freshOf m d
-unfolding freshOf
-fresh-done m tip {d} {d₁} {d₂} {e} {r} {n} i f h a b =
-    let x = area-done m freshMarks tip [] refl (fresh-fits m i) f h (none-put d e) (recast a refl (omega (arith, a .next)) refl) b in
-    rw (i, le-ltb (length d) (need m) (omega arith), x)
+module _ (p b t k : ℕ) (shares : Bytes) {v : Bytes} (w : LentShares shares v) {c f y : Bool} (e : c ≡ inRange (limitsOf p b t k v)) (g : f ≡ all? (λ n. leb n p) (numbers v)) (h : y ≡ (c && f)) (z : y ≡ true) where
+  lent-right : limitsRight? (limitsOf p b t k v) ≡ true
+  unfolding sharesRight?
+  lent-right = let u = both-hold p b t k shares [] w e g h z in rw (u .0, eq-eqb _ 16 (sixteen v (w .long)), u .1)
+
+  pub fresh-done : (tip : Id) {d d₁ d₂ : Bytes} {o r n : ℕ} → length shares ≡ 64 → n ≡ need (limitsOf p b t k v) → n ≤ length d → Put d 0 (frontBytes (limitsOf p b t k v) freshMarks tip) 110 o d₁ → Put d₁ o (replicate (n - o) 0) (n - o) r d₂
+      → written (Done Nothing) d₂ ≡ freshOf p b t k shares d
+  unfolding freshOf need
+  fresh-done tip {d} {d₁} {d₂} {o} {r} {n} l i j a x =
+      let m = limitsOf p b t k v in
+      let s = w .whole l in
+      let q = area-done m freshMarks tip [] refl (fresh-fits m lent-right) i j (none-put d o) (recast a refl (omega (arith, a .next)) refl) x in
+      let u : (inRange (limitsOf p b t k shares) && (not (eqb (length shares) 64) || sharesRight? (limitsOf p b t k shares))) ≡ true = asked-holds p b t k shares d w e g h z in
+      rw (u, le-ltb (length d) (need m) (omega arith), eq-eqb (length shares) 64 l, ← s, q)
 
 -- ---- cursor setting
 pub cursor-3 : (cur next : Bytes) (height flag : ℕ) (tip : Bytes) → readArea cur ≡ none → outcome (Refused 3) next [] ≡ setCursorOf cur next height flag tip

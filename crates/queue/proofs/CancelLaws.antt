@@ -44,6 +44,7 @@ use Rattle.queue.specs.declared.frame.Seen.{Seen}
 use Rattle.queue.specs.declared.area.Area.{Area}
 use Rattle.queue.specs.declared.reading.Found.{Found}
 use Rattle.queue.specs.declared.finish.Change.the-variants.{Named}
+use Rattle.queue.proofs.FrameLaws.{caller-byte}
 use Rattle.queue.proofs.Turns.{SeenIn, ReadsRec}
 use Rattle.queue.proofs.PutLaws.{over-splice}
 use Rattle.queue.proofs.ByteLaws.{be-same, between}
@@ -163,16 +164,16 @@ module _ {s : Bytes} {a : Area} {id : Id} {at : ℕ} {x : Seen} (w : HeldIn s a 
   unfolding view
   held-asks = let u = w .seen .0 in (omega (arith, u .up, u .upPlace), omega (arith, u .upBody, u .end, length-drop at s, u .up, u .upPlace))
 
-  end-shape : (n : ℕ) → (((w .r .id ++ (4 ∷ [])) ++ (1 ∷ [])) ++ (termsC .enc (w .r .terms) ++ placeC .enc (w .r .place))) ++ codec.be 2 0 ≡ entryBytes (finished 4 1 n (w .r))
+  end-shape : (n : ℕ) → ((((w .r .id ++ codec.be 1 (w .r .caller)) ++ (4 ∷ [])) ++ (1 ∷ [])) ++ (termsC .enc (w .r .terms) ++ placeC .enc (w .r .place))) ++ codec.be 2 0 ≡ entryBytes (finished 4 1 n (w .r))
   unfolding entryBytes finished
-  end-shape n = rw (terms-plain (w .r .terms), place-plain (w .r .place)) (rejoin (w .r .id) (4 ∷ []) (1 ∷ []) (termsBytes (w .r .terms)) (placeBytes (w .r .place)) (codec.be 2 0))
+  end-shape n = rw (terms-plain (w .r .terms), place-plain (w .r .place)) (rejoin (w .r .id) (codec.be 1 (w .r .caller)) (4 ∷ []) (1 ∷ []) (termsBytes (w .r .terms)) (placeBytes (w .r .place)) (codec.be 2 0))
     where
-      rejoin : (i a b t p n : Bytes) → (((i ++ a) ++ b) ++ (t ++ p)) ++ n ≡ i ++ (a ++ (b ++ (t ++ (p ++ (n ++ [])))))
-      rejoin i a b t p n = simp (append-assoc, append-nil)
+      rejoin : (i c a b t p n : Bytes) → ((((i ++ c) ++ a) ++ b) ++ (t ++ p)) ++ n ≡ i ++ (c ++ (a ++ (b ++ (t ++ (p ++ (n ++ []))))))
+      rejoin i c a b t p n = simp (append-assoc, append-nil)
 
   end-is : (n : ℕ) → endBytes s at x 4 1 ≡ entryBytes (finished 4 1 n (w .r))
   unfolding endBytes
-  end-is n = rw (w .seen .0 .id, middle .0, be-same 2 0 (omega arith)) (end-shape n)
+  end-is n = rw (w .seen .0 .id, caller-byte (w .seen .0), middle .0, be-same 2 0 (omega arith)) (end-shape n)
 
   end-long : (n : ℕ) → length (entryBytes (finished 4 1 n (w .r))) ≡ x .mark + 1
   unfolding endBytes
@@ -181,6 +182,7 @@ module _ {s : Bytes} {a : Area} {id : Id} {at : ℕ} {x : Seen} (w : HeldIn s a 
       let h = held-asks in
       let m = ap length (middle .0) ∙ middle .1 in
       let e = Rattle.queue.proofs.PutLaws.length-be 2 0 in
+      let c = Rattle.queue.proofs.PutLaws.length-be 1 (x .facts .caller) in
       sym (ap length (end-is n)) ∙ simp length-append (omega arith)
 
   picks-one : All (λ r. named? id r ≡ true → holder? r ≡ true) (w .q .recs)

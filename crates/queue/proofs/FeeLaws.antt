@@ -22,7 +22,7 @@ use Rattle.queue.specs.Reads.{Reads, whole, listAt}
 use Rattle.queue.specs.ReadLaws.{Turn, false-true}
 use Rattle.queue.specs.View.{view}
 use Rattle.queue.specs.Forms.{formC, afterIn, turn-in}
-use Rattle.queue.specs.Facts.{factsOf, SeenAs, NumAt}
+use Rattle.queue.specs.Facts.{termsAt, factsOf, SeenAs, NumAt}
 use Rattle.queue.specs.Sounds.{Fields, fields-of, Before}
 use Rattle.queue.specs.Opens.{AreaAs, AreaIs}
 use Rattle.queue.specs.Areas.{readArea}
@@ -86,12 +86,12 @@ module _ {s : Bytes} {i m : ℕ} {ok : Bool} {y : Seen} {r : Rec} (w : SeenIn fa
   unfolding beC
   fee-here =
       let t = r .terms in
-      let e : drop 35 v ≡ termsBytes t ++ drop (y .after) v = w .0 .terms ∙ ap (λ (x : Bytes). x ++ drop (y .after) v) (terms-plain t) in
-      let l = between v (termsBytes t) 35 (y .after) e (w .0 .up) fee-within .1 in
+      let e : drop termsAt v ≡ termsBytes t ++ drop (y .after) v = w .0 .terms ∙ ap (λ (x : Bytes). x ++ drop (y .after) v) (terms-plain t) in
+      let l = between v (termsBytes t) termsAt (y .after) e (w .0 .up) fee-within .1 in
       let k : length (termsBytes t) ≡ length (front t) + 20 = omega (arith, ap length (terms-split t), length-append (front t) (codec.be 8 (t .fee) ++ back t), length-append (codec.be 8 (t .fee)) (back t), length-append (codec.be 4 (t .size)) (codec.be 8 (t .cost)), be-length 8 (t .fee), be-length 4 (t .size), be-length 8 (t .cost)) in
-      let n : y .after - 20 ≡ 35 + length (front t) = omega (arith, w .0 .up) in
+      let n : y .after - 20 ≡ termsAt + length (front t) = omega (arith, w .0 .up) in
       let d : drop (y .after - 20) v ≡ codec.be 8 (t .fee) ++ (back t ++ drop (y .after) v) =
-      ap (λ (x : ℕ). drop x v) n ∙ sym (drop-drop (length (front t)) 35 v) ∙ ap (drop (length (front t))) (e ∙ ap (λ (x : Bytes). x ++ drop (y .after) v) (terms-split t) ∙ append-assoc (front t) (codec.be 8 (t .fee) ++ back t) (drop (y .after) v))
+      ap (λ (x : ℕ). drop x v) n ∙ sym (drop-drop (length (front t)) termsAt v) ∙ ap (drop (length (front t))) (e ∙ ap (λ (x : Bytes). x ++ drop (y .after) v) (terms-split t) ∙ append-assoc (front t) (codec.be 8 (t .fee) ++ back t) (drop (y .after) v))
       ∙ drop-at (front t) ((codec.be 8 (t .fee) ++ back t) ++ drop (y .after) v) (length (front t)) refl ∙ append-assoc (codec.be 8 (t .fee)) (back t) (drop (y .after) v) in
       ap (codec.beDec 8) d ∙ be-fwd 8 (t .fee) (back t ++ drop (y .after) v) (fee-small r (w .1 .fine))
 

@@ -26,7 +26,7 @@ use Rattle.queue.specs.Plain.{terms-plain, place-plain, rec-plain}
 use Rattle.queue.specs.paper.Records.{Bytes, Id, Rec}
 use Rattle.queue.specs.paper.Lists.{one, total, count, filter}
 use Rattle.queue.specs.paper.Ids.{cmpL}
-use Rattle.queue.specs.paper.Area.{termsBytes, placeBytes, recBytes}
+use Rattle.queue.specs.paper.Area.{termsBytes, placeBytes, recUnder, recBytes}
 use Rattle.queue.specs.paper.Sound.{holder?, tombstones}
 use Rattle.queue.specs.paper.Changing.{named?, due?, reached?, finished, finishThose, higher, forget}
 use Rattle.queue.specs.Finishing.{picked, pickedS, fateOf, stepL, stepCount, one?, walkL, finBytes, stepBytes, Floors, newAbove, above}
@@ -37,6 +37,7 @@ use Rattle.queue.specs.declared.finish.Change.{Change}
 use Rattle.queue.specs.declared.finish.Change.the-variants.{Named, Due}
 use Rattle.queue.specs.declared.finish.Fate.{Fate}
 use Rattle.queue.specs.declared.finish.Fate.the-variants.{Drop, Keep, End}
+use Rattle.queue.proofs.FrameLaws.{caller-byte}
 use Rattle.queue.proofs.Turns.{Scan, start, on, stop, end, SeenIn, ReadsRec, seen, see}
 use Rattle.queue.proofs.PutLaws.{then, recast, Left, begun, onward, done, kept, length-be}
 use Rattle.queue.proofs.ByteLaws.{be-same, between}
@@ -234,18 +235,19 @@ rejoin i a b t p m n z = simp append-assoc
 regroup : (i a b t p m n z : Bytes) → ((((((2 ∷ []) ++ i) ++ a) ++ b) ++ (t ++ (p ++ m))) ++ n) ++ z ≡ 2 ∷ (i ++ (a ++ (b ++ (t ++ (p ++ (m ++ (n ++ z)))))))
 regroup i a b t p m n z = ap (λ (k : Bytes). 2 ∷ k) (rejoin i a b t p m n z)
 
-shape : (state reason n : ℕ) (r : Rec) → ((((((2 ∷ []) ++ r .id) ++ (state ∷ [])) ++ (reason ∷ [])) ++ (termsC .enc (r .terms) ++ (placeC .enc (r .place) ++ beC 1 .enc (r .mark)))) ++ codec.be 8 n) ++ (0 ∷ []) ≡ recC .enc (finished state reason n r)
-unfolding recBytes finished beC
+shape : (state reason n : ℕ) (r : Rec) → (((((((2 ∷ []) ++ r .id) ++ codec.be 1 (r .caller)) ++ (state ∷ [])) ++ (reason ∷ [])) ++ (termsC .enc (r .terms) ++ (placeC .enc (r .place) ++ beC 1 .enc (r .mark)))) ++ codec.be 8 n) ++ (0 ∷ []) ≡ recC .enc (finished state reason n r)
+unfolding recUnder finished beC
 shape state reason n r =
-    glue (r .id) (codec.be 8 n) (0 ∷ []) (sym (byte-one state)) (sym (byte-one reason)) (terms-plain (r .terms)) (place-plain (r .place)) refl
-    ∙ regroup (r .id) (codec.be 1 state) (codec.be 1 reason) (termsBytes (r .terms)) (placeBytes (r .place)) (codec.be 1 (r .mark)) (codec.be 8 n) (0 ∷ [])
+    glue (r .id ++ codec.be 1 (r .caller)) (codec.be 8 n) (0 ∷ []) (sym (byte-one state)) (sym (byte-one reason)) (terms-plain (r .terms)) (place-plain (r .place)) refl
+    ∙ regroup (r .id ++ codec.be 1 (r .caller)) (codec.be 1 state) (codec.be 1 reason) (termsBytes (r .terms)) (placeBytes (r .place)) (codec.be 1 (r .mark)) (codec.be 8 n) (0 ∷ [])
+    ∙ ap (λ (k : Bytes). 2 ∷ k) (append-assoc (r .id) (codec.be 1 (r .caller)) _)
     ∙ sym (rec-plain (finished state reason n r))
 
 pub fin-is : (s : Bytes) (base : ℕ) {x : Seen} {r : Rec} (state reason n : ℕ) → n < 256 ^ 8 → SeenAs (view false s base) x r → finBytes s base x state reason n ≡ recC .enc (finished state reason n r)
 unfolding finBytes view
 fin-is s base {x} {r} state reason n h w =
     let e : take (x .mark + 1 - termsAt) (drop (base + termsAt) s) ≡ termsC .enc (r .terms) ++ (placeC .enc (r .place) ++ beC 1 .enc (r .mark)) = ap (take (x .mark + 1 - termsAt)) (sym (drop-drop termsAt base s)) ∙ middle w .0 in
-    rw (w .id, be-same 8 n h, e) (shape state reason n r)
+    rw (w .id, caller-byte w, be-same 8 n h, e) (shape state reason n r)
 
 -- ---- the walk that writes
 step-count : (t : Fate) (r : Rec) → stepCount t ≡ length (stepL t r)
@@ -284,6 +286,7 @@ pub end-long : (s : Bytes) (base : ℕ) (x : Seen) (a b : ℕ) (n : Finish) → 
 unfolding stepBytes finBytes
 end-long s base x a b n i h k =
     let y = length-be 8 (n .0) in
+    let c = length-be 1 (x .facts .caller) in
     let d = length-drop (base + termsAt) s in
     let z = length-take-le (x .mark + 1 - termsAt) (drop (base + termsAt) s) (omega arith) in
     simp length-append (omega arith)

@@ -11,6 +11,7 @@ use Rattle.queue.specs.Opens.{AreaAs}
 use Rattle.queue.specs.paper.Records.{Bytes, Queue}
 use Rattle.queue.specs.declared.area.Area.{Area}
 use Rattle.queue.specs.declared.rules.Query.the-variants.{Tombstones}
+use Rattle.queue.specs.Facts.{limitsIn}
 use Rattle.queue.proofs.OpenLaws.{list-length, held-few, tombs-are}
 
 -- how many tombstones there are
@@ -18,12 +19,12 @@ module _ {s : Bytes} {a : Area} {q : Queue} (w : AreaAs s a q) where
   pub held-here : a .open .sums .holders ≤ a .open .head .count
   held-here =
       let st = w .store in
-      held-few (a .open .head .p) (a .open .head .b) (a .open .head .t) (a .open .head .k) (a .open .head .count) (a .open .head .counter) (a .open .sums) (listAt (formC false recC) (a .open .head .count) s (a .open .start)) (st .sums)
+      held-few (limitsIn (a .open .head .limits)) (a .open .head .count) (a .open .head .counter) (a .open .sums) (listAt (formC false recC) (a .open .head .count) s (a .open .start)) (st .sums)
       (list-length (formC false recC) (a .open .head .count) s (a .open .start) (st .all))
 
   pub tombs-here : sum Tombstones (listAt (formC false recC) (a .open .head .count) s (a .open .start)) ≡ a .open .head .count - a .open .sums .holders
   unfolding sum weight factsOf
   tombs-here =
       let st = w .store in
-      tombs-are (a .open .head .p) (a .open .head .b) (a .open .head .t) (a .open .head .k) (a .open .head .count) (a .open .head .counter) (a .open .sums) (listAt (formC false recC) (a .open .head .count) s (a .open .start)) (st .sums)
+      tombs-are (limitsIn (a .open .head .limits)) (a .open .head .count) (a .open .head .counter) (a .open .sums) (listAt (formC false recC) (a .open .head .count) s (a .open .start)) (st .sums)
       (list-length (formC false recC) (a .open .head .count) s (a .open .start) (st .all))

@@ -13,16 +13,17 @@ use lib.Seq.{drop-cons, take-at}
 use borrow.Author.Tests.{lt-ltb, eq-eqb, ne-eqb}
 use Rattle.queue.specs.Codec.{Bytes, Got, fail, got, _>>=_, Codec, cases, byteC, be, beDec, beC, pairDec, pairC, mapC, optEnc, optC, decs, vecC, countedC, encs, vec-bwd}
 use Rattle.queue.specs.paper.Records.{Id, Limits, Terms, Held, Rec}
-use Rattle.queue.specs.Frames.{tagC, tagDec, idC, labelC, termsC, termsOf, termsTuple, heldC, heldOf, heldTuple, bodyC, placeC, markSince, markC, restK, recK, recOf, recTuple, limitsC, Head, headK, headOf, headTuple}
-use Rattle.queue.specs.Choice.{guardDec, guardC}
+use Rattle.queue.specs.Frames.{tagC, tagDec, idC, labelC, termsC, termsOf, termsTuple, heldC, heldOf, heldTuple, bodyC, placeC, markSince, markC, restK, recK, recOf, recTuple, Four, fourC, sixteenC, sharesC, limitsFrom, limitsTuple, limitsK, Head, headK, headOf, headTuple}
+use Rattle.queue.specs.Choice.{fixC, sinceC, guardDec, guardC, thenDec, thenC}
 use Rattle.queue.specs.Kinds.{mark-enc, mark-up}
+use Rattle.queue.specs.Splice as written
 use Rattle.queue.specs.Ids.{part}
 use Rattle.queue.specs.Lists.{and-true}
 use Rattle.queue.specs.Reads.{Reads, Span, flagDec, flagC, Counted, OptSpan, whole, listAt}
-use Rattle.queue.specs.ReadLaws.{drop-none, false-true, pair, mapped, weaken, OptW, opt-absent, opt-present, Small, beAt, be-here, Spans, short, spanned, spans-be, spans-byte, spans-pair, spans-id, counted, opt-span, none-left}
-use Rattle.queue.specs.Facts.{termsAt, optNum, placeHeight, factsOf, TagAt, MarkAt, NumAt, OptAt, PlaceAs, TermsAs, BodyAs, RestAs, Bounded, SeenAs, LimAs, HeadAs}
+use Rattle.queue.specs.ReadLaws.{drop-none, false-true, pair, mapped, weaken, OptW, opt-absent, opt-present, Small, beAt, be-here, Spans, short, spanned, spans-be, spans-byte, spans-pair, spans-vec, spans-id, counted, opt-span, none-left}
+use Rattle.queue.specs.Facts.{termsUnder, optNum, placeHeight, factsOf, TagAt, MarkAt, CallerAt, NumAt, OptAt, PlaceAs, TermsAs, BodyAs, RestAs, Bounded, SeenFrom, SeenUnder, LimAs, limitsIn, SharesAs, SharesAt, LimitsAs, limitsLen, HeadUnder}
 use Rattle.queue.specs.paper.Lists.{isSome}
-use Rattle.queue.specs.paper.Kinds.{hasMark3, markSaid?}
+use Rattle.queue.specs.paper.Kinds.{hasMark3, markSaid?, hasCallers, firstShare}
 use Rattle.queue.specs.paper.Sound.{labelLen, inputs, outputs, content}
 use Rattle.queue.specs.declared.frame.Facts.{Facts}
 use Rattle.queue.specs.declared.frame.TermsR.{TermsR}
@@ -31,7 +32,10 @@ use Rattle.queue.specs.declared.frame.BodyR.{BodyR}
 use Rattle.queue.specs.declared.frame.RestR.{RestR}
 use Rattle.queue.specs.declared.frame.Seen.{Seen}
 use Rattle.queue.specs.declared.frame.Lim.{Lim}
+use Rattle.queue.specs.declared.frame.SharesR.{SharesR}
+use Rattle.queue.specs.declared.frame.LimitsR.{LimitsR}
 use Rattle.queue.specs.declared.frame.HeadR.{HeadR}
+use Rattle.queue.proofs.ByteLaws.{be-same}
 
 pub few : (w size k : ℕ) → w ≤ 4 → size ≤ 32 → k < 256 ^ w → k * size ≤ 2 ^ 32 * 32
 few w size k hw hs hk = mul-le-mul (le-trans (le-of-lt hk) (pow-le-pow-right (lit< tt) hw)) hs
@@ -365,8 +369,9 @@ rest-read {s} {at} {na} {nb} {nc} {nd} k pr r a b c d o e1 e2 e3 e4 e5 = ok-as o
     }))
 
 -- ---- a record
-unfoldable facts : ℕ → ℕ → ℕ → Bool → ℕ → Bool → ℕ → ℕ → ℕ → ℕ → Bool → ℕ → ℕ → ℕ → Bool → ℕ → ℕ → ℕ → Facts
-facts a b c d e f g h i j k l m n o p q r = record {
+unfoldable facts : ℕ → ℕ → ℕ → ℕ → Bool → ℕ → Bool → ℕ → ℕ → ℕ → ℕ → Bool → ℕ → ℕ → ℕ → Bool → ℕ → ℕ → ℕ → Facts
+facts w a b c d e f g h i j k l m n o p q r = record {
+  caller = w;
   state = a;
   reason = b;
   created = record { 0 = c };
@@ -388,8 +393,9 @@ facts a b c d e f g h i j k l m n o p q r = record {
 }
 
 -- the facts read, part by part
-abbrev pub factsFrom : ℕ → ℕ → TermsR → RestR → Facts
-factsFrom a b t r = record {
+abbrev pub factsFrom : ℕ → ℕ → ℕ → TermsR → RestR → Facts
+factsFrom w a b t r = record {
+  caller = w;
   state = a;
   reason = b;
   created = t .created;
@@ -410,41 +416,56 @@ factsFrom a b t r = record {
   bytes = r .held .bytes;
 }
 
-facts-from : (a b : ℕ) (t : TermsR) (r : RestR) → factsFrom a b t r ≡ facts a b (t .created .0) (t .timed) (t .due .0) (t .heighted) (t .dueheight .0) (t .priority) (t .label) (t .size) (r .placed) (r .mined .0) (r .mark) (r .finish .0) (r .held .holder) (r .held .ins) (r .held .outs) (r .held .bytes)
+facts-from : (w a b : ℕ) (t : TermsR) (r : RestR) → factsFrom w a b t r ≡ facts w a b (t .created .0) (t .timed) (t .due .0) (t .heighted) (t .dueheight .0) (t .priority) (t .label) (t .size) (r .placed) (r .mined .0) (r .mark) (r .finish .0) (r .held .holder) (r .held .ins) (r .held .outs) (r .held .bytes)
 unfolding facts
-facts-from a b t r = refl
+facts-from w a b t r = refl
 
-facts-of : (x : Rec) → factsOf x ≡ facts (x .state) (x .reason) (x .terms .created) (isSome (x .terms .due)) (optNum (x .terms .due)) (isSome (x .terms .dueHeight)) (optNum (x .terms .dueHeight)) (x .terms .priority) (labelLen (x .terms .label)) (x .terms .size) (isSome (x .place)) (placeHeight (x .place)) (x .mark) (x .finish) (isSome (x .body)) (length (inputs (x .body))) (length (outputs (x .body))) (length (content (x .body)))
+facts-of : (x : Rec) → factsOf x ≡ facts (x .caller) (x .state) (x .reason) (x .terms .created) (isSome (x .terms .due)) (optNum (x .terms .due)) (isSome (x .terms .dueHeight)) (optNum (x .terms .dueHeight)) (x .terms .priority) (labelLen (x .terms .label)) (x .terms .size) (isSome (x .place)) (placeHeight (x .place)) (x .mark) (x .finish) (isSome (x .body)) (length (inputs (x .body))) (length (outputs (x .body))) (length (content (x .body)))
 unfolding facts factsOf
 facts-of x = refl
 
-facts-is : (v : Bytes) (at a b : ℕ) (t : TermsR) (r : RestR) (x : Rec) → x .state ≡ a → x .reason ≡ b → TermsAs t (x .terms) → RestAs v at r (x .place, (x .mark, (x .finish, x .body))) → factsFrom a b t r ≡ factsOf x
-facts-is v at a b t r x e f p q = facts-from a b t r ∙ cc (facts-of x)
+facts-is : (v : Bytes) (at w a b : ℕ) (t : TermsR) (r : RestR) (x : Rec) → x .caller ≡ w → x .state ≡ a → x .reason ≡ b → TermsAs t (x .terms) → RestAs v at r (x .place, (x .mark, (x .finish, x .body))) → factsFrom w a b t r ≡ factsOf x
+facts-is v at w a b t r x g e f p q = facts-from w a b t r ∙ cc (facts-of x)
 
-pub rec-read : {s : Bytes} {na nb nc nd ne nf vc vd : ℕ} {va : Id} {oka okb okc okd oke okf : Bool} (k : ℕ) (t : TermsR) (x : RestR) (r : Seen)
-    → TagAt 2 s 0 oka na → Reads idC s na okb nb (λ x. x ≡ va) → NumAt 1 s nb okc nc vc → NumAt 1 s nc okd nd vd → Reads termsC s nd oke ne (TermsAs t) → Reads (restK k) s ne okf nf (RestAs s ne x)
-    → r .ok ≡ (oka && (okb && (okc && (okd && (oke && (okf && true)))))) → r .id ≡ va → r .facts ≡ factsFrom vc vd t x
+-- a caller takes a byte where the kind has it
+caller-size : (has : Bool) (c : ℕ) → sinceC has (beC 1) 0 .ok c → length (sinceC has (beC 1) 0 .enc c) ≡ cond has 1 0
+unfolding fixC
+caller-size true c h = spans-be 1 .size c h
+caller-size false c h = refl
+
+pub caller-yes : (k : ℕ) {s : Bytes} {at next v : ℕ} {ok : Bool} → hasCallers k ≡ true → NumAt 1 s at ok next v → CallerAt k s at ok next v
+caller-yes k t x = (rw t (x .0), x .1)
+
+pub caller-no : (k : ℕ) {s : Bytes} {at : ℕ} → hasCallers k ≡ false → CallerAt k s at true at 0
+unfolding fixC
+caller-no k f = (rw f (record { good = λ h _. (0, refl, omega arith, h, refl); bad = λ h z. false-true (sym z) }), omega arith)
+
+pub rec-read : {s : Bytes} {na nb nw nc nd ne nf vw vc vd : ℕ} {va : Id} {oka okb okw okc okd oke okf : Bool} (k : ℕ) (t : TermsR) (x : RestR) (r : Seen)
+    → TagAt 2 s 0 oka na → Reads idC s na okb nb (λ x. x ≡ va) → CallerAt k s nb okw nw vw → NumAt 1 s nw okc nc vc → NumAt 1 s nc okd nd vd → Reads termsC s nd oke ne (TermsAs t) → Reads (restK k) s ne okf nf (RestAs s ne x)
+    → r .ok ≡ (oka && (okb && (okw && (okc && (okd && (oke && okf)))))) → r .id ≡ va → r .facts ≡ factsFrom vw vc vd t x
     → r .after ≡ ne → r .mark ≡ x .marks → r .body ≡ x .body → r .at ≡ x .held .at → r .outs ≡ x .held .to → r .content ≡ x .held .content → r .size ≡ nf → x .next ≡ nf
-    → Reads (recK k) s 0 (r .ok) nf (SeenAs s r)
+    → Reads (recK k) s 0 (r .ok) nf (SeenUnder k s r)
 unfolding recK
-rec-read {s} {na} {nb} {nc} {nd} {ne} {nf} {vc} {vd} {va} {oka} {okb} {okc} {okd} {oke} {okf} k t x r a b c d e f o e1 e2 e3 e4 e5 e6 e7 e8 e9 e10 = ok-as (o ∙ rw (and-r okf)) (mapped recOf recTuple (λ t. refl) (λ t. refl) (SeenAs s r)
-    (pair (sized 1 (tag-size 2) a) (pair (sized 32 (spans-id .size) b) (pair (sized 1 (spans-be 1 .size) (c .0)) (pair (sized 1 (spans-be 1 .size) (d .0)) (pair (stands e) f)))))
+rec-read {s} {na} {nb} {nw} {nc} {nd} {ne} {nf} {vw} {vc} {vd} {va} k t x r a b cw c d e f o e1 e2 e3 e4 e5 e6 e7 e8 e9 e10 = ok-as o (mapped recOf recTuple (λ t. refl) (λ t. refl) (SeenUnder k s r)
+    (pair (sized 1 (tag-size 2) a) (pair (sized 32 (spans-id .size) b) (pair (sized (cond (hasCallers k) 1 0) (caller-size (hasCallers k)) (cw .0)) (pair (sized 1 (spans-be 1 .size) (c .0)) (pair (sized 1 (spans-be 1 .size) (d .0)) (pair (stands e) f))))))
     (λ y _ _ _ w.
     let p1 = w .0 .2 in
     let p2 = w .1 .0 .2 in
-    let p3 = w .1 .1 .0 .2 in
-    let p4 = w .1 .1 .1 .0 .2 in
-    let tw = w .1 .1 .1 .1 .0 in
-    let xw = w .1 .1 .1 .1 .1 in
+    let pw = w .1 .1 .0 .2 in
+    let p3 = w .1 .1 .1 .0 .2 in
+    let p4 = w .1 .1 .1 .1 .0 .2 in
+    let tw = w .1 .1 .1 .1 .1 .0 in
+    let xw = w .1 .1 .1 .1 .1 .1 in
     let hw = xw .held in
-    let at-terms : termsAt ≡ nd = omega arith in
+    let at-terms : termsUnder k ≡ nd = lead-at (hasCallers k) ∙ omega arith in
     let ins : r .facts .ins ≡ x .held .ins = rw e2 in
     let outs : r .facts .outs ≡ x .held .outs = rw e2 in
     let bytes : r .facts .bytes ≡ x .held .bytes = rw e2 in
     record {
       id = e1 ∙ sym (w .1 .0 .0);
-      facts = e2 ∙ facts-is s ne vc vd t x (recOf y) (w .1 .1 .0 .0) (w .1 .1 .1 .0 .0) (tw .0) xw;
+      facts = e2 ∙ facts-is s ne vw vc vd t x (recOf y) (w .1 .1 .0 .0) (w .1 .1 .1 .0 .0) (w .1 .1 .1 .1 .0 .0) (tw .0) xw;
       small = rw e2 (record {
+        caller = cw .1;
         state = c .1;
         reason = d .1;
         created = tw .0 .createdSmall;
@@ -464,7 +485,7 @@ rec-read {s} {na} {nb} {nc} {nd} {ne} {nf} {vc} {vd} {va} {oka} {okb} {okc} {okd
       place = rw (e3, e4) (xw .place);
       marks = rw (e4, e5) (xw .marks);
       body = rw (e5, e9) (rw e10 at (xw .body));
-      up = omega (arith, tw .2);
+      up = omega (arith, tw .2, at-terms);
       upPlace = omega (arith, xw .up);
       bodyAt = omega (arith, xw .bodyAt);
       upBody = omega (arith, xw .upBody);
@@ -478,18 +499,63 @@ rec-read {s} {na} {nb} {nc} {nd} {ne} {nf} {vc} {vd} {va} {oka} {okb} {okc} {okd
       signed = rw (bytes, e8) (hw .signed);
       signedIn = rw (bytes, e8) (hw .signedIn);
     }))
+  where
+    lead-at : (has : Bool) → _≡_ {A = ℕ} (cond has 36 35) (35 + cond has 1 0)
+    lead-at true = refl
+    lead-at false = refl
 
 -- ---- a header
 pub limits-read : {s : Bytes} {at na nb nc nd : ℕ} {oka okb okc okd : Bool} (r : Lim)
     → NumAt 4 s at oka na (r .p) → NumAt 4 s na okb nb (r .b) → NumAt 4 s nb okc nc (r .t) → NumAt 4 s nc okd nd (r .k)
-    → r .ok ≡ (oka && (okb && (okc && okd))) → Reads limitsC s at (r .ok) nd (LimAs r)
-unfolding limitsC
-limits-read r a b c d o = ok-as o (mapped _ _ _ _ (LimAs r) (pair (a .0) (pair (b .0) (pair (c .0) (d .0))))
+    → r .ok ≡ (oka && (okb && (okc && okd))) → Reads fourC s at (r .ok) nd (LimAs r)
+unfolding fourC
+limits-read r a b c d o = ok-as o (weaken (LimAs r) (pair (a .0) (pair (b .0) (pair (c .0) (d .0))))
     (λ t _ _ _ w. record { P = w .0; B = w .1 .0; T = w .1 .1 .0; K = w .1 .1 .1; pSmall = a .1; bSmall = b .1; tSmall = c .1; kSmall = d .1 }))
 
-pub limits-size : (m : Limits) → limitsC .ok m → length (limitsC .enc m) ≡ 16
-unfolding limitsC mapC
-limits-size m h = spans-pair (spans-be 4) (spans-pair (spans-be 4) (spans-pair (spans-be 4) (spans-be 4))) .size _ h
+-- the second reader may use what the first one found
+chained : {A B : Type 0} {𝓐 : Codec A} {𝓑 : A → Codec B} {s : Bytes} {at n₁ n₂ : ℕ} {ok₁ ok₂ : Bool} {W₁ : A → Type 0} {W₂ : A → B → Type 0}
+    → Reads 𝓐 s at ok₁ n₁ W₁ → ((a : A) → W₁ a → Reads (𝓑 a) s n₁ ok₂ n₂ (W₂ a)) → Reads (thenC 𝓐 𝓑) s at (ok₁ && ok₂) n₂ (λ x. W₁ (x .0) × W₂ (x .0) (x .1))
+unfolding thenC thenDec
+chained {A} {B} {𝓐} {𝓑} {s} {at} {n₁} {n₂} {ok₁ = true} x y = record {
+  good = λ h t. let u = x .good h refl in let v = y (u .0) (u .4) .good (u .3) t in
+      ((u .0, v .0), rw (u .1, v .1), omega arith, v .3, (u .4, v .4));
+  bad = λ h t. let u = x .good h refl in rw (u .1, y (u .0) (u .4) .bad (u .3) t);
+}
+chained {ok₁ = false} x y = record { good = λ h t. false-true t; bad = λ h t. rw (x .bad h refl) }
+
+-- the limits, and the shares behind them
+pub limits-shares : {s : Bytes} {at : ℕ} (k : ℕ) (m : Lim) (q : SharesR) (r : LimitsR) → Reads fourC s at (m .ok) (m .next) (LimAs m) → SharesAt k (m .p) s (m .next) q
+    → r .ok ≡ (m .ok && q .ok) → r .limits ≡ record { p = m .p; b = m .b; t = m .t; k = m .k; shares = q .bytes } → Reads (limitsK k) s at (r .ok) (q .next) (LimitsAs r)
+unfolding limitsK
+limits-shares {s} {at} k m q r a b o e = ok-as o (mapped limitsFrom limitsTuple (λ t. refl) (λ t. refl) (LimitsAs r)
+    (chained {W₂ = λ _ l. SharesAs q l} a (λ t w. let p : t .0 ≡ m .p = w .P in rw p (b (w .pSmall))))
+    (λ t _ _ _ w. record {
+      is = rw e (five (w .0 .P) (w .0 .B) (w .0 .T) (w .0 .K) (w .1 .is));
+      fit = rw e (record { p = w .0 .pSmall; b = w .0 .bSmall; t = w .0 .tSmall; k = w .0 .kSmall; long = w .1 .long; small = w .1 .small });
+    }))
+  where
+    five : {p b u k : ℕ} {t : Four × List ℕ} {l : List ℕ} → t .0 .0 ≡ p → t .0 .1 .0 ≡ b → t .0 .1 .1 .0 ≡ u → t .0 .1 .1 .1 ≡ k → l ≡ t .1 → record { P = p; B = b; T = u; K = k; shares = l } ≡ limitsFrom t
+    five x y z w v = rw (← x, ← y, ← z, ← w, v)
+
+four-size : (f : Four) → fourC .ok f → length (fourC .enc f) ≡ 16
+unfolding fourC
+four-size f h = spans-pair (spans-be 4) (spans-pair (spans-be 4) (spans-pair (spans-be 4) (spans-be 4))) .size f h
+
+shares-size : (has : Bool) (P : ℕ) (l : List ℕ) → sinceC has sixteenC (firstShare P) .ok l → length (sinceC has sixteenC (firstShare P) .enc l) ≡ cond has 64 0
+unfolding fixC sixteenC
+shares-size true P l h = spans-vec (spans-be 4) 16 .size l h
+shares-size false P l h = refl
+
+limits-size : (k : ℕ) (m : Limits) → limitsK k .ok m → length (limitsK k .enc m) ≡ limitsLen k
+unfolding limitsK mapC thenC
+limits-size k m h =
+    let b = four-size (m .P, (m .B, (m .T, m .K))) (h .0) in
+    let c = shares-size (hasCallers k) (m .P) (m .shares) (h .1) in
+    length-append (fourC .enc (m .P, (m .B, (m .T, m .K)))) (sharesC k (m .P) .enc (m .shares)) ∙ go (hasCallers k) b c
+  where
+    go : (has : Bool) {a b : ℕ} → a ≡ 16 → b ≡ cond has 64 0 → a + b ≡ cond has 80 16
+    go true x y = rw (x, y)
+    go false x y = rw (x, y)
 
 -- a tip takes 1 byte or 33
 pub tip-size : (o : Option Id) → optC idC .ok o → (1 ≤ length (optC idC .enc o)) × (length (optC idC .enc o) ≤ 33)
@@ -501,14 +567,14 @@ tip-has : {has : Bool} (o : Option Id) → OptW idC has (λ a. Unit {0}) o → i
 tip-has none w = sym w
 tip-has (some a) w = sym (w .0)
 
-pub head-read : {s : Bytes} {na nm nr nc ni nf nn : ℕ} {oka okm okr okc oki okf okn : Bool} (k : ℕ) (m : Lim) (r : HeadR)
-    → TagAt k s 0 oka na → Reads limitsC s na okm nm (LimAs m) → NumAt 8 s nm okr nr (r .revision) → NumAt 4 s nr okc nc (r .cursor .0) → OptSpan s nc 32 oki (r .tip) ni
+pub head-read : {s : Bytes} {na nr nc ni nf nn : ℕ} {oka okr okc oki okf okn : Bool} (k : ℕ) (m : LimitsR) (r : HeadR)
+    → TagAt k s 0 oka na → Reads (limitsK k) s na (m .ok) (m .next) (LimitsAs m) → NumAt 8 s (m .next) okr nr (r .revision) → NumAt 4 s nr okc nc (r .cursor .0) → OptSpan s nc 32 oki (r .tip) ni
     → NumAt 8 s ni okf nf (r .counter .0) → NumAt 4 s nf okn nn (r .count)
-    → r .ok ≡ (oka && (okm && (okr && (okc && (oki && (okf && okn)))))) → r .p ≡ m .p → r .b ≡ m .b → r .t ≡ m .t → r .k ≡ m .k → r .marks ≡ nr → r .after ≡ ni → r .size ≡ nn
-    → Reads (headK k) s 0 (r .ok) nn (HeadAs s r)
+    → r .ok ≡ (oka && (m .ok && (okr && (okc && (oki && (okf && okn)))))) → r .limits ≡ m .limits → r .marks ≡ nr → r .after ≡ ni → r .size ≡ nn
+    → Reads (headK k) s 0 (r .ok) nn (HeadUnder k s r)
 unfolding headK
-head-read {s} {na} {nm} {nr} {nc} {ni} {nf} {nn} k m r a b c d e f g o e1 e2 e3 e4 e5 e6 e7 = ok-as o (mapped headOf headTuple (λ t. refl) (λ t. refl) (HeadAs s r)
-    (pair (sized 1 (tag-size k) a) (pair (sized 16 limits-size b) (pair (sized 8 (spans-be 8 .size) (c .0)) (pair (sized 4 (spans-be 4 .size) (d .0))
+head-read {s} {na} {nr} {nc} {ni} {nf} {nn} k m r a b c d e f g o e1 e5 e6 e7 = ok-as o (mapped headOf headTuple (λ t. refl) (λ t. refl) (HeadUnder k s r)
+    (pair (sized 1 (tag-size k) a) (pair (sized (limitsLen k) (limits-size k) b) (pair (sized 8 (spans-be 8 .size) (c .0)) (pair (sized 4 (spans-be 4 .size) (d .0))
     (pair (weaken (λ t. Stands (optC idC) s nc ni (OptW idC (r .tip) (λ a. Unit {0})) t × optC idC .ok t) (opt-span spans-id e) (λ t d u v w. ((w, read-enc (optC idC) s nc ni t d u v, read-next (optC idC) s nc ni t d u v, v), optC idC .bwd _ t _ d .1)))
     (pair (sized 8 (spans-be 8 .size) (f .0)) (sized 4 (spans-be 4 .size) (g .0))))))))
     (λ t _ _ v w.
@@ -528,20 +594,18 @@ head-read {s} {na} {nm} {nr} {nc} {ni} {nf} {nn} k m r a b c d e f g o e1 e2 e3 
     let p6 = fw .2 in
     let p7 = nw .2 in
     let at1 : 1 ≡ na = omega arith in
-    let at17 : 17 ≡ nm = omega arith in
-    let at25 : 25 ≡ nr = omega arith in
+    let at17 : 1 + limitsLen k ≡ m .next = omega arith in
+    let at25 : 9 + limitsLen k ≡ nr = omega arith in
     record {
-      P = lw .0 .P ∙ sym e1;
-      B = lw .0 .B ∙ sym e2;
-      T = lw .0 .T ∙ sym e3;
-      K = lw .0 .K ∙ sym e4;
+      lim = ap limitsIn e1 ∙ lw .0 .is;
+      fit = rw e1 (lw .0 .fit);
       revision = rw' .0;
       cursor = cw .0;
       tip = tip-has (t .1 .1 .1 .1 .0) (iw .0 .0);
       counter = fw .0;
       count = nw .0;
-      limits = rw (at1, at17) (lw .1);
-      revisionAt = rw (at17, at25) (rw' .1);
+      limits = ap (λ (j : ℕ). drop j s) at1 ∙ lw .1 ∙ ap (λ (j : ℕ). limitsK k .enc (t .1 .0) ++ drop j s) (sym at17);
+      revisionAt = ap (λ (j : ℕ). drop j s) at17 ∙ rw' .1 ∙ ap (λ (j : ℕ). beC 8 .enc (t .1 .1 .0) ++ drop j s) (sym at25);
       marks = rw (e5, e6) (cw .1 ∙ rw (iw .0 .1) (sym (append-assoc (beC 4 .enc (t .1 .1 .1 .0)) (optC idC .enc (t .1 .1 .1 .1 .0)) (drop ni s))));
       counterAt = rw (e6, e7) (fw .1 ∙ ap (λ (z : Bytes). beC 8 .enc (t .1 .1 .1 .1 .1 .0) ++ z) (nw .1));
       marksAt = omega arith;
@@ -549,12 +613,13 @@ head-read {s} {na} {nm} {nr} {nc} {ni} {nf} {nn} k m r a b c d e f g o e1 e2 e3 
       most = omega (arith, ts .1);
       sizeAt = omega arith;
       end = omega (arith, v);
-      pSmall = rw e1 (lw .0 .pSmall);
-      bSmall = rw e2 (lw .0 .bSmall);
-      tSmall = rw e3 (lw .0 .tSmall);
-      kSmall = rw e4 (lw .0 .kSmall);
       revisionSmall = c .1;
       cursorSmall = d .1;
       counterSmall = f .1;
       countSmall = g .1;
     }))
+
+-- a record's caller, as it is written again
+pub caller-byte : {v : Bytes} {x : Seen} {r : Rec} {from : ℕ} → SeenFrom from v x r → written.be 1 (x .facts .caller) ≡ be 1 (r .caller)
+unfolding factsOf
+caller-byte {x = x} w = be-same 1 (x .facts .caller) (w .small .caller) ∙ ap (λ (f : Facts). be 1 (f .caller)) (w .facts)

@@ -6,6 +6,7 @@ use mathlib.Core.List.{List, [], _∷_, _++_, append-assoc, append-nil}
 use Prim.Native.Nat.{ℕ, zero, suc, _+_, _-_, _*_, _^_, _≤_, _<_}
 use native.Mathlib.Omega.{arith}
 use lib.ListN.{length, drop, take, replicate, length-append, length-replicate}
+use lib.Seq.{take-all}
 use Rattle.queue.specs.Codec as codec
 use Rattle.queue.specs.Codec.{Codec, beC, pairC, mapC, optC, optEnc, vecC, byteC, encs}
 use Rattle.queue.specs.Splice.{Put, splice, be}
@@ -14,27 +15,32 @@ use Rattle.queue.specs.Frames.{Head, idC, limitsC, headK, headC, tagC}
 use Rattle.queue.specs.Forms.{queueC, queue-enc, storeOf, headFor}
 use Rattle.queue.specs.Frames.{recC}
 use Rattle.queue.specs.Areas.{layout}
-use Rattle.queue.specs.Plain.{bytes-plain, area-plain}
-use Rattle.queue.specs.Opens.{limits}
+use Rattle.queue.specs.Plain.{bytes-plain, area-plain, limits-plain}
+use Rattle.queue.specs.Facts.{limitsIn, LimitsFit}
+use Rattle.queue.specs.declared.limits.Limits as code
 use Rattle.queue.specs.Fronts.{frontLen, tipOf, tipSize, headWith, Small, startBytes, marksBytes, frontBytes, queueOf}
 use Rattle.queue.specs.paper.Records.{Bytes, Id, Limits, Rec, Queue}
 use Rattle.queue.specs.paper.Sound.{need}
-use Rattle.queue.specs.paper.Area.{areaBytes, over}
+use Rattle.queue.specs.paper.Area.{areaBytes, sharesBytes, over}
+use Rattle.queue.specs.paper.Calls.{numbers}
 use Rattle.queue.specs.declared.head.Marks.{Marks}
 use Rattle.queue.proofs.PutLaws.{then, front, recast, kept, over-splice}
 use Rattle.queue.proofs.ByteLaws.{be-same}
-
-pub limits-enc : (p b t k : ℕ) → limitsC .enc (limits p b t k) ≡ codec.be 4 p ++ (codec.be 4 b ++ (codec.be 4 t ++ codec.be 4 k))
-unfolding limitsC mapC pairC beC
-limits-enc p b t k = refl
+use Rattle.queue.proofs.ShareLaws.{shares-bytes}
 
 four : {a a′ b b′ c c′ d d′ : Bytes} → a ≡ a′ → b ≡ b′ → c ≡ c′ → d ≡ d′ → ((a ++ b) ++ c) ++ d ≡ a′ ++ (b′ ++ (c′ ++ d′))
 four {a} {a′} {b} {b′} {c} {c′} {d} {d′} e f g h = cc (append-assoc (a ++ b) c d, append-assoc a b (c ++ d))
 
-pub limits-put : {d d₁ d₂ d₃ d₄ : Bytes} {at a c e r p b t k : ℕ} → p < 4294967296 → b < 4294967296 → t < 4294967296 → k < 4294967296
-    → Put d at (be 4 p) 4 a d₁ → Put d₁ a (be 4 b) 4 c d₂ → Put d₂ c (be 4 t) 4 e d₃ → Put d₃ e (be 4 k) 4 r d₄ → Put d at (limitsC .enc (limits p b t k)) 16 r d₄
-limits-put {p = p} {b} {t} {k} h1 h2 h3 h4 w x y z =
-    recast (then (then (then w x) y) z) (four (be-same 4 p h1) (be-same 4 b h2) (be-same 4 t h3) (be-same 4 k h4) ∙ sym (limits-enc p b t k)) refl refl
+pub limits-put : {d d₁ d₂ d₃ d₄ d₅ : Bytes} {at a b c e r : ℕ} (l : code.Limits) → LimitsFit l
+    → Put d at (be 4 (l .p)) 4 a d₁ → Put d₁ a (be 4 (l .b)) 4 b d₂ → Put d₂ b (be 4 (l .t)) 4 c d₃ → Put d₃ c (be 4 (l .k)) 4 e d₄ → Put d₄ e (take 64 (drop 0 (l .shares))) 64 r d₅
+    → Put d at (limitsC .enc (limitsIn l)) 80 r d₅
+limits-put l h w x y z v =
+    let s = l .shares in
+    let e : take 64 (drop 0 s) ≡ sharesBytes (numbers s) = take-all 64 s (omega (arith, h .long)) ∙ sym (shares-bytes s (h .long) (h .small)) in
+    recast (then (then (then (then w x) y) z) v) (two (four (be-same 4 (l .p) (h .p)) (be-same 4 (l .b) (h .b)) (be-same 4 (l .t) (h .t)) (be-same 4 (l .k) (h .k))) e ∙ sym (limits-plain newest (limitsIn l))) refl refl
+  where
+    two : {a a′ b b′ : Bytes} → a ≡ a′ → b ≡ b′ → a ++ b ≡ a′ ++ b′
+    two p q = rw (p, q)
 
 pub tip-put : {d d₁ d₂ : Bytes} {at a r : ℕ} {has : Bool} {id : Id} → has ≡ true → Put d at (1 ∷ []) 1 a d₁ → Put d₁ a id 32 r d₂ → Put d at (optC idC .enc (tipOf has id)) (tipSize has) r d₂
 unfolding optC optEnc idC vecC
@@ -66,7 +72,7 @@ split-front l m tip h =
     two : (a c d e f g h i : Bytes) → (((a ++ c) ++ d) ++ e) ++ (((f ++ g) ++ h) ++ i) ≡ ((((((a ++ c) ++ d) ++ e) ++ f) ++ g) ++ h) ++ i
     two a c d e f g h i = simp append-assoc
 
-pub front-put : {x x₁ x₂ : Bytes} {p r : ℕ} (l : Limits) (m : Marks) (tip : Id) → Small m → Put x 0 (startBytes l (m .persisted .0) (m .revision)) 29 p x₁ → Put x₁ p (marksBytes m tip) (16 + tipSize (m .tip)) r x₂
+pub front-put : {x x₁ x₂ : Bytes} {p r : ℕ} (l : Limits) (m : Marks) (tip : Id) → Small m → Put x 0 (startBytes l (m .persisted .0) (m .revision)) 93 p x₁ → Put x₁ p (marksBytes m tip) (16 + tipSize (m .tip)) r x₂
     → Put x 0 (frontBytes l m tip) (frontLen + tipSize (m .tip)) r x₂
 front-put l m tip h a b = recast (then a b) (split-front l m tip h) (omega arith) refl
 

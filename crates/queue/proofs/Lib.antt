@@ -18,6 +18,7 @@ pub mod ReadingLaws
 pub mod WriteLaws
 pub mod FloorLaws
 pub mod SelectLaws
+pub mod ShareLaws
 pub mod MergeLaws
 pub mod CallLaws
 pub mod CancelLaws

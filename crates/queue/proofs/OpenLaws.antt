@@ -17,14 +17,14 @@ use Rattle.queue.specs.ReadLaws.{false-true, weaken}
 use Rattle.queue.specs.View.{view}
 use Rattle.queue.specs.Forms.{formC, afterIn, endsLine, Framed, framed, frame-bad, taken, Many, Store, headFor, recIn, storeIn, areaForm, store-read, queueC, storeOf, queue-read}
 use Rattle.queue.specs.Areas.{readArea, readGot, zero?, reads-stands, area-found, area-none}
-use Rattle.queue.specs.Facts.{factsOf, HeadAs}
+use Rattle.queue.specs.Facts.{factsOf, limitsIn, HeadUnder}
 use Rattle.queue.specs.Rules.{weight, sum}
 use Rattle.queue.specs.Sums.{SumsAs, countsN}
-use Rattle.queue.specs.Opens.{needMost, limits, StoreAs, soundL, sound-list, filledBy, FilledAs, AreaAs, AreaIs}
+use Rattle.queue.specs.Opens.{needMost, StoreAs, soundL, sound-list, filledBy, FilledAs, AreaAs, AreaIs}
 use Rattle.queue.specs.paper.Ids.{rise?}
 use Rattle.queue.specs.paper.Records.{Bytes, Limits, Rec, Queue}
 use Rattle.queue.specs.paper.Lists.{one, all?, map}
-use Rattle.queue.specs.paper.Sound.{inRange, need, holder?, holders, holderBytes, minedHolders, minedBytes, tombstones, right?, counts?, distinct?, apart?, sound?}
+use Rattle.queue.specs.paper.Sound.{inRange, need, holder?, holders, holderBytes, minedHolders, minedBytes, tombstones, right?, counts?, distinct?, apart?, sound?, sharesRight?, limitsRight?}
 use Rattle.queue.specs.declared.frame.HeadR.{HeadR}
 use Rattle.queue.specs.declared.frame.Form.{Form}
 use Rattle.queue.specs.declared.frame.Finish.{Finish}
@@ -90,19 +90,19 @@ pub tombs-rest : (l : List Rec) → holders l + tombstones l ≡ length l
 tombs-rest [] = refl
 tombs-rest (r ∷ l) = let i = tombs-rest l in cases (holder? r) (λ t. rw t (omega arith)) (λ t. rw t (omega arith))
 
-counts-plain : (p b t k n : ℕ) {h i m e : ℕ} (l : List Rec) → h ≡ sum Holders l → i ≡ sum HeldBytes l → m ≡ sum MinedHolders l → e ≡ sum MinedBytes l → length l ≡ n
-    → ((leb n (2 * p + t) && (leb h (2 * p) && leb i (2 * b))) && ((leb m p && leb e b) && leb (n - h) t)) ≡ counts? (limits p b t k) l
+counts-plain : (lim : Limits) (n : ℕ) {h i m e : ℕ} (l : List Rec) → h ≡ sum Holders l → i ≡ sum HeldBytes l → m ≡ sum MinedHolders l → e ≡ sum MinedBytes l → length l ≡ n
+    → ((leb n (2 * lim .P + lim .T) && (leb h (2 * lim .P) && leb i (2 * lim .B))) && ((leb m (lim .P) && leb e (lim .B)) && leb (n - h) (lim .T))) ≡ counts? lim l
 unfolding counts?
-counts-plain p b t k n l eh ei em ee g =
+counts-plain lim n l eh ei em ee g =
     let u = tombs-rest l in
     let v : length l - holders l ≡ tombstones l = omega arith in
     rw (eh, ei, em, ee, ← g, holders-sum, bytes-sum, mined-sum, minedBytes-sum, v)
 
 -- ---- the rules on what the records come to
-module _ (p b t k n : ℕ) (c : Finish) (a : Sums) (l : List Rec) (s : SumsAs k c a l) (g : length l ≡ n) where
-  counts-is : countsN n p b t a ≡ counts? (limits p b t k) l
+module _ (m : Limits) (n : ℕ) (c : Finish) (a : Sums) (l : List Rec) (s : SumsAs (m .K) c a l) (g : length l ≡ n) where
+  counts-is : countsN n (m .P) (m .B) (m .T) a ≡ counts? m l
   unfolding countsN
-  counts-is = counts-plain p b t k n l (s .holders) (s .bytes) (s .mined) (s .minedbytes) g
+  counts-is = counts-plain m n l (s .holders) (s .bytes) (s .mined) (s .minedbytes) g
 
   pub held-few : a .holders ≤ n
   held-few = let u = tombs-rest l in let e = s .holders ∙ holders-sum l in omega arith
@@ -110,26 +110,26 @@ module _ (p b t k n : ℕ) (c : Finish) (a : Sums) (l : List Rec) (s : SumsAs k 
   pub tombs-are : tombstones l ≡ n - a .holders
   tombs-are = let u = tombs-rest l in let e = s .holders ∙ holders-sum l in omega arith
 
-  pub sound-out : inRange (limits p b t k) ≡ false → false ≡ soundL (limits p b t k) (c .0) l
+  pub sound-out : limitsRight? m ≡ false → false ≡ soundL m (c .0) l
   unfolding soundL
   sound-out e = rw e
 
-  module _ (r : inRange (limits p b t k) ≡ true) {x : Bool} (e : x ≡ countsN n p b t a) where
-    pub sound-many : x ≡ false → false ≡ soundL (limits p b t k) (c .0) l
+  module _ (r : limitsRight? m ≡ true) {x : Bool} (e : x ≡ countsN n (m .P) (m .B) (m .T) a) where
+    pub sound-many : x ≡ false → false ≡ soundL m (c .0) l
     unfolding soundL
     sound-many f = rw (r, sym counts-is ∙ sym e ∙ f)
 
     pub few-tombs : x ≡ true → n - a .holders ≤ 1024
     unfolding countsN
     few-tombs f =
-        let u = and-true (leb n (2 * p + t) && (leb (a .holders) (2 * p) && leb (a .bytes) (2 * b))) _ (sym e ∙ f) in
-        let v = leb-true (n - a .holders) t (and-true (leb (a .mined) p && leb (a .minedbytes) b) _ (u .1) .1) in
-        omega (arith, ranged (limits p b t k) r .t2)
+        let u = and-true (leb n (2 * m .P + m .T) && (leb (a .holders) (2 * m .P) && leb (a .bytes) (2 * m .B))) _ (sym e ∙ f) in
+        let v = leb-true (n - a .holders) (m .T) (and-true (leb (a .mined) (m .P) && leb (a .minedbytes) (m .B)) _ (u .1) .1) in
+        omega (arith, ranged m (and-true (inRange m) (sharesRight? m) r .0) .t2)
 
     module _ (f : x ≡ true) {y : Bool} (h : y ≡ (a .right && a .rises)) where
-      pub sound-wrong : y ≡ false → false ≡ soundL (limits p b t k) (c .0) l
+      pub sound-wrong : y ≡ false → false ≡ soundL m (c .0) l
       unfolding soundL
-      sound-wrong z = rw (r, sym counts-is ∙ sym e ∙ f) (deny (all? (right? k (c .0)) l) (rise? (map (λ r. r .id) l)) (distinct? l && apart? l) (sym (h ∙ two (s .right) (s .rises)) ∙ z))
+      sound-wrong z = rw (r, sym counts-is ∙ sym e ∙ f) (deny (all? (right? (m .K) (c .0)) l) (rise? (map (λ r. r .id) l)) (distinct? l && apart? l) (sym (h ∙ two (s .right) (s .rises)) ∙ z))
         where
           two : {u v u′ v′ : Bool} → u ≡ u′ → v ≡ v′ → (u && v) ≡ (u′ && v′)
           two i j = rw (i, j)
@@ -139,7 +139,7 @@ module _ (p b t k n : ℕ) (c : Finish) (a : Sums) (l : List Rec) (s : SumsAs k 
           deny true false w q = refl
           deny false v w q = refl
 
-      pub sound-in : {d o z : Bool} → y ≡ true → d ≡ distinct? l → o ≡ apart? l → z ≡ (d && o) → z ≡ soundL (limits p b t k) (c .0) l
+      pub sound-in : {d o z : Bool} → y ≡ true → d ≡ distinct? l → o ≡ apart? l → z ≡ (d && o) → z ≡ soundL m (c .0) l
       unfolding soundL
       sound-in {d} {o} {z} q i j w =
           let u = and-true (a .right) (a .rises) (sym h ∙ q) in
@@ -147,10 +147,10 @@ module _ (p b t k n : ℕ) (c : Finish) (a : Sums) (l : List Rec) (s : SumsAs k 
 
 pub sound-range : (m : Limits) (c : ℕ) (l : List Rec) → soundL m c l ≡ true → inRange m ≡ true
 unfolding soundL
-sound-range m c l e = and-true (inRange m) _ e .0
+sound-range m c l e = and-true (inRange m) (sharesRight? m) (and-true (limitsRight? m) _ e .0) .0
 
 -- ---- a store
-module _ (form : Form) (s : Bytes) {base : ℕ} {h : HeadR} (b : base ≤ length s) (r : Reads (headK (form .kind)) (view (form .hex) s base) 0 (h .ok) (h .size) (HeadAs (view (form .hex) s base) h)) where
+module _ (form : Form) (s : Bytes) {base : ℕ} {h : HeadR} (b : base ≤ length s) (r : Reads (headK (form .kind)) (view (form .hex) s base) 0 (h .ok) (h .size) (HeadUnder (form .kind) (view (form .hex) s base) h)) where
   pub head-within : h .ok ≡ true → h .size ≤ length (view (form .hex) s base)
   head-within t = r .good (omega arith) t .3
 
@@ -172,11 +172,11 @@ module _ (form : Form) (s : Bytes) {base : ℕ} {h : HeadR} (b : base ≤ length
   head-count t = r .good (omega arith) t .4 .countSmall
 
   pub store-good : {e o : Bool} {j n : ℕ} {a : Sums} → h .ok ≡ true → e ≡ endsLine (form .hex) s base (h .size) → e ≡ true → j ≡ afterIn (form .hex) s base (h .size)
-      → Many (recIn form) s j (h .count) o n → (o ≡ true → SumsAs (h .k) (h .counter) a (listAt (recIn form) (h .count) s j)) → Reads (storeIn form) s base o n (StoreAs form s base (record { ok = o; head = h; start = j; next = n; sums = a }))
+      → Many (recIn form) s j (h .count) o n → (o ≡ true → SumsAs (h .limits .k) (h .counter) a (listAt (recIn form) (h .count) s j)) → Reads (storeIn form) s base o n (StoreAs form s base (record { ok = o; head = h; start = j; next = n; sums = a }))
   store-good {e} {o} {j} {n} t e′ f g m k′ =
       let k : (h .ok && endsLine (form .hex) s base (h .size)) ≡ true = rw (t, ← e′, f) in
       let u = framed (form .hex) b r in
-      let w = weaken (λ a. (a .count ≡ h .count) × (HeadAs (view (form .hex) s base) h a × Framed (headK (form .kind)) (form .hex) s base (h .ok) (h .size) a)) u (λ a _ _ _ y. (y .0 .count, y)) in
+      let w = weaken (λ a. (a .count ≡ h .count) × (HeadUnder (form .kind) (view (form .hex) s base) h a × Framed (headK (form .kind)) (form .hex) s base (h .ok) (h .size) a)) u (λ a _ _ _ y. (y .0 .count, y)) in
       let m′ : Many (recIn form) s (afterIn (form .hex) s base (h .size)) (h .count) o n = rw g at m in
       let v = store-read form w (λ _. m′) in
       record {
@@ -202,11 +202,11 @@ module _ (form : Form) (s : Bytes) {base : ℕ} {h : HeadR} (b : base ≤ length
       }
 
 -- ---- an area
-pub filled-unsound : {s : Bytes} {x : Open} {b : Bool} → b ≡ soundL (limits (x .head .p) (x .head .b) (x .head .t) (x .head .k)) (x .head .counter .0) (listAt (formC false recC) (x .head .count) s (x .start)) → b ≡ false → FilledAs s x (record { ok = false; next = 0 })
+pub filled-unsound : {s : Bytes} {x : Open} {b : Bool} → b ≡ soundL (limitsIn (x .head .limits)) (x .head .counter .0) (listAt (formC false recC) (x .head .count) s (x .start)) → b ≡ false → FilledAs s x (record { ok = false; next = 0 })
 unfolding filledBy
 filled-unsound e f = record { is = rw (← e, f); next = λ t. false-true t }
 
-module _ {s : Bytes} {x : Open} {b : Bool} {m : ℕ} (e : b ≡ soundL (limits (x .head .p) (x .head .b) (x .head .t) (x .head .k)) (x .head .counter .0) (listAt (formC false recC) (x .head .count) s (x .start))) (t : b ≡ true) (n : m ≡ need (limits (x .head .p) (x .head .b) (x .head .t) (x .head .k))) where
+module _ {s : Bytes} {x : Open} {b : Bool} {m : ℕ} (e : b ≡ soundL (limitsIn (x .head .limits)) (x .head .counter .0) (listAt (formC false recC) (x .head .count) s (x .start))) (t : b ≡ true) (n : m ≡ need (limitsIn (x .head .limits))) where
   pub filled-short : length s < m → FilledAs s x (record { ok = false; next = 0 })
   unfolding filledBy
   filled-short h = record { is = rw (← e, t, ← n, lt-leb m (length s) h); next = λ t. false-true t }
@@ -244,9 +244,6 @@ filled-parts s from m c l e =
     let d = and-true (leb from (need m)) _ (b .1) in
     (leb-true _ _ (b .0), leb-true _ _ (d .0))
 
-pub same-limits : (m : Limits) {p b t k : ℕ} → m .P ≡ p → m .B ≡ b → m .T ≡ t → m .K ≡ k → m ≡ limits p b t k
-same-limits m e f g h = rw (← e, ← f, ← g, ← h)
-
 module _ {s : Bytes} {v next : ℕ} {ok : Bool} {y : Open} (a : Reads (beC 4) (view false s 0) 0 ok next (λ x. x ≡ v)) (t : ok ≡ true) (r : Reads (storeIn areaForm) s 4 (y .ok) (y .next) (StoreAs areaForm s 4 y)) where
   queue : Reads queueC s 0 (y .ok) (y .next) (λ q. (q .persisted ≡ v) × StoreAs areaForm s 4 y (storeOf q))
   queue = queue-read (four a t .0) r
@@ -257,8 +254,8 @@ module _ {s : Bytes} {v next : ℕ} {ok : Bool} {y : Open} (a : Reads (beC 4) (v
   pub store-facts : y .ok ≡ true → (st : Store) × StoreAs areaForm s 4 y st
   store-facts f = let u = r .good (four a t .1) f in (u .0, u .4)
 
-  the-limits : (q : Queue) → StoreAs areaForm s 4 y (storeOf q) → q .limits ≡ limits (y .head .p) (y .head .b) (y .head .t) (y .head .k)
-  the-limits q w = let h = w .head in same-limits (q .limits) (h .P) (h .B) (h .T) (h .K)
+  the-limits : (q : Queue) → StoreAs areaForm s 4 y (storeOf q) → q .limits ≡ limitsIn (y .head .limits)
+  the-limits q w = sym (w .head .lim)
 
   pub area-good : {x : Area} {f : Span} → y .ok ≡ true → FilledAs s y f → x .ok ≡ f .ok → x .persisted .0 ≡ v → x .open ≡ y → x .need ≡ f .next → AreaIs s x
   unfolding filledBy
@@ -266,10 +263,10 @@ module _ {s : Bytes} {v next : ℕ} {ok : Bool} {y : Open} (a : Reads (beC 4) (v
       let u = area-found queue o in
       let q = u .0 in
       let st = u .1 .1 in
-      let m : q .limits ≡ limits (y .head .p) (y .head .b) (y .head .t) (y .head .k) = the-limits q st in
+      let m : q .limits ≡ limitsIn (y .head .limits) = the-limits q st in
       let c : q .counter ≡ y .head .counter .0 = st .head .counter in
       let l : listAt (formC false recC) (y .head .count) s (y .start) ≡ q .recs = st .list in
-      let k : sound? q ≡ soundL (limits (y .head .p) (y .head .b) (y .head .t) (y .head .k)) (y .head .counter .0) (listAt (formC false recC) (y .head .count) s (y .start)) = sound-list q ∙ rw (m, c, l) in
+      let k : sound? q ≡ soundL (limitsIn (y .head .limits)) (y .head .counter .0) (listAt (formC false recC) (y .head .count) s (y .start)) = sound-list q ∙ rw (m, c, l) in
       let B : readArea s ≡ cond (f .ok) (some q) none = u .2 ∙ rw (k, m) (rw (w .is)) in
       record {
         good = λ g.
@@ -277,7 +274,7 @@ module _ {s : Bytes} {v next : ℕ} {ok : Bool} {y : Open} (a : Reads (beC 4) (v
             let rd : readArea s ≡ some q = B ∙ rw t₁ in
             let sd = reads-stands s q rd in
             let n = w .next t₁ in
-            let z = filled-parts s (y .next) (limits (y .head .p) (y .head .b) (y .head .t) (y .head .k)) (y .head .counter .0) (listAt (formC false recC) (y .head .count) s (y .start)) (sym (w .is) ∙ t₁) in
+            let z = filled-parts s (y .next) (limitsIn (y .head .limits)) (y .head .counter .0) (listAt (formC false recC) (y .head .count) s (y .start)) (sym (w .is) ∙ t₁) in
             let need-is : x .need ≡ need (q .limits) = e4 ∙ n .0 ∙ ap need (sym m) in (
               q,
               rd,

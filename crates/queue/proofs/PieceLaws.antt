@@ -22,7 +22,7 @@ use Rattle.queue.specs.Facts.{factsOf, SeenAs}
 use Rattle.queue.specs.Opens.{AreaAs, AreaIs}
 use Rattle.queue.specs.Rules.{dueF}
 use Rattle.queue.specs.ReadingAs.{entryAt, entryLen, EntryIn}
-use Rattle.queue.specs.PiecesAs.{passesF, passes?, pieceOf, partOf, piecesOf, answerBytes, toldPieces, pieceAt, pieceLen, PieceIn, MeasureAs}
+use Rattle.queue.specs.PiecesAs.{passesF, passes?, pieceOf, partOf, piecesOf, answerBytes, toldPieces, dueAt, pieceAt, pieceLen, PieceIn, MeasureAs}
 use Rattle.queue.specs.paper.Records.{Bytes, Id, Rec, Queue}
 use Rattle.queue.specs.paper.Lists.{isSome, one, count, filter, map, concat, maybe}
 use Rattle.queue.specs.paper.Area.{placeBytes, flagged}
@@ -42,7 +42,7 @@ use Rattle.queue.specs.declared.pieces.What.the-variants.{Ids, Guarded, 
 use Rattle.queue.specs.declared.pieces.Sizes.{Sizes}
 use Rattle.queue.proofs.PutLaws.{then, recast, kept, Left, begun, onward, done, nothing}
 use Rattle.queue.proofs.ByteLaws.{be-same}
-use Rattle.queue.proofs.ReadingLaws.{id-here, id-state-here, place-here, entry-in, entry-is, entry-size, due-facts, told-4, told-100}
+use Rattle.queue.proofs.ReadingLaws.{id-here, state-here, place-here, entry-in, entry-is, entry-size, due-facts, told-4, told-100}
 use Rattle.queue.proofs.Turns.{Scan, start, on, end, SeenIn, ReadsRec, seen, see}
 
 -- ---- one piece
@@ -50,22 +50,25 @@ module _ {s : Bytes} {base m : ℕ} {ok : Bool} {y : Seen} {r : Rec} (h : base �
   pub piece-in : PieceIn s base y
   piece-in = record { id = id-here h x .1; up = place-here h x .0; entry = entry-in h x }
 
+  join : {a a′ b b′ : Bytes} → a ≡ a′ → b ≡ b′ → a ++ b ≡ a′ ++ b′
+  join p q = cc
+
   pub piece-is : (w : What) → pieceAt w s base y ≡ pieceOf w r
-  unfolding pieceAt pieceOf
+  unfolding pieceAt pieceOf dueAt
   piece-is Ids = id-here h x .0
   piece-is Guarded = id-here h x .0
-  piece-is (DueBy t u) = id-state-here h x
+  piece-is (DueBy t u) = join (id-here h x .0) (state-here h x)
   piece-is Confirmed = join (id-here h x .0) (place-here h x .1)
-    where
-      join : {a a′ b b′ : Bytes} → a ≡ a′ → b ≡ b′ → a ++ b ≡ a′ ++ b′
-      join p q = cc
   piece-is Entries = entry-is h x
 
   pub piece-size : (w : What) → length (pieceAt w s base y) ≡ pieceLen w y
-  unfolding pieceAt pieceLen
+  unfolding pieceAt pieceLen dueAt
   piece-size Ids = length-take-le 32 (drop (base + 1) s) (omega (arith, length-drop (base + 1) s, id-here h x .1))
   piece-size Guarded = length-take-le 32 (drop (base + 1) s) (omega (arith, length-drop (base + 1) s, id-here h x .1))
-  piece-size (DueBy t u) = length-take-le 33 (drop (base + 1) s) (omega (arith, length-drop (base + 1) s, id-here h x .1))
+  piece-size (DueBy t u) =
+      let a = length-take-le 32 (drop (base + 1) s) (omega (arith, length-drop (base + 1) s, id-here h x .1)) in
+      let b = length-take-le 1 (drop (base + 34) s) (omega (arith, length-drop (base + 34) s, id-here h x .1)) in
+      length-append (take 32 (drop (base + 1) s)) (take 1 (drop (base + 34) s)) ∙ omega arith
   piece-size Confirmed =
       let i = entry-in h x in
       let a = length-take-le 32 (drop (base + 1) s) (omega (arith, length-drop (base + 1) s, id-here h x .1)) in

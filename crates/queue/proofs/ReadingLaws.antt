@@ -30,7 +30,7 @@ use Rattle.queue.specs.paper.Records.{Bytes, Id, Terms, Held, Rec, Queue
 use Rattle.queue.specs.paper.Lists.{isSome, maybe, one, any?, find, concat, isEmpty?}
 use Rattle.queue.specs.paper.Ids.{cmpL}
 use Rattle.queue.specs.paper.Sound.{inputs, content, labelLen, pending?}
-use Rattle.queue.specs.paper.Area.{over, termsBytes, placeBytes, headBytes, recBytes, flagged, heldBytes}
+use Rattle.queue.specs.paper.Area.{over, termsBytes, placeBytes, headBytes, recBytes, flagged, heldBytes, recUnder}
 use Rattle.queue.specs.paper.Changing.{named?, reached?, due?}
 use Rattle.queue.specs.Checked.{Written, written}
 use Rattle.queue.specs.paper.Calls.{id?, entryBytes, cursorBytes, toldOut, lookUp, entryOf, endOf, signedPart, signedBytesOf, numberOf, readOf}
@@ -320,7 +320,7 @@ pub record Parts (r : Rec) : Type 0 where
 
 pub rec-parts : (r : Rec) → recC .ok r → Parts r
 unfolding recK mapC pairC beC idC vecC
-rec-parts r h = record { id = h .1 .0 .1; state = h .1 .1 .0; reason = h .1 .1 .1 .0; terms = h .1 .1 .1 .1 .0; place = h .1 .1 .1 .1 .1 .0 }
+rec-parts r h = record { id = h .1 .0 .1; state = h .1 .1 .1 .0; reason = h .1 .1 .1 .1 .0; terms = h .1 .1 .1 .1 .1 .0; place = h .1 .1 .1 .1 .1 .1 .0 }
 
 -- the ids of a list stand one behind the other
 pub ids-here : (v : Bytes) (n at : ℕ) → whole idC n v at ≡ true → (take (n * 32) (drop at v) ≡ concat (listAt idC n v at)) × (n * 32 ≤ length (drop at v)) × (length (listAt idC n v at) ≡ n)
@@ -338,8 +338,8 @@ ids-here v n at w = go (decs idC n (drop at v)) refl w
 glue : {a a′ b b′ c c′ : Bytes} → a ≡ a′ → b ≡ b′ → c ≡ c′ → a ++ (b ++ c) ≡ a′ ++ (b′ ++ c′)
 glue p q r = cc
 
-regroup : (i a b t p n c : Bytes) → ((i ++ (a ++ b)) ++ (t ++ p)) ++ (n ++ c) ≡ i ++ (a ++ (b ++ (t ++ (p ++ (n ++ c)))))
-regroup i a b t p n c = simp append-assoc
+regroup : (i w a b t p n c : Bytes) → ((i ++ (w ++ (a ++ b))) ++ (t ++ p)) ++ (n ++ c) ≡ i ++ (w ++ (a ++ (b ++ (t ++ (p ++ (n ++ c))))))
+regroup i w a b t p n c = simp append-assoc
 
 place-one : (o : Option (ℕ × Id)) → 1 ≤ length (placeBytes o)
 unfolding placeBytes
@@ -347,18 +347,18 @@ place-one none = omega arith
 place-one (some p) = omega arith
 
 front-of : Rec → Bytes
-front-of r = r .id ++ (codec.be 1 (r .state) ++ codec.be 1 (r .reason))
+front-of r = r .id ++ (codec.be 1 (r .caller) ++ (codec.be 1 (r .state) ++ codec.be 1 (r .reason)))
 
 rest-of : Rec → Bytes
 rest-of r = termsBytes (r .terms) ++ (placeBytes (r .place) ++ (codec.be 1 (r .mark) ++ (codec.be 8 (r .finish) ++ flagged heldBytes (r .body))))
 
 rec-front : (r : Rec) (t : Bytes) → recBytes r ++ t ≡ 2 ∷ (front-of r ++ (rest-of r ++ t))
-unfolding recBytes front-of rest-of
+unfolding recUnder front-of rest-of
 rec-front r t = simp append-assoc
 
 module _ {s : Bytes} {base m : ℕ} {ok : Bool} {y : Seen} {r : Rec} (h : base ≤ length s) (x : SeenIn false s base ok m y r) where
   -- the frame's front, up to the terms
-  front-size : length (front-of r) ≡ 34
+  front-size : length (front-of r) ≡ 35
   unfolding front-of
   front-size = let p = rec-parts r (x .1 .fine) in rw length-append (omega (arith, p .id))
 
@@ -367,27 +367,30 @@ module _ {s : Bytes} {base m : ℕ} {ok : Bool} {y : Seen} {r : Rec} (h : base �
       let v = view false s base in
       let e : v ≡ 2 ∷ (front-of r ++ (rest-of r ++ drop m v)) = recC .bwd v r (drop m v) (x .1 .here) .0 ∙ ap (λ (b : Bytes). b ++ drop m v) (rec-plain r) ∙ rec-front r (drop m v) in
       let a : drop 1 v ≡ front-of r ++ (rest-of r ++ drop m v) = ap (drop 1) e in
-      let b : drop termsAt v ≡ rest-of r ++ drop m v = sym (drop-drop 34 1 v) ∙ ap (drop 34) a ∙ drop-at (front-of r) (rest-of r ++ drop m v) 34 front-size in
+      let b : drop termsAt v ≡ rest-of r ++ drop m v = sym (drop-drop 35 1 v) ∙ ap (drop 35) a ∙ drop-at (front-of r) (rest-of r ++ drop m v) 35 front-size in
       a ∙ ap (λ (b : Bytes). front-of r ++ b) (sym b)
 
   -- the id stands behind the kind
-  pub id-here : (take 32 (drop (base + 1) s) ≡ r .id) × (base + 45 ≤ length s)
+  pub id-here : (take 32 (drop (base + 1) s) ≡ r .id) × (base + 46 ≤ length s)
   unfolding view front-of
   id-here =
       let w = x .0 in
       let p = rec-parts r (x .1 .fine) in
       (ap (take 32) (sym (drop-drop 1 base s) ∙ from-id ∙ append-assoc (r .id) _ _) ∙ take-at (r .id) _ 32 (p .id), omega (arith, w .up, w .upPlace, w .upBody, w .end, length-drop base s))
 
-  pub id-state-here : take 33 (drop (base + 1) s) ≡ r .id ++ codec.be 1 (r .state)
+  -- the state behind the caller
+  pub state-here : take 1 (drop (base + 34) s) ≡ codec.be 1 (r .state)
   unfolding view front-of
-  id-state-here =
+  state-here =
       let p = rec-parts r (x .1 .fine) in
-      let e : drop 1 (drop base s) ≡ (r .id ++ codec.be 1 (r .state)) ++ (codec.be 1 (r .reason) ++ drop termsAt (drop base s)) = from-id ∙ group (r .id) (codec.be 1 (r .state)) (codec.be 1 (r .reason)) (drop termsAt (drop base s)) in
-      let l : length (r .id ++ codec.be 1 (r .state)) ≡ 33 = rw length-append (omega (arith, p .id)) in
-      ap (take 33) (sym (drop-drop 1 base s) ∙ e) ∙ take-at (r .id ++ codec.be 1 (r .state)) _ 33 l
+      let e : drop 1 (drop base s) ≡ (r .id ++ codec.be 1 (r .caller)) ++ (codec.be 1 (r .state) ++ (codec.be 1 (r .reason) ++ drop termsAt (drop base s))) = from-id ∙ group (r .id) (codec.be 1 (r .caller)) (codec.be 1 (r .state)) (codec.be 1 (r .reason)) (drop termsAt (drop base s)) in
+      let l : length (r .id ++ codec.be 1 (r .caller)) ≡ 33 = rw length-append (omega (arith, p .id)) in
+      let d : drop (base + 34) s ≡ codec.be 1 (r .state) ++ (codec.be 1 (r .reason) ++ drop termsAt (drop base s)) =
+      sym (drop-drop 34 base s) ∙ sym (drop-drop 33 1 (drop base s)) ∙ ap (drop 33) e ∙ drop-at (r .id ++ codec.be 1 (r .caller)) (codec.be 1 (r .state) ++ (codec.be 1 (r .reason) ++ drop termsAt (drop base s))) 33 l in
+      ap (take 1) d ∙ take-at (codec.be 1 (r .state)) (codec.be 1 (r .reason) ++ drop termsAt (drop base s)) 1 refl
     where
-      group : (a b c d : Bytes) → (a ++ (b ++ c)) ++ d ≡ (a ++ b) ++ (c ++ d)
-      group a b c d = simp append-assoc
+      group : (a w b c d : Bytes) → (a ++ (w ++ (b ++ c))) ++ d ≡ (a ++ w) ++ (b ++ (c ++ d))
+      group a w b c d = simp append-assoc
 
   -- the mined place without its flag
   pub place-here : (y .after + 1 ≤ y .mark) × (take (y .mark - y .after - 1) (drop (base + y .after + 1) s) ≡ drop 1 (placeBytes (r .place)))
@@ -450,7 +453,7 @@ module _ {s : Bytes} {base m : ℕ} {ok : Bool} {y : Seen} {r : Rec} (h : base �
       let b′ : take (y .facts .ins * 32) (drop (base + y .at) s) ≡ concat (inputs (r .body)) = ap (take (y .facts .ins * 32)) (sym (drop-drop (y .at) base s) ∙ ap (drop (y .at)) (sym view-is)) ∙ b .0 ∙ ap concat (w .insList) in
       let k : length (inputs (r .body)) ≡ y .facts .ins = ap length (sym (w .insList)) ∙ b .2 in
       glue a′ (be-same 2 (y .facts .ins) (w .small .ins) ∙ ap (codec.be 2) (sym k)) b′
-      ∙ regroup (r .id) (codec.be 1 (r .state)) (codec.be 1 (r .reason)) (termsBytes (r .terms)) (placeBytes (r .place)) (codec.be 2 (length (inputs (r .body)))) (concat (inputs (r .body)))
+      ∙ regroup (r .id) (codec.be 1 (r .caller)) (codec.be 1 (r .state)) (codec.be 1 (r .reason)) (termsBytes (r .terms)) (placeBytes (r .place)) (codec.be 2 (length (inputs (r .body)))) (concat (inputs (r .body)))
 
   pub entry-size : length (entryBytes r) ≡ entryLen y
   unfolding entryAt

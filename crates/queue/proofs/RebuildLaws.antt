@@ -35,11 +35,12 @@ use Rattle.queue.specs.paper.Records.{Bytes, Id, Held, Rec, mined}
 use Rattle.queue.specs.paper.Lists.{isSome, one, filter, map, maybe}
 use Rattle.queue.specs.paper.Ids.{cmpL, same?}
 use Rattle.queue.specs.paper.Sound.{holder?}
-use Rattle.queue.specs.paper.Area.{beVal, flagged, termsBytes, placeBytes, heldBytes, recBytes}
+use Rattle.queue.specs.paper.Area.{beVal, flagged, termsBytes, placeBytes, heldBytes, recBytes, recUnder}
 use Rattle.queue.specs.paper.Changing.{withdrawnMark, confirm, finished, onePast, placeIn, releaseOne}
 use Rattle.queue.specs.declared.frame.Seen.{Seen}
 use Rattle.queue.specs.declared.frame.Facts.{Facts}
 use Rattle.queue.specs.declared.touch.Verdict.{Verdict}
+use Rattle.queue.proofs.FrameLaws.{caller-byte}
 use Rattle.queue.proofs.Turns.{SeenIn, ReadsRec}
 use Rattle.queue.proofs.PutLaws as puts
 use Rattle.queue.proofs.PutLaws.{then, recast, kept, Left, begun, onward, nothing, length-be, sized}
@@ -217,7 +218,7 @@ next-long s base x t v n p w =
     let a = length-take-le (x .after - termsAt) (drop (base + termsAt) s) (omega (arith, length-drop (base + termsAt) s, p .upPlace, p .upBody, p .within)) in
     let b = place-long s base x t v p w in
     let c = tail-long s base x n p in
-    let d = length-be 1 (stateN (v .what) n (x .facts)) in let e = length-be 1 (reasonN (v .what) n (x .facts)) in let f = length-be 1 (markN (v .what) (x .facts)) in
+    let u = length-be 1 (x .facts .caller) in let d = length-be 1 (stateN (v .what) n (x .facts)) in let e = length-be 1 (reasonN (v .what) n (x .facts)) in let f = length-be 1 (markN (v .what) (x .facts)) in
     simp length-append (omega (arith, p .id, p .up))
 
 -- ---- the bytes of a record after its verdict
@@ -248,6 +249,10 @@ module _ (t : Bytes) (v : Verdict) (r : Rec) where
   unfolding asTouched confirm
   to-id = cases (eqb (v .what) 0) (λ a. rw a) (λ a. cases (eqb (v .what) 1) (λ b. rw (a, b)) (λ b. cases (eqb (v .what) 2) (λ c. rw (a, b, c)) (λ c. rw (a, b, c))))
 
+  to-caller : R′ .caller ≡ r .caller
+  unfolding asTouched confirm
+  to-caller = cases (eqb (v .what) 0) (λ a. rw a) (λ a. cases (eqb (v .what) 1) (λ b. rw (a, b)) (λ b. cases (eqb (v .what) 2) (λ c. rw (a, b, c)) (λ c. rw (a, b, c))))
+
   to-terms : R′ .terms ≡ r .terms
   unfolding asTouched confirm
   to-terms = cases (eqb (v .what) 0) (λ a. rw a) (λ a. cases (eqb (v .what) 1) (λ b. rw (a, b)) (λ b. cases (eqb (v .what) 2) (λ c. rw (a, b, c)) (λ c. rw (a, b, c))))
@@ -273,6 +278,10 @@ module _ (n : ℕ) (y : Rec) where
   num-id : numbered n y .id ≡ y .id
   unfolding numbered finished
   num-id = cases (eqb n 0) (λ a. rw a) (λ a. rw a)
+
+  num-caller : numbered n y .caller ≡ y .caller
+  unfolding numbered finished
+  num-caller = cases (eqb n 0) (λ a. rw a) (λ a. rw a)
 
   num-terms : numbered n y .terms ≡ y .terms
   unfolding numbered finished
@@ -361,6 +370,9 @@ module _ (s : Bytes) (base : ℕ) (x : Seen) (t : Bytes) (v : Verdict) (n : ℕ)
   unfolding markN factsOf
   n-mark = ap (λ f. markN (v .what) f) (w .0 .facts) ∙ sym (num-mark n (maybe r (λ y. y) (asTouched t v r)) ∙ to-mark t v r)
 
+  n-caller : be 1 (x .facts .caller) ≡ codec.be 1 (N .caller)
+  n-caller = caller-byte (w .0) ∙ ap (codec.be 1) (sym (num-caller n (maybe r (λ y. y) (asTouched t v r)) ∙ to-caller t v r))
+
   n-id : x .id ≡ N .id
   n-id = w .0 .id ∙ sym (num-id n (maybe r (λ y. y) (asTouched t v r)) ∙ to-id t v r)
 
@@ -401,22 +413,22 @@ module _ (s : Bytes) (base : ℕ) (x : Seen) (t : Bytes) (v : Verdict) (n : ℕ)
       (λ a. rw a (w .0 .small .mark))
 
   pub next-is : n < 256 ^ 8 → nextBytes s base x t v n ≡ recC .enc N
-  unfolding nextBytes leadBytes recBytes
+  unfolding nextBytes leadBytes recUnder
   next-is l =
-      glue (x .id) (be-same 1 (stateN (v .what) n (x .facts)) small-state ∙ ap (codec.be 1) n-state) (be-same 1 (reasonN (v .what) n (x .facts)) small-reason ∙ ap (codec.be 1) n-reason) n-terms n-place (be-same 1 (markN (v .what) (x .facts)) small-mark ∙ ap (codec.be 1) n-mark) (n-tail l)
-      ∙ regroup (x .id) (codec.be 1 (N .state)) (codec.be 1 (N .reason)) (termsBytes (N .terms)) (placeBytes (N .place)) (codec.be 1 (N .mark)) (codec.be 8 (N .finish) ++ flagged heldBytes (N .body))
-      ∙ ap (λ (i : Bytes). 2 ∷ (i ++ (codec.be 1 (N .state) ++ (codec.be 1 (N .reason) ++ (termsBytes (N .terms) ++ (placeBytes (N .place) ++ (codec.be 1 (N .mark) ++ (codec.be 8 (N .finish) ++ flagged heldBytes (N .body))))))))) n-id
+      glue (x .id) n-caller (be-same 1 (stateN (v .what) n (x .facts)) small-state ∙ ap (codec.be 1) n-state) (be-same 1 (reasonN (v .what) n (x .facts)) small-reason ∙ ap (codec.be 1) n-reason) n-terms n-place (be-same 1 (markN (v .what) (x .facts)) small-mark ∙ ap (codec.be 1) n-mark) (n-tail l)
+      ∙ regroup (x .id) (codec.be 1 (N .caller)) (codec.be 1 (N .state)) (codec.be 1 (N .reason)) (termsBytes (N .terms)) (placeBytes (N .place)) (codec.be 1 (N .mark)) (codec.be 8 (N .finish) ++ flagged heldBytes (N .body))
+      ∙ ap (λ (i : Bytes). 2 ∷ (i ++ (codec.be 1 (N .caller) ++ (codec.be 1 (N .state) ++ (codec.be 1 (N .reason) ++ (termsBytes (N .terms) ++ (placeBytes (N .place) ++ (codec.be 1 (N .mark) ++ (codec.be 8 (N .finish) ++ flagged heldBytes (N .body)))))))))) n-id
       ∙ sym (rec-plain N)
     where
-      glue : {a a′ b b′ c c′ d d′ e e′ f f′ : Bytes} (i : Bytes) → a ≡ a′ → b ≡ b′ → c ≡ c′ → d ≡ d′ → e ≡ e′ → f ≡ f′
-          → (((((((2 ∷ []) ++ i) ++ a) ++ b) ++ c) ++ d) ++ e) ++ f ≡ (((((((2 ∷ []) ++ i) ++ a′) ++ b′) ++ c′) ++ d′) ++ e′) ++ f′
-      glue i p q u y z k = cc
+      glue : {w w′ a a′ b b′ c c′ d d′ e e′ f f′ : Bytes} (i : Bytes) → w ≡ w′ → a ≡ a′ → b ≡ b′ → c ≡ c′ → d ≡ d′ → e ≡ e′ → f ≡ f′
+          → ((((((((2 ∷ []) ++ i) ++ w) ++ a) ++ b) ++ c) ++ d) ++ e) ++ f ≡ ((((((((2 ∷ []) ++ i) ++ w′) ++ a′) ++ b′) ++ c′) ++ d′) ++ e′) ++ f′
+      glue i o p q u y z k = cc
 
-      rejoin : (i a b c d e f : Bytes) → (((((i ++ a) ++ b) ++ c) ++ d) ++ e) ++ f ≡ i ++ (a ++ (b ++ (c ++ (d ++ (e ++ f)))))
-      rejoin i a b c d e f = simp append-assoc
+      rejoin : (i w a b c d e f : Bytes) → ((((((i ++ w) ++ a) ++ b) ++ c) ++ d) ++ e) ++ f ≡ i ++ (w ++ (a ++ (b ++ (c ++ (d ++ (e ++ f))))))
+      rejoin i w a b c d e f = simp append-assoc
 
-      regroup : (i a b c d e f : Bytes) → (((((((2 ∷ []) ++ i) ++ a) ++ b) ++ c) ++ d) ++ e) ++ f ≡ 2 ∷ (i ++ (a ++ (b ++ (c ++ (d ++ (e ++ f))))))
-      regroup i a b c d e f = ap (λ (k : Bytes). 2 ∷ k) (rejoin i a b c d e f)
+      regroup : (i w a b c d e f : Bytes) → ((((((((2 ∷ []) ++ i) ++ w) ++ a) ++ b) ++ c) ++ d) ++ e) ++ f ≡ 2 ∷ (i ++ (w ++ (a ++ (b ++ (c ++ (d ++ (e ++ f)))))))
+      regroup i w a b c d e f = ap (λ (k : Bytes). 2 ∷ k) (rejoin i w a b c d e f)
 
 -- ---- staying
 pub stay-out : (n floor : ℕ) (f : Facts) → (n ≡ 0 → ⊥) → leb floor n ≡ stayF n floor f

@@ -11,6 +11,7 @@ use lib.Dec.{ltb, leb, eqb}
 use lib.ListN.{length, take, drop, replicate, length-append, length-take}
 use lib.Seq.{length-take-le}
 use borrow.Author.Tests.{lt-ltb, le-ltb, ltb-false, le-leb, lt-leb, leb-true, eq-eqb, ne-eqb, eqb-true}
+use Rattle.queue.specs.Facts.{limitsIn, head-P, head-B, head-T}
 use Rattle.queue.specs.Codec as codec
 use Rattle.queue.specs.Codec.{All, cases, encs, optC}
 use Rattle.queue.specs.Splice.{Put, splice, be}
@@ -60,7 +61,7 @@ use Rattle.queue.specs.declared.rules.Query.the-variants.{Tombstones}
 use Rattle.queue.proofs.PutLaws.{then, recast, kept, over-splice, length-be}
 use Rattle.queue.proofs.ByteLaws.{be-same}
 use Rattle.queue.proofs.FrontLaws.{area-done}
-use Rattle.queue.proofs.WriteLaws.{fit, one-queue, same-queue, the-limits, queue-long, long-need}
+use Rattle.queue.proofs.WriteLaws.{fit, one-queue, same-queue, the-limits, shares-sixteen, queue-long, long-need}
 use Rattle.queue.proofs.ReadingLaws.{key}
 use Rattle.queue.proofs.SelectLaws.{rows-places, rows-take, even-to, ids-size}
 use Rattle.queue.proofs.ReleaseLaws.{sort-mined, mined-placed, walk-ids, walk-columns}
@@ -175,11 +176,11 @@ module _ {s : Bytes} {a : Area} (w : AreaIn s a) {height : ℕ} {tip : Id} {t : 
   unfolding touchedRecs
   before-mined = rw mined-is (sub-pairwise Before (filter-sub minedHolder? (map f (w .q .recs))) (alike-rising f alike (w .q .recs) (fit (w .read) .sound .rising)))
 
-  gone-is : releases (limits (a .open .head .p) (a .open .head .b) 0 0) height window 0 0 (sort newer? (minedOf s (a .open .start) (a .open .head .count) t vs)) ≡ toRelease C (w .q)
+  gone-is : releases (limits (a .open .head .limits .p) (a .open .head .limits .b) 0 0) height window 0 0 (sort newer? (minedOf s (a .open .start) (a .open .head .count) t vs)) ≡ toRelease C (w .q)
   unfolding toRelease
   gone-is =
       let h = w .read .store .head in
-      same-releases _ (w .q .limits) height window 0 0 (sort newer? (minedOf s (a .open .start) (a .open .head .count) t vs)) (sym (h .P)) (sym (h .B))
+      same-releases _ (w .q .limits) height window 0 0 (sort newer? (minedOf s (a .open .start) (a .open .head .count) t vs)) (sym (head-P h)) (sym (head-B h))
       ∙ ap (λ l. releases (w .q .limits) height window 0 0 (sort newer? l)) mined-is
 
   module _ {n c : ℕ} {ra ti pl : List ℕ} (G : MinedGathered s n (minedOf s (a .open .start) (a .open .head .count) t vs) 2048 c ra ti pl) where
@@ -204,7 +205,7 @@ module _ {s : Bytes} {a : Area} (w : AreaIn s a) {height : ℕ} {tip : Id} {t : 
     sorted : MinedRows s (sort ahead? (rows (take c ra) (take c ti) (take c pl))) (sort newer? (minedOf s (a .open .start) (a .open .head .count) t vs))
     sorted = rw (rows-take c ra ti pl) (sort-mined s (n + 1) (take c (rows ra ti pl)) _ (G .listed) before-mined)
 
-    pub gone-are : (r : ℕ) (gone : List ℕ) → r ≤ length (take c ra) → take r gone ≡ walkR (limits (a .open .head .p) (a .open .head .b) 0 0) height window s 0 0 (sort ahead? (rows (take c ra) (take c ti) (take c pl))) → (r ≤ 2048) × GoneAre s (asked height tip t k caught ids m window) (take r gone)
+    pub gone-are : (r : ℕ) (gone : List ℕ) → r ≤ length (take c ra) → take r gone ≡ walkR (limits (a .open .head .limits .p) (a .open .head .limits .b) 0 0) height window s 0 0 (sort ahead? (rows (take c ra) (take c ti) (take c pl))) → (r ≤ 2048) × GoneAre s (asked height tip t k caught ids m window) (take r gone)
     gone-are r gone h e =
         let z : r ≤ 2048 = omega (arith, mined-even .ranks, mined-few) in (
           z,
@@ -246,7 +247,7 @@ module _ {s : Bytes} {a : Area} (w : AreaIn s a) {height : ℕ} {tip : Id} {t : 
     unfolding keptL keptOf touchedRecs
     kept-is {fl} F =
         let st = w .read .store in
-        let T : w .q .limits .T ≡ a .open .head .t = st .head .T in
+        let T : w .q .limits .T ≡ a .open .head .limits .t = head-T (st .head) in
         let N : w .q .counter ≡ a .open .head .counter .0 = st .head .counter in
         three (sym N) ids-are next-is
         ∙ sym (trim-is (w .q .limits .T) (w .q .counter) fl (w .q .recs) f (toRelease C (w .q)) (keeps (w .q .recs)) placed
@@ -269,7 +270,7 @@ module _ {s : Bytes} {a : Area} (w : AreaIn s a) {height : ℕ} {tip : Id} {t : 
         whole-fit = leaves-kept (w .q) (wholeQ C (w .q)) (reconcile C (w .q)) Whole (true, toRelease C (w .q)) (reconcile-leaves C (w .q) (fit (w .read)) (L .ok)) whole-done .fit
 
         abbrev pub LimsW : Limits
-        LimsW = limits (a .open .head .p) (a .open .head .b) (a .open .head .t) (a .open .head .k)
+        LimsW = limitsIn (a .open .head .limits)
 
         abbrev pub recsW : ℕ → List Rec
         recsW fl = keptL s (a .open .start) (a .open .head .count) t vs gone (a .open .head .counter .0) fl
@@ -292,13 +293,13 @@ module _ {s : Bytes} {a : Area} (w : AreaIn s a) {height : ℕ} {tip : Id} {t : 
           whole-fits : length (queueC .enc (queueOf LimsW marksW tip (recsW fl))) ≤ need LimsW
           whole-fits = let u = ap (λ v. length (queueC .enc v)) whole-is in let v = ap need (the-limits (w .read)) in let y = whole-need in omega arith
 
-          pub whole-room : 78 + length (encs recC (recsW fl)) ≤ a .need
+          pub whole-room : 142 + length (encs recC (recsW fl)) ≤ a .need
           whole-room =
-              let q = queue-long LimsW marksW tip (recsW fl) n (L .long) in
+              let q = queue-long LimsW marksW tip (recsW fl) (shares-sixteen (w .read)) n (L .long) in
               let v = ap need (the-limits (w .read)) in let y = whole-fits in omega (arith, w .read .need)
 
-          pub whole-put : {d d₁ d₂ d₃ : Bytes} {o y y′ to : ℕ} {q′ : Queue} → readArea s ≡ some q′ → a .need ≤ length d → to ≡ 78
-              → Put d to (encs recC (recsW fl)) (length (encs recC (recsW fl))) o d₁ → Put d₁ 0 (frontBytes LimsW marksW tip) 78 y d₂ → Put d₂ o (replicate (a .need - o) 0) (a .need - o) y′ d₃
+          pub whole-put : {d d₁ d₂ d₃ : Bytes} {o y y′ to : ℕ} {q′ : Queue} → readArea s ≡ some q′ → a .need ≤ length d → to ≡ 142
+              → Put d to (encs recC (recsW fl)) (length (encs recC (recsW fl))) o d₁ → Put d₁ 0 (frontBytes LimsW marksW tip) 142 y d₂ → Put d₂ o (replicate (a .need - o) 0) (a .need - o) y′ d₃
               → d₃ ≡ over (areaBytes (wholeQ C q′)) d
           whole-put {d} x g h p1 p2 p3 =
               area-done LimsW marksW tip (recsW fl) n whole-fits (w .read .need ∙ ap need (the-limits (w .read))) g p1 (recast p2 refl (sym h) refl) p3
@@ -383,7 +384,7 @@ gathered-to e g = record { even = even-to (g .even) e; all = g .all; listed = g 
 pub floor-none : (s : Bytes) (a : Area) (g : ℕ) → g ≡ 0 → FloorFor s a g 0
 floor-none s a g e = (λ _. refl, λ n. absurd (n e))
 
-pub floor-some : (s : Bytes) (a : Area) (g : ℕ) {f : ℕ} → (g ≡ 0 → ⊥) → ((sum Tombstones (listAt (formC false recC) (a .open .head .count) s (a .open .start)) + g ≤ a .open .head .t) × (f ≡ 0)) ⊎ ((x : ℕ) → ltb (above (a .open .head .counter .0) g (listAt (formC false recC) (a .open .head .count) s (a .open .start)) x) (a .open .head .t) ≡ leb f x) → FloorFor s a g f
+pub floor-some : (s : Bytes) (a : Area) (g : ℕ) {f : ℕ} → (g ≡ 0 → ⊥) → ((sum Tombstones (listAt (formC false recC) (a .open .head .count) s (a .open .start)) + g ≤ a .open .head .limits .t) × (f ≡ 0)) ⊎ ((x : ℕ) → ltb (above (a .open .head .counter .0) g (listAt (formC false recC) (a .open .head .count) s (a .open .start)) x) (a .open .head .limits .t) ≡ leb f x) → FloorFor s a g f
 floor-some s a g n x = (λ e. absurd (n e), λ _. x)
 
 pub flag-put : {d d′ : Bytes} {at r n : ℕ} (b : Bool) → n ≡ one b → Put d at (n ∷ []) 1 r d′ → Put d at (one b ∷ []) 1 r d′

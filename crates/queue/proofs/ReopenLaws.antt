@@ -25,8 +25,8 @@ use Rattle.queue.specs.Bound.{fits-need}
 use Rattle.queue.specs.Sounds.{Fit, fit-sound, fit-ok}
 use Rattle.queue.specs.Keeps.{Kept, Leaves, leaves-kept, reopen-leaves}
 use Rattle.queue.specs.Plain.{terms-plain, body-plain, rec-plain, ids-plain}
-use Rattle.queue.specs.Facts.{termsAt, factsOf, SeenAs}
-use Rattle.queue.specs.Opens.{limits, AreaAs, AreaIs}
+use Rattle.queue.specs.Facts.{termsAt, factsOf, SeenAs, limitsIn}
+use Rattle.queue.specs.Opens.{AreaAs, AreaIs}
 use Rattle.queue.specs.Arguments.{Small, items-ok, ids-ok}
 use Rattle.queue.specs.Fronts.{frontLen, tipOf, tipSize, frontBytes, queueOf}
 use Rattle.queue.specs.Writes.{TipIs}
@@ -36,7 +36,7 @@ use Rattle.queue.specs.paper.Records.{Bytes, Id, Limits, Rec, Queue, que
 use Rattle.queue.specs.paper.Lists.{any?, map, concat}
 use Rattle.queue.specs.paper.Ids.{cmpL, rise?}
 use Rattle.queue.specs.paper.Sound.{need, holder?, mined?, among?}
-use Rattle.queue.specs.paper.Area.{flagged, termsBytes, placeBytes, heldBytes, recBytes, areaBytes, over}
+use Rattle.queue.specs.paper.Area.{flagged, termsBytes, placeBytes, heldBytes, recBytes, areaBytes, over, recUnder}
 use Rattle.queue.specs.paper.Changing.{Out, refused, done, committed, reopened, listed?, reopen}
 use Rattle.queue.specs.Checked.{Outcome, outcome, told, reopenOf}
 use Rattle.queue.specs.paper.Calls.{nothingBytes, pieces, items, whole?}
@@ -46,13 +46,14 @@ use Rattle.queue.specs.declared.frame.Seen.{Seen}
 use Rattle.queue.specs.declared.frame.Facts.{Facts}
 use Rattle.queue.specs.declared.area.Area.{Area}
 use Rattle.queue.specs.declared.head.Marks.{Marks}
+use Rattle.queue.proofs.FrameLaws.{caller-byte}
 use Rattle.queue.proofs.Turns.{Scan, start, here, on, stop, end, SeenIn, ReadsRec, seen, see}
 use Rattle.queue.proofs.PutLaws as puts
 use Rattle.queue.proofs.PutLaws.{Left, begun, onward, kept, recast, length-be}
 use Rattle.queue.proofs.ByteLaws.{be-same, between}
 use Rattle.queue.proofs.FinishLaws.{cut-one, raw-after, raw-within, id-long}
 use Rattle.queue.proofs.FrontLaws.{area-done}
-use Rattle.queue.proofs.WriteLaws.{fit, one-queue, same-queue, the-limits, tip-of, queue-long, long-need}
+use Rattle.queue.proofs.WriteLaws.{fit, one-queue, same-queue, the-limits, shares-sixteen, tip-of, queue-long, long-need}
 use Rattle.queue.proofs.CallLaws.{small-all}
 
 -- ---- lent ids
@@ -185,15 +186,15 @@ reason-small m h = cases (eqb m 0)
     (λ t. cases h (λ u. rw (t, u) (omega arith)) (λ u. rw (t, u) (omega arith)))
     (λ t. cases (eqb m 4) (λ u. rw (t, u) (omega arith)) (λ u. cases (eqb m 5) (λ v. rw (t, u, v) (omega arith)) (λ v. rw (t, u, v) (omega arith))))
 
-rejoin : (i a b t z f : Bytes) → ((((i ++ a) ++ b) ++ t) ++ z) ++ f ≡ i ++ (a ++ (b ++ (t ++ (z ++ f))))
-rejoin i a b t z f = simp append-assoc
+rejoin : (i c a b t z f : Bytes) → (((((i ++ c) ++ a) ++ b) ++ t) ++ z) ++ f ≡ i ++ (c ++ (a ++ (b ++ (t ++ (z ++ f)))))
+rejoin i c a b t z f = simp append-assoc
 
-regroup : (i a b t z f : Bytes) → (((((((2 ∷ []) ++ i) ++ a) ++ b) ++ t)) ++ z) ++ f ≡ 2 ∷ (i ++ (a ++ (b ++ (t ++ (z ++ f)))))
-regroup i a b t z f = ap (λ (k : Bytes). 2 ∷ k) (rejoin i a b t z f)
+regroup : (i c a b t z f : Bytes) → (((((((2 ∷ []) ++ i) ++ c) ++ a) ++ b) ++ t) ++ z) ++ f ≡ 2 ∷ (i ++ (c ++ (a ++ (b ++ (t ++ (z ++ f))))))
+regroup i c a b t z f = ap (λ (k : Bytes). 2 ∷ k) (rejoin i c a b t z f)
 
-glue : {a a′ b b′ t t′ z z′ f f′ : Bytes} (i : Bytes) → a ≡ a′ → b ≡ b′ → t ≡ t′ → z ≡ z′ → f ≡ f′
-    → ((((((2 ∷ []) ++ i) ++ a) ++ b) ++ t) ++ z) ++ f ≡ ((((((2 ∷ []) ++ i) ++ a′) ++ b′) ++ t′) ++ z′) ++ f′
-glue i e f g h k = cc
+glue : {c c′ a a′ b b′ t t′ z z′ f f′ : Bytes} (i : Bytes) → c ≡ c′ → a ≡ a′ → b ≡ b′ → t ≡ t′ → z ≡ z′ → f ≡ f′
+    → (((((((2 ∷ []) ++ i) ++ c) ++ a) ++ b) ++ t) ++ z) ++ f ≡ (((((((2 ∷ []) ++ i) ++ c′) ++ a′) ++ b′) ++ t′) ++ z′) ++ f′
+glue i w e f g h k = cc
 
 two-zeros : be 2 0 ≡ 0 ∷ 0 ∷ []
 two-zeros = refl
@@ -204,8 +205,8 @@ reopenedState r = cond (eqb (r .mark) 0) (cond (holder? r) queued expired) (cond
 abbrev reopenedReason : Rec → ℕ
 reopenedReason r = cond (eqb (r .mark) 0) (cond (holder? r) 4 3) (cond (eqb (r .mark) cancelled) 1 (cond (eqb (r .mark) expired) 2 3))
 
-shape : (r : Rec) → 2 ∷ (r .id ++ (codec.be 1 (reopenedState r) ++ (codec.be 1 (reopenedReason r) ++ (termsBytes (r .terms) ++ ((0 ∷ 0 ∷ []) ++ (codec.be 8 (r .finish) ++ flagged heldBytes (r .body))))))) ≡ recBytes (reopened r)
-unfolding recBytes reopened placeBytes
+shape : (r : Rec) → 2 ∷ (r .id ++ (codec.be 1 (r .caller) ++ (codec.be 1 (reopenedState r) ++ (codec.be 1 (reopenedReason r) ++ (termsBytes (r .terms) ++ ((0 ∷ 0 ∷ []) ++ (codec.be 8 (r .finish) ++ flagged heldBytes (r .body)))))))) ≡ recBytes (reopened r)
+unfolding recUnder reopened placeBytes
 shape r = refl
 
 module _ (s : Bytes) (base : ℕ) {x : Seen} {r : Rec} (w : SeenAs (view false s base) x r) where
@@ -245,9 +246,9 @@ module _ (s : Bytes) (base : ℕ) {x : Seen} {r : Rec} (w : SeenAs (view false s
   pub reopened-is : reopenedBytes s base x ≡ recC .enc (reopened r)
   unfolding reopenedBytes leadBytes
   reopened-is =
-      glue (x .id) state-byte reason-byte terms-part two-zeros tail-part
-      ∙ regroup (x .id) (codec.be 1 (reopenedState r)) (codec.be 1 (reopenedReason r)) (termsBytes (r .terms)) (0 ∷ 0 ∷ []) (codec.be 8 (r .finish) ++ flagged heldBytes (r .body))
-      ∙ ap (λ (i : Bytes). 2 ∷ (i ++ (codec.be 1 (reopenedState r) ++ (codec.be 1 (reopenedReason r) ++ (termsBytes (r .terms) ++ ((0 ∷ 0 ∷ []) ++ (codec.be 8 (r .finish) ++ flagged heldBytes (r .body)))))))) (w .id)
+      glue (x .id) (caller-byte w) state-byte reason-byte terms-part two-zeros tail-part
+      ∙ regroup (x .id) (codec.be 1 (r .caller)) (codec.be 1 (reopenedState r)) (codec.be 1 (reopenedReason r)) (termsBytes (r .terms)) (0 ∷ 0 ∷ []) (codec.be 8 (r .finish) ++ flagged heldBytes (r .body))
+      ∙ ap (λ (i : Bytes). 2 ∷ (i ++ (codec.be 1 (r .caller) ++ (codec.be 1 (reopenedState r) ++ (codec.be 1 (reopenedReason r) ++ (termsBytes (r .terms) ++ ((0 ∷ 0 ∷ []) ++ (codec.be 8 (r .finish) ++ flagged heldBytes (r .body))))))))) (w .id)
       ∙ shape r ∙ sym (rec-plain (reopened r))
 
 pick : (a b : Bool) (x y : Bytes) (u v : Rec) → a ≡ b → x ≡ recC .enc u → y ≡ recC .enc v → cond a x y ≡ recC .enc (cond b u v)
@@ -267,7 +268,7 @@ unfolding reopenedBytes leadBytes
 reopened-long s base x p =
     let a = length-take-le (x .after - termsAt) (drop (base + termsAt) s) (omega (arith, length-drop (base + termsAt) s, p .upPlace, p .upBody, p .within)) in
     let b = length-take-le (x .size - (x .mark + 1)) (drop (base + (x .mark + 1)) s) (omega (arith, length-drop (base + (x .mark + 1)) s, p .upBody, p .within)) in
-    let c = length-be 1 (stateF (x .facts)) in let d = length-be 1 (reasonF (x .facts)) in let e = length-be 2 0 in
+    let u = length-be 1 (x .facts .caller) in let c = length-be 1 (stateF (x .facts)) in let d = length-be 1 (reasonF (x .facts)) in let e = length-be 2 0 in
     simp length-append (omega (arith, p .id, p .up))
 
 pub again-yes : (s : Bytes) (base : ℕ) (x : Seen) {hit : Bool} → hit ≡ true → againBytes s base x hit ≡ reopenedBytes s base x
@@ -321,7 +322,7 @@ module _ (s : Bytes) (at n : ℕ) (ids : List Id) (to : ℕ) (d₀ : Bytes) wher
 -- ---- the whole area
 module _ {s : Bytes} {a : Area} {ids : List Id} (w : AgainFrom s a ids) where
   abbrev pub Lims : Limits
-  Lims = limits (a .open .head .p) (a .open .head .b) (a .open .head .t) (a .open .head .k)
+  Lims = limitsIn (a .open .head .limits)
 
   abbrev pub recsNow : List Rec
   recsNow = map (again ids) (listAt (formC false recC) (a .open .head .count) s (a .open .start))
@@ -348,7 +349,7 @@ module _ {s : Bytes} {a : Area} {ids : List Id} (w : AgainFrom s a ids) where
 
     pub opened-room : frontLen + tipSize (a .open .head .tip) + length (encs recC recsNow) ≤ a .need
     opened-room =
-        let q = queue-long Lims marksNow tip recsNow many l in
+        let q = queue-long Lims marksNow tip recsNow (shares-sixteen (w .read)) many l in
         let v = ap need (the-limits (w .read)) in let y = opened-fits in omega (arith, w .read .need)
 
     pub opened-done : {d d₁ d₂ d₃ : Bytes} {o y y′ to : ℕ} {q′ : Queue} → readArea s ≡ some q′ → a .need ≤ length d → to ≡ frontLen + tipSize (a .open .head .tip)

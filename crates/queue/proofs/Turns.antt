@@ -12,7 +12,7 @@ use Rattle.queue.specs.ReadLaws.{Turn, turn, none-left}
 use Rattle.queue.specs.Frames.{recK, recC}
 use Rattle.queue.specs.Forms.{formC, afterIn, Framed, turn-in, recIn}
 use Rattle.queue.specs.View.{view}
-use Rattle.queue.specs.Facts.{SeenAs}
+use Rattle.queue.specs.Facts.{SeenUnder, SeenAs}
 use Rattle.queue.specs.paper.Records.{Rec}
 use Rattle.queue.specs.paper.Kinds.{newest}
 use Rattle.queue.specs.declared.frame.Form.{Form}
@@ -42,10 +42,10 @@ start 𝓐 F s n at st h w = record { within = h; all = w; few = le-refl n; same
 
 -- ---- the records of a queue in a form, each read from its view; j is where the next one starts
 abbrev pub SeenForm : Form → Bytes → ℕ → Bool → ℕ → Seen → Rec → Type 0
-SeenForm form s i ok m y r = SeenAs (view (form .hex) s i) y r × Framed (recK (form .kind)) (form .hex) s i ok m r
+SeenForm form s i ok m y r = SeenUnder (form .kind) (view (form .hex) s i) y r × Framed (recK (form .kind)) (form .hex) s i ok m r
 
 abbrev pub ReadsForm : Form → Bytes → ℕ → Bool → ℕ → Seen → Type 0
-ReadsForm form s i ok m y = Reads (recK (form .kind)) (view (form .hex) s i) 0 ok m (SeenAs (view (form .hex) s i) y)
+ReadsForm form s i ok m y = Reads (recK (form .kind)) (view (form .hex) s i) 0 ok m (SeenUnder (form .kind) (view (form .hex) s i) y)
 
 module _ {S X : Type 0} (form : Form) {F : S → List Rec → X} {s : Bytes} {n at : ℕ} {st₀ st : S} {i left : ℕ} (x : Scan (recIn form) F s n at st₀ i left st) where
   pub seen-in : {ok : Bool} {m : ℕ} {y : Seen} → 0 < left → ReadsForm form s i ok m y → Turn (recIn form) s left i (afterIn (form .hex) s i m) (SeenForm form s i ok m y)

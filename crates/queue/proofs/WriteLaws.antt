@@ -22,18 +22,20 @@ use Rattle.queue.specs.ReadLaws.{false-true}
 use Rattle.queue.specs.View.{view}
 use Rattle.queue.specs.Forms.{formC, form-raw, afterIn, queueC, queue-enc, storeOf, headFor, ok-queue, ok-store}
 use Rattle.queue.specs.Areas.{readArea}
-use Rattle.queue.specs.Facts.{HeadAs}
-use Rattle.queue.specs.Opens.{limits, StoreAs, AreaAs}
+use Rattle.queue.specs.Facts.{limitsIn, HeadAs, head-T}
+use Rattle.queue.specs.Opens.{StoreAs, AreaAs}
 use Rattle.queue.specs.Sounds.{Fit, fit-of, Right}
 use Rattle.queue.specs.Fronts.{frontLen, tipOf, tipSize, headWith, Small, frontBytes, queueOf}
 use Rattle.queue.specs.Finishing.{picked, fateOf, stepL, one?, walkL, Floors, above}
 use Rattle.queue.specs.Rules.{sum}
 use Rattle.queue.specs.Writes.{HeadIn, TipIs, MovedFrom, ended, EndedFrom}
-use Rattle.queue.specs.Plain.{bytes-plain}
+use Rattle.queue.specs.Plain.{bytes-plain, limits-plain}
 use Rattle.queue.specs.paper.Records.{Bytes, Id, Limits, Rec, Queue}
 use Rattle.queue.specs.paper.Lists.{isSome, all?, count}
 use Rattle.queue.specs.paper.Sound.{need, holder?, right?, finishRight?, sound?, inRange, tombstones}
-use Rattle.queue.specs.paper.Area.{areaBytes, over}
+use Rattle.queue.specs.paper.Area.{areaBytes, sharesBytes, over}
+use Rattle.queue.specs.paper.Calls.{numbers}
+use Rattle.queue.specs.paper.Kinds.{newest}
 use Rattle.queue.specs.paper.Changing.{moved, committed, finishThose, forget}
 use Rattle.queue.specs.declared.frame.HeadR.{HeadR}
 use Rattle.queue.specs.declared.frame.Height.{Height}
@@ -46,9 +48,10 @@ use Rattle.queue.specs.declared.finish.Fate.the-variants.{Drop, Keep, En
 use Rattle.queue.specs.declared.rules.Query.the-variants.{Tombstones}
 use Rattle.queue.proofs.PutLaws.{recast, kept}
 use Rattle.queue.proofs.ByteLaws.{between}
-use Rattle.queue.proofs.OpenLaws.{Ranged, ranged, same-limits}
+use Rattle.queue.proofs.ShareLaws.{sixteen}
+use Rattle.queue.proofs.OpenLaws.{Ranged, ranged}
 use Rattle.queue.proofs.FinishLaws.{forget-walk, floors}
-use Rattle.queue.proofs.FrontLaws.{limits-enc, head-enc, front-enc, area-done}
+use Rattle.queue.proofs.FrontLaws.{head-enc, front-enc, area-done}
 
 -- ---- the tip
 part-in : (v p x r : Bytes) (k : ℕ) → drop k v ≡ (p ++ x) ++ r → take (length x) (drop (k + length p) v) ≡ x
@@ -64,22 +67,22 @@ unfolding optC idC vecC
 tip-ok i h = h .1
 
 module _ (v : Bytes) (x : Head) (h : HeadR) (w : HeadAs v h x) where
-  tip-some : (i : Id) → x .tip ≡ some i → length i ≡ 32 → (take 32 (drop 30 v) ≡ i) × (62 ≤ length v)
+  tip-some : (i : Id) → x .tip ≡ some i → length i ≡ 32 → (take 32 (drop 94 v) ≡ i) × (126 ≤ length v)
   tip-some i e l =
-      let a : drop 25 v ≡ ((codec.be 4 (x .cursor) ++ (1 ∷ [])) ++ i) ++ drop (h .after) v = ap (λ k. drop k v) (sym (w .marksAt)) ∙ w .marks ∙ ap (λ o. (beC 4 .enc (x .cursor) ++ optC idC .enc o) ++ drop (h .after) v) e ∙ ap (λ k. k ++ drop (h .after) v) (tip-enc (x .cursor) i) in
+      let a : drop 89 v ≡ ((codec.be 4 (x .cursor) ++ (1 ∷ [])) ++ i) ++ drop (h .after) v = ap (λ k. drop k v) (sym (w .marksAt)) ∙ w .marks ∙ ap (λ o. (beC 4 .enc (x .cursor) ++ optC idC .enc o) ++ drop (h .after) v) e ∙ ap (λ k. k ++ drop (h .after) v) (tip-enc (x .cursor) i) in
       let n : length (codec.be 4 (x .cursor) ++ (1 ∷ [])) ≡ 5 = let y = be-length 4 (x .cursor) in length-append (codec.be 4 (x .cursor)) (1 ∷ []) ∙ omega arith in
-      let b = part-in v (codec.be 4 (x .cursor) ++ (1 ∷ [])) i (drop (h .after) v) 25 a in
-      let c : take 32 (drop 30 v) ≡ i = ap (λ k. take k (drop 30 v)) (sym l) ∙ ap (λ k. take (length i) (drop (25 + k) v)) (sym n) ∙ b in
-      (c, omega (arith, ap length a, length-append ((codec.be 4 (x .cursor) ++ (1 ∷ [])) ++ i) (drop (h .after) v), length-append (codec.be 4 (x .cursor) ++ (1 ∷ [])) i, length-drop 25 v, w .end, w .sizeAt))
+      let b = part-in v (codec.be 4 (x .cursor) ++ (1 ∷ [])) i (drop (h .after) v) 89 a in
+      let c : take 32 (drop 94 v) ≡ i = ap (λ k. take k (drop 94 v)) (sym l) ∙ ap (λ k. take (length i) (drop (89 + k) v)) (sym n) ∙ b in
+      (c, omega (arith, ap length a, length-append ((codec.be 4 (x .cursor) ++ (1 ∷ [])) ++ i) (drop (h .after) v), length-append (codec.be 4 (x .cursor) ++ (1 ∷ [])) i, length-drop 89 v, w .end, w .sizeAt))
 
-  pub tip-room : optC idC .ok (x .tip) → h .tip ≡ true → 62 ≤ length v
+  pub tip-room : optC idC .ok (x .tip) → h .tip ≡ true → 126 ≤ length v
   tip-room o t = go (x .tip) refl
     where
-      go : (y : Option Id) → x .tip ≡ y → 62 ≤ length v
+      go : (y : Option Id) → x .tip ≡ y → 126 ≤ length v
       go none e = false-true (sym (ap isSome e) ∙ w .tip ∙ t)
       go (some i) e = tip-some i e (tip-ok i (rw e at o)) .1
 
-  pub tip-here : {r : Id} → optC idC .ok (x .tip) → h .tip ≡ true → r ≡ part 32 v 30 → tipOf (h .tip) r ≡ x .tip
+  pub tip-here : {r : Id} → optC idC .ok (x .tip) → h .tip ≡ true → r ≡ part 32 v 94 → tipOf (h .tip) r ≡ x .tip
   unfolding part
   tip-here {r} o t f = go (x .tip) refl
     where
@@ -111,8 +114,11 @@ module _ {s : Bytes} {a : Area} {q : Queue} (w : AreaAs s a q) where
       values (formC false recC) (a .open .head .count) s (a .open .start) (st .all) ∙ rw (st .list, ← (st .end), form-raw recC) in
       between s (encs recC (q .recs)) (a .open .start) (a .open .next) e (st .up) (st .ends)
 
-  pub the-limits : q .limits ≡ limits (a .open .head .p) (a .open .head .b) (a .open .head .t) (a .open .head .k)
-  the-limits = let h = w .store .head in same-limits (q .limits) (h .P) (h .B) (h .T) (h .K)
+  pub the-limits : q .limits ≡ limitsIn (a .open .head .limits)
+  the-limits = sym (w .store .head .lim)
+
+  pub shares-sixteen : length (numbers (a .open .head .limits .shares)) ≡ 16
+  shares-sixteen = sixteen (a .open .head .limits .shares) (w .store .head .fit .long)
 
   pub fit : Fit q
   fit = fit-of q (w .sound) (w .range)
@@ -136,22 +142,27 @@ tip-long false tip h = refl
 sizes : (a b c d e f g h : Bytes) → length (a ++ (b ++ (c ++ (d ++ (e ++ (f ++ (g ++ h))))))) ≡ length a + (length b + (length c + (length d + (length e + (length f + (length g + length h))))))
 sizes a b c d e f g h = simp length-append
 
-limits-long : (l : Limits) → length (limitsC .enc l) ≡ 16
-limits-long l =
-    let b = be-length 4 (l .P) in let c = be-length 4 (l .B) in let d = be-length 4 (l .T) in let e = be-length 4 (l .K) in
-    ap length (limits-enc (l .P) (l .B) (l .T) (l .K)) ∙ simp length-append (omega arith)
+shares-long : (l : List ℕ) → length (sharesBytes l) ≡ 4 * length l
+unfolding sharesBytes
+shares-long [] = refl
+shares-long (n ∷ l) = let a = be-length 4 n in let i = shares-long l in length-append (codec.be 4 n) (sharesBytes l) ∙ omega arith
 
-front-long : (l : Limits) (m : Marks) (tip : Id) → length tip ≡ 32 → length (frontBytes l m tip) ≡ frontLen + tipSize (m .tip)
+limits-long : (l : Limits) → length (l .shares) ≡ 16 → length (limitsC .enc l) ≡ 80
+limits-long l h =
+    let b = be-length 4 (l .P) in let c = be-length 4 (l .B) in let d = be-length 4 (l .T) in let e = be-length 4 (l .K) in let f = shares-long (l .shares) in
+    ap length (limits-plain newest l) ∙ simp length-append (omega arith)
+
+front-long : (l : Limits) (m : Marks) (tip : Id) → length (l .shares) ≡ 16 → length tip ≡ 32 → length (frontBytes l m tip) ≡ frontLen + tipSize (m .tip)
 unfolding frontBytes
-front-long l m tip h =
-    let a = be-length 4 (m .persisted .0) in let b = limits-long l in
+front-long l m tip n h =
+    let a = be-length 4 (m .persisted .0) in let b = limits-long l n in
     let f = be-length 8 (m .revision) in let g = be-length 4 (m .cursor .0) in let i = tip-long (m .tip) tip h in let j = be-length 8 (m .counter .0) in let k = be-length 4 (m .count) in
     ap (λ y. length (codec.be 4 (m .persisted .0) ++ y)) (head-enc (headWith l m tip))
     ∙ sizes (codec.be 4 (m .persisted .0)) (1 ∷ []) (limitsC .enc l) (codec.be 8 (m .revision)) (codec.be 4 (m .cursor .0)) (optC idC .enc (tipOf (m .tip) tip)) (codec.be 8 (m .counter .0)) (codec.be 4 (m .count))
     ∙ omega arith
 
-pub queue-long : (l : Limits) (m : Marks) (tip : Id) (recs : List Rec) → m .count ≡ length recs → length tip ≡ 32 → length (queueC .enc (queueOf l m tip recs)) ≡ frontLen + tipSize (m .tip) + length (encs recC recs)
-queue-long l m tip recs e h = ap length (sym (front-enc l m tip recs e)) ∙ length-append (frontBytes l m tip) (encs recC recs) ∙ ap (λ k. k + length (encs recC recs)) (front-long l m tip h)
+pub queue-long : (l : Limits) (m : Marks) (tip : Id) (recs : List Rec) → length (l .shares) ≡ 16 → m .count ≡ length recs → length tip ≡ 32 → length (queueC .enc (queueOf l m tip recs)) ≡ frontLen + tipSize (m .tip) + length (encs recC recs)
+queue-long l m tip recs n e h = ap length (sym (front-enc l m tip recs e)) ∙ length-append (frontBytes l m tip) (encs recC recs) ∙ ap (λ k. k + length (encs recC recs)) (front-long l m tip n h)
 
 -- ---- another cursor
 abbrev queue : ℕ → Limits → ℕ → ℕ → Option Id → ℕ → List Rec → Queue
@@ -167,7 +178,7 @@ module _ {s : Bytes} {a : Area} {q : Queue} (w : AreaAs s a q) (persisted cursor
   abbrev pub marksFor : Marks
   marksFor = record { persisted = persisted; revision = a .open .head .revision; cursor = cursor; tip = has; counter = a .open .head .counter; count = a .open .head .count }
 
-  pub moved-is : queueOf (limits (a .open .head .p) (a .open .head .b) (a .open .head .t) (a .open .head .k)) marksFor tip (q .recs) ≡ moved (persisted .0) (cursor .0) (tipOf has tip) q
+  pub moved-is : queueOf (limitsIn (a .open .head .limits)) marksFor tip (q .recs) ≡ moved (persisted .0) (cursor .0) (tipOf has tip) q
   unfolding moved
   moved-is = same-queue refl (sym (the-limits w)) (sym (w .store .head .revision)) refl refl (sym (w .store .head .counter)) refl
 
@@ -177,23 +188,23 @@ module _ {s : Bytes} {a : Area} {q : Queue} (w : AreaAs s a q) (persisted cursor
   -- room for the records behind the front
   pub moved-room : length tip ≡ 32 → length (queueC .enc (moved (persisted .0) (cursor .0) (tipOf has tip) q)) ≤ need (q .limits) → frontLen + tipSize has + (a .open .next - a .open .start) ≤ a .need
   moved-room h f =
-      let l = queue-long (limits (a .open .head .p) (a .open .head .b) (a .open .head .t) (a .open .head .k)) marksFor tip (q .recs) (sym (w .store .count)) h in
+      let l = queue-long (limitsIn (a .open .head .limits)) marksFor tip (q .recs) (shares-sixteen w) (sym (w .store .count)) h in
       let e = ap (λ y. length (queueC .enc y)) moved-is in
       let r = recs-here w .1 in omega (arith, w .need)
 
   pub moved-done : {d d₁ d₂ d₃ : Bytes} {o r r′ to : ℕ} {q′ : Queue} → readArea s ≡ some q → readArea s ≡ some q′ → length (queueC .enc (moved (persisted .0) (cursor .0) (tipOf has tip) q)) ≤ need (q .limits) → a .need ≤ length d
       → to ≡ frontLen + tipSize has
       → Put d to (take (a .open .next - a .open .start) (drop (a .open .start) s)) (a .open .next - a .open .start) o d₁
-      → Put d₁ 0 (frontBytes (limits (a .open .head .p) (a .open .head .b) (a .open .head .t) (a .open .head .k)) marksFor tip) (frontLen + tipSize has) r d₂ → Put d₂ o (replicate (a .need - o) 0) (a .need - o) r′ d₃
+      → Put d₁ 0 (frontBytes (limitsIn (a .open .head .limits)) marksFor tip) (frontLen + tipSize has) r d₂ → Put d₂ o (replicate (a .need - o) 0) (a .need - o) r′ d₃
       → d₃ ≡ over (areaBytes (moved (persisted .0) (cursor .0) (tipOf has tip) q′)) d
   moved-done {d} {d₁} {d₂} {d₃} {o} {r} {r′} {to} e1 e2 f g t x y z =
-      let L = limits (a .open .head .p) (a .open .head .b) (a .open .head .t) (a .open .head .k) in
+      let L = limitsIn (a .open .head .limits) in
       let x′ = recast x (recs-here w .0) (sym (recs-here w .1)) refl in
       let y′ = recast y refl (sym t) refl in
-      let n : a .need ≡ need (limits (a .open .head .p) (a .open .head .b) (a .open .head .t) (a .open .head .k)) = w .need ∙ ap need (the-limits w) in
-      let fit′ : length (queueC .enc (queueOf (limits (a .open .head .p) (a .open .head .b) (a .open .head .t) (a .open .head .k)) marksFor tip (q .recs))) ≤ need (limits (a .open .head .p) (a .open .head .b) (a .open .head .t) (a .open .head .k)) =
+      let n : a .need ≡ need (limitsIn (a .open .head .limits)) = w .need ∙ ap need (the-limits w) in
+      let fit′ : length (queueC .enc (queueOf (limitsIn (a .open .head .limits)) marksFor tip (q .recs))) ≤ need (limitsIn (a .open .head .limits)) =
       let u = ap (λ v. length (queueC .enc v)) moved-is in let v = ap need (the-limits w) in omega arith in
-      area-done (limits (a .open .head .p) (a .open .head .b) (a .open .head .t) (a .open .head .k)) marksFor tip (q .recs) (sym (w .store .count)) fit′ n g x′ y′ z
+      area-done (limitsIn (a .open .head .limits)) marksFor tip (q .recs) (sym (w .store .count)) fit′ n g x′ y′ z
       ∙ ap (λ v. over (areaBytes v) d) (moved-is ∙ ap (moved (persisted .0) (cursor .0) (tipOf has tip)) (one-queue s e1 e2))
 
 -- ---- what the floor asks
@@ -202,28 +213,28 @@ all-stamps K c [] h = tt
 all-stamps K c (r ∷ l) h = (λ b. let e : finishRight? c false (r .finish) ≡ true = rw b at (h .0 .finish) in leb-true _ _ (and-true (leb 1 (r .finish)) _ e .1), all-stamps K c l (h .1))
 
 pub floor-needs : {s : Bytes} {a : Area} {q : Queue} → AreaAs s a q → (g : ℕ) → g ≤ a .open .head .count → a .open .head .counter .0 + g < 18446744073709551616
-    → (a .open .start ≤ length s) × (whole (formC false recC) (a .open .head .count) s (a .open .start) ≡ true) × (a .open .head .count < 4294967296) × (g ≤ a .open .head .count) × (a .open .head .counter .0 + g < 18446744073709551616) × (0 < a .open .head .t) × (a .open .head .t < 4294967296)
+    → (a .open .start ≤ length s) × (whole (formC false recC) (a .open .head .count) s (a .open .start) ≡ true) × (a .open .head .count < 4294967296) × (g ≤ a .open .head .count) × (a .open .head .counter .0 + g < 18446744073709551616) × (0 < a .open .head .limits .t) × (a .open .head .limits .t < 4294967296)
     × All (λ r. holder? r ≡ false → r .finish ≤ a .open .head .counter .0) (listAt (formC false recC) (a .open .head .count) s (a .open .start)) × (tombstones (listAt (formC false recC) (a .open .head .count) s (a .open .start)) ≤ 1024)
 floor-needs {s} {a} {q} w g h k =
     let st = w .store in
     let f = fit w in
-    let t = st .head .T in
-    (omega (arith, st .up, st .ends), st .all, st .head .countSmall, h, k, omega (arith, f .sound .range .T-low), st .head .tSmall, rw (st .list, ← (st .head .counter)) (all-stamps _ _ (q .recs) (f .sound .right)), rw (st .list) (omega (arith, f .sound .fewTombs, f .sound .range .T-high)))
+    let t = head-T (st .head) in
+    (omega (arith, st .up, st .ends), st .all, st .head .countSmall, h, k, omega (arith, f .sound .range .T-low), st .head .fit .t, rw (st .list, ← (st .head .counter)) (all-stamps _ _ (q .recs) (f .sound .right)), rw (st .list) (omega (arith, f .sound .fewTombs, f .sound .range .T-high)))
 
 -- ---- finished and forgotten
 module _ {s : Bytes} {a : Area} {c : Change} {id : Id} {state reason m : ℕ} (w : EndedFrom s a c id state reason m) where
   abbrev pub list : List Rec
   list = listAt (formC false recC) (a .open .head .count) s (a .open .start)
 
-  pub floor-asks : (a .open .start ≤ length s) × (whole (formC false recC) (a .open .head .count) s (a .open .start) ≡ true) × (a .open .head .count < 4294967296) × (m ≤ a .open .head .count) × (a .open .head .counter .0 + m < 18446744073709551616) × (0 < a .open .head .t) × (a .open .head .t < 4294967296)
+  pub floor-asks : (a .open .start ≤ length s) × (whole (formC false recC) (a .open .head .count) s (a .open .start) ≡ true) × (a .open .head .count < 4294967296) × (m ≤ a .open .head .count) × (a .open .head .counter .0 + m < 18446744073709551616) × (0 < a .open .head .limits .t) × (a .open .head .limits .t < 4294967296)
       × All (λ r. holder? r ≡ false → r .finish ≤ a .open .head .counter .0) (listAt (formC false recC) (a .open .head .count) s (a .open .start)) × (tombstones (listAt (formC false recC) (a .open .head .count) s (a .open .start)) ≤ 1024)
   floor-asks = floor-needs (w .read) m (w .few) (w .room)
 
   abbrev pub Limit : Limits
-  Limit = limits (a .open .head .p) (a .open .head .b) (a .open .head .t) (a .open .head .k)
+  Limit = limitsIn (a .open .head .limits)
 
   abbrev pub FloorIs : ℕ → Type 0
-  FloorIs f = ((sum Tombstones (listAt (formC false recC) (a .open .head .count) s (a .open .start)) + m ≤ a .open .head .t) × (f ≡ 0)) ⊎ ((x : ℕ) → ltb (above (a .open .head .counter .0) m (listAt (formC false recC) (a .open .head .count) s (a .open .start)) x) (a .open .head .t) ≡ leb f x)
+  FloorIs f = ((sum Tombstones (listAt (formC false recC) (a .open .head .count) s (a .open .start)) + m ≤ a .open .head .limits .t) × (f ≡ 0)) ⊎ ((x : ℕ) → ltb (above (a .open .head .counter .0) m (listAt (formC false recC) (a .open .head .count) s (a .open .start)) x) (a .open .head .limits .t) ≡ leb f x)
 
   abbrev pub walk : ℕ → List Rec
   walk f = walkL (picked c id) state reason f (a .open .head .counter .0) (listAt (formC false recC) (a .open .head .count) s (a .open .start))
@@ -231,11 +242,11 @@ module _ {s : Bytes} {a : Area} {c : Change} {id : Id} {state reason m : ℕ} (w
   pub ended-walk : {f : ℕ} → FloorIs f → forget (w .q .limits .T) (finishThose (picked c id) state reason (w .q .counter) (w .q .recs)) ≡ walk f
   ended-walk {f} x =
       let st = w .read .store in
-      let t : w .q .limits .T ≡ a .open .head .t = st .head .T in
+      let t : w .q .limits .T ≡ a .open .head .limits .t = head-T (st .head) in
       let n : w .q .counter ≡ a .open .head .counter .0 = st .head .counter in
       let k : All (λ r. picked c id r ≡ true → holder? r ≡ true) (listAt (formC false recC) (a .open .head .count) s (a .open .start)) = rw (st .list) (w .picks) in
-      rw (t, n, ← (st .list)) (forget-walk (picked c id) state reason (a .open .head .counter .0) (a .open .head .t) f (listAt (formC false recC) (a .open .head .count) s (a .open .start))
-      (floors (picked c id) state reason (a .open .head .counter .0) (a .open .head .t) f (listAt (formC false recC) (a .open .head .count) s (a .open .start)) k (rw (w .hits) at x)))
+      rw (t, n, ← (st .list)) (forget-walk (picked c id) state reason (a .open .head .counter .0) (a .open .head .limits .t) f (listAt (formC false recC) (a .open .head .count) s (a .open .start))
+      (floors (picked c id) state reason (a .open .head .counter .0) (a .open .head .limits .t) f (listAt (formC false recC) (a .open .head .count) s (a .open .start)) k (rw (w .hits) at x)))
 
   module _ (tip : Id) {f revision many : ℕ} (x : FloorIs f) (r : revision ≡ (a .open .head .revision + 1) % 2 ^ 64) (t : TipIs s (a .open .head) tip) (n : many ≡ length (walk f)) (l : length tip ≡ 32) where
     abbrev pub marksNext : Marks
@@ -253,7 +264,7 @@ module _ {s : Bytes} {a : Area} {c : Change} {id : Id} {state reason m : ℕ} (w
 
     pub ended-room : frontLen + tipSize (a .open .head .tip) + length (encs recC (walk f)) ≤ a .need
     ended-room =
-        let q = queue-long Limit marksNext tip (walk f) n l in
+        let q = queue-long Limit marksNext tip (walk f) (shares-sixteen (w .read)) n l in
         let v = ap need (the-limits (w .read)) in let y = fits′ in omega (arith, w .read .need)
 
     pub ended-done : {d d₁ d₂ d₃ : Bytes} {o y y′ to : ℕ} {q′ : Queue} → readArea s ≡ some q′ → a .need ≤ length d → to ≡ frontLen + tipSize (a .open .head .tip)

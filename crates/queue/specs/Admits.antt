@@ -22,7 +22,7 @@ use Rattle.queue.specs.paper.Records.{Bytes, Held, Rec, Queue, queued, m
 use Rattle.queue.specs.paper.Lists.{isSome, one, total, filter, find, isEmpty?, maybe}
 use Rattle.queue.specs.paper.Ids.{below?}
 use Rattle.queue.specs.paper.Sound.{holder?, pending?, mined?, inputs, content, labelLen, among?, clash?, heldRight?}
-use Rattle.queue.specs.paper.Changing.{named?, Admission, reached?, newRec, put, pendings, pendingBytes, admitNew, admit, done}
+use Rattle.queue.specs.paper.Changing.{named?, Admission, reached?, newRec, put, pendings, pendingBytes, pendingsOf, shareOf, admitNew, admit, done}
 
 abbrev pub LabelBytes : Option Bytes → Type 0
 LabelBytes none = Unit {0}
@@ -31,6 +31,7 @@ LabelBytes (some l) = All (λ b. b < 256) l
 -- arguments that fit their fields, under K
 pub record Admissible (K : ℕ) (a : Admission) : Type 0 where
   pub id : idC .ok (a .id)
+  pub caller : a .caller ≤ 15
   pub now : a .now < 256 ^ 8
   pub due : optC (beC 8) .ok (a .due)
   pub dueHeight : optC (beC 4) .ok (a .dueHeight)
@@ -85,6 +86,7 @@ module _ (a : Admission) (q : Queue) (f : Fit q) (o : Admissible (q .limits .K) 
     reason = refl;
     place = refl;
     mark = refl;
+    caller = o .caller;
     finish = refl;
     label = ltb-false 200 (labelLen (a .label)) r9;
     ins = o .few-ins;
@@ -101,6 +103,7 @@ module _ (a : Admission) (q : Queue) (f : Fit q) (o : Admissible (q .limits .K) 
       let j = o .few-outs in
       record {
         id = o .id;
+        caller = let c = o .caller in omega arith;
         state = omega arith;
         reason = omega arith;
         terms = (o .now, (o .due, (o .dueHeight, (o .priority, (label-ok (a .label) (o .label) (ltb-false 200 (labelLen (a .label)) r9), (o .fee, (omega arith, o .cost)))))));
@@ -155,16 +158,18 @@ module _ (a : Admission) (q : Queue) (f : Fit q) (o : Admissible (q .limits .K) 
   pub new-leaves : Leaves q (admitNew a q)
   new-leaves = cases (leb (q .limits .P) (pendings (q .recs)))
       (λ x. rw x tt)
-      (λ x. cases (ltb (q .limits .B) (pendingBytes (q .recs) + length (a .held .bytes)))
-      (λ y. rw (x, y) tt)
+      (λ x. cases (leb (shareOf (a .caller) (q .limits)) (pendingsOf (a .caller) (q .recs)))
+      (λ v. rw (x, v) tt)
+      (λ v. cases (ltb (q .limits .B) (pendingBytes (q .recs) + length (a .held .bytes)))
+      (λ y. rw (x, v, y) tt)
       (λ y. cases (clash? (a .held .ins) (q .recs))
-      (λ z. rw (x, y, z) tt)
+      (λ z. rw (x, v, y, z) tt)
       (λ z. let r10 = leb-false (q .limits .P) (pendings (q .recs)) x in
       let r11 = ltb-false (q .limits .B) (pendingBytes (q .recs) + length (a .held .bytes)) y in
       let c = cursor-ok (q .recs) in
-      rw (x, y, z) (committed-kept _ _ (q .counter) (put (newRec a) (q .recs)) q f (c .0) (c .1) (f .counter)
+      rw (x, v, y, z) (committed-kept _ _ (q .counter) (put (newRec a) (q .recs)) q f (c .0) (c .1) (f .counter)
       (put-sound r10 r11 z)
-      (insert-all lt Fields (newRec a) rest (new-fields (omega arith)) (sub-all Fields (filter-sub (λ x. not (named? (newRec a .id) x)) (q .recs)) (f .recs)))))))
+      (insert-all lt Fields (newRec a) rest (new-fields (omega arith)) (sub-all Fields (filter-sub (λ x. not (named? (newRec a .id) x)) (q .recs)) (f .recs))))))))
 
   found-leaves : (x : Option Rec) → Leaves q (maybe (admitNew a q) (λ r. cond (pending? (r .state) || mined? r) (done Nothing q r) (admitNew a q)) x)
   found-leaves none = new-leaves
@@ -193,9 +198,11 @@ admit-wholly a q = cases (reached? (a .due) (a .now))
     free : Wholly (admitNew a q)
     free = cases (leb (q .limits .P) (pendings (q .recs)))
         (λ x. rw x tt)
-        (λ x. cases (ltb (q .limits .B) (pendingBytes (q .recs) + length (a .held .bytes)))
-        (λ y. rw (x, y) tt)
-        (λ y. cases (clash? (a .held .ins) (q .recs)) (λ z. rw (x, y, z) tt) (λ z. rw (x, y, z) tt)))
+        (λ x. cases (leb (shareOf (a .caller) (q .limits)) (pendingsOf (a .caller) (q .recs)))
+        (λ v. rw (x, v) tt)
+        (λ v. cases (ltb (q .limits .B) (pendingBytes (q .recs) + length (a .held .bytes)))
+        (λ y. rw (x, v, y) tt)
+        (λ y. cases (clash? (a .held .ins) (q .recs)) (λ z. rw (x, v, y, z) tt) (λ z. rw (x, v, y, z) tt))))
 
     found : (x : Option Rec) → Wholly (maybe (admitNew a q) (λ r. cond (pending? (r .state) || mined? r) (done Nothing q r) (admitNew a q)) x)
     found none = free

@@ -18,9 +18,9 @@ use Rattle.queue.specs.Opens.{AreaAs}
 use Rattle.queue.specs.declared.Kind.the-variants.{Nothing}
 use Rattle.queue.specs.paper.Records.{Bytes, Id, Terms, Held, Rec, Queue}
 use Rattle.queue.specs.paper.Lists.{filter, find, maybe}
-use Rattle.queue.specs.paper.Sound.{need, labelLen, clash?, pending?, mined?}
+use Rattle.queue.specs.paper.Sound.{need, labelLen, clash?, pending?, mined?, callerRight?}
 use Rattle.queue.specs.paper.Area.{flagged, areaBytes, over}
-use Rattle.queue.specs.paper.Changing.{named?, put, newRec, committed, pendings, pendingBytes, admitNew, admit, done}
+use Rattle.queue.specs.paper.Changing.{named?, put, newRec, committed, pendings, pendingBytes, pendingsOf, shareOf, admitNew, admit, done}
 use Rattle.queue.specs.Checked.{admitShape?, Outcome, told}
 use Rattle.queue.specs.paper.Calls.{items, given, AdmitArgs, admission, id?, whole?, flag?, givenId?, overK?, entryBytes}
 use Rattle.queue.specs.declared.admit.Asked.{Asked}
@@ -31,6 +31,7 @@ use Rattle.queue.specs.declared.area.Area.{Area}
 abbrev pub argsOf : Asked → Bytes → Bytes → Bytes → Bytes → Bytes → Bytes → AdmitArgs
 argsOf x id ins outs bytes label tip = record {
   id = id;
+  caller = x .caller;
   inputs = ins;
   outputs = outs;
   bytes = bytes;
@@ -67,7 +68,7 @@ abbrev pub heldLen : Bytes → Bytes → Bytes → ℕ
 heldLen ins outs bytes = 9 + (length ins + (length outs + length bytes))
 
 abbrev pub newLen : Asked → Bytes → Bytes → Bytes → Bytes → ℕ
-newLen x ins outs bytes label = 45 + (termsLen x label + heldLen ins outs bytes)
+newLen x ins outs bytes label = 46 + (termsLen x label + heldLen ins outs bytes)
 
 abbrev pub newTerms : Asked → Bytes → ℕ → Terms
 newTerms x label n = record {
@@ -86,6 +87,7 @@ heldOf ins outs bytes = record { ins = items 32 ins; outs = items 32 outs; bytes
 
 -- they fit their fields
 pub record TermsFit (x : Asked) (label : Bytes) (n : ℕ) : Type 0 where
+  pub caller : x .caller < 256
   pub now : x .now .0 < 256 ^ 8
   pub time : x .time .0 < 256 ^ 8
   pub height : x .height .0 < 256 ^ 4
@@ -129,18 +131,27 @@ pub record WithFrom (s : Bytes) (a : Area) (height : ℕ) (tip : Option Id) (r :
 abbrev pub WithTo : Bytes → ℕ → Option Id → Rec → Bytes → Bytes → Type 0
 WithTo s height tip r d d′ = (q : Queue) → readArea s ≡ some q → d′ ≡ over (areaBytes (withR height tip r q)) d
 
--- 10 or 11, or 0: room for one more record of n bytes
-unfoldable pub roomOf : Queue → ℕ → ℕ
-roomOf q n = cond (leb (q .limits .P) (pendings (q .recs))) 10 (cond (ltb (q .limits .B) (pendingBytes (q .recs) + n)) 11 0)
+-- 10, 18 or 11, or 0: room for one more record of n bytes, of that caller
+unfoldable pub roomOf : Queue → ℕ → ℕ → ℕ
+roomOf q caller n =
+    cond (leb (q .limits .P) (pendings (q .recs))) 10
+    (cond (leb (shareOf caller (q .limits)) (pendingsOf caller (q .recs))) 18 (cond (ltb (q .limits .B) (pendingBytes (q .recs) + n)) 11 0))
 
-abbrev pub RoomIs : Bytes → ℕ → ℕ → Type 0
-RoomIs s n r = (q : Queue) → readArea s ≡ some q → r ≡ roomOf q n
+abbrev pub RoomIs : Bytes → ℕ → ℕ → ℕ → Type 0
+RoomIs s caller n r = (q : Queue) → readArea s ≡ some q → r ≡ roomOf q caller n
+
+abbrev pub PendingsAre : Bytes → ℕ → Type 0
+PendingsAre s n = (q : Queue) → readArea s ≡ some q → n ≡ pendings (q .recs)
+
+abbrev pub FullIs : Bytes → ℕ → Bool → Type 0
+FullIs s caller r = (q : Queue) → readArea s ≡ some q → r ≡ leb (shareOf caller (q .limits)) (pendingsOf caller (q .recs))
 
 abbrev pub entryNewLen : Asked → Bytes → Bytes → ℕ
-entryNewLen x ins label = 37 + (termsLen x label + length ins)
+entryNewLen x ins label = 38 + (termsLen x label + length ins)
 
 -- the numbers fit their fields
 pub record NumbersFit (x : Asked) : Type 0 where
+  pub caller : x .caller < 256
   pub now : x .now .0 < 256 ^ 8
   pub time : x .time .0 < 256 ^ 8
   pub height : x .height .0 < 256 ^ 4
@@ -182,8 +193,8 @@ abbrev pub AdmitTold : Bytes → AdmitArgs → Outcome → Bytes → Bytes → T
 AdmitTold s g o next out = (q : Queue) → readArea s ≡ some q → o ≡ told entryBytes next out (admit (admission g) q)
 
 -- check 5 in two parts, and what is known of bytes that are lent
-abbrev pub ListsAre : Bytes → Bytes → Bytes → Bool → Type 0
-ListsAre id ins outs r = (r ≡ (id? id && (whole? 32 ins && whole? 32 outs))) × (Small id × Small ins × Small outs)
+abbrev pub ListsAre : Bytes → ℕ → Bytes → Bytes → Bool → Type 0
+ListsAre id caller ins outs r = (r ≡ ((id? id && callerRight? caller) && (whole? 32 ins && whole? 32 outs))) × (Small id × Small ins × Small outs)
 
 abbrev pub FlagsAre : Asked → Bytes → Bytes → Bytes → Bool → Type 0
 FlagsAre x bytes label tip r =

@@ -17,7 +17,7 @@ use Rattle.queue.specs.Hex.{textOf, text-pairs}
 use Rattle.queue.specs.View.{pairs, view}
 use Rattle.queue.specs.Frames.{headK}
 use Rattle.queue.specs.Forms.{Store, headFor, lineEnc, recIn, storeIn, areaForm, textForm, queueC, storeOf, queueWith, image-enc, store-ok, ok-store, queue-ok, ok-queue, head-cursor}
-use Rattle.queue.specs.Kinds.{recs-up, queue-said, said-queue, head-first, head-up, head-down, kind-byte}
+use Rattle.queue.specs.Kinds.{recs-up, queue-said, said-queue, head-first, head-up, kind-byte}
 use Rattle.queue.specs.paper.Records.{Bytes, Queue}
 use Rattle.queue.specs.paper.Sound.{sound?, need}
 use Rattle.queue.specs.paper.Kinds.{kind?, says?}
@@ -156,9 +156,9 @@ shows-reads t q w =
     let k = w .kind in
     let e : queueWith (q .cursor) (storeOf q) ≡ q = ap (λ (n : ℕ). queueWith n (storeOf q)) (sym (w .level)) in
     let o = ok-store areaForm (storeOf q) (ok-queue q (w .range) .1) in
-    let h = head-down k (headFor (storeOf q)) (kind-byte k (w .known)) (o .0) in
-    let i : kindOf t ≡ k = ap kindOf (w .is) ∙ image-kind k q h in
-    let g : storeIn (textForm k) .ok (storeOf q) = store-ok (textForm k) (storeOf q) (h, said-queue k q (w .says) (o .1)) in
+    let h = said-queue k q (headFor (storeOf q)) refl (kind-byte k (w .known)) (w .says) o in
+    let i : kindOf t ≡ k = ap kindOf (w .is) ∙ image-kind k q (h .0) in
+    let g : storeIn (textForm k) .ok (storeOf q) = store-ok (textForm k) (storeOf q) h in
     let d : storeIn (textForm k) .dec t ≡ got (storeOf q) [] = ap (storeIn (textForm k) .dec) (w .is ∙ sym (append-nil (storeIn (textForm k) .enc (storeOf q)))) ∙ storeIn (textForm k) .fwd (storeOf q) [] g in
     rw (i, w .known, d) (chosen (queueWith (q .cursor) (storeOf q)) q e (w .sound))
 
@@ -183,7 +183,7 @@ reads-shows t q e = cond-cases (kind? (kindOf t)) (imageGot (storeIn (textForm (
           level = refl;
           kind = kindOf t;
           known = known;
-          says = queue-said (kindOf t) (queueWith (st .cursor) st) (v .1);
+          says = queue-said (kindOf t) (queueWith (st .cursor) st) (headFor st) refl v;
           is = u .0 ∙ append-nil (storeIn (textForm (kindOf t)) .enc st);
         }))
         (λ h e″. let z : _≡_ {A = ℕ} 0 1 = cc in absurd (omega arith))

@@ -9,7 +9,7 @@ use lib.Arith.{digits-lt}
 use lib.Dec.{ltb, eqb}
 use lib.ListN.{length, take, drop, length-drop}
 use lib.Seq.{length-take-le}
-use borrow.Author.Tests.{ltb-false, eqb-true}
+use borrow.Author.Tests.{ltb-false, leb-true, eqb-true}
 use Rattle.queue.specs.Codec.{cases, All, Codec, byteC, beC, optC, vecC}
 use Rattle.queue.specs.Frames.{idC}
 use Rattle.queue.specs.Lists.{and-true}
@@ -18,6 +18,7 @@ use Rattle.queue.specs.Admits.{LabelBytes, Admissible}
 use Rattle.queue.specs.Reconciles.{AppliedOk, Reconcilable}
 use Rattle.queue.specs.paper.Records.{Bytes}
 use Rattle.queue.specs.paper.Lists.{map}
+use Rattle.queue.specs.paper.Sound.{callerRight?}
 use Rattle.queue.specs.paper.Area.{beVal}
 use Rattle.queue.specs.Checked.{admitShape?, reconcileShape?}
 use Rattle.queue.specs.paper.Calls.{id?, whole?, pieces, items, flag?, given, givenId?, AdmitArgs, admission, overK?, ReconcileArgs, appliedOf, reconciliation}
@@ -92,8 +93,8 @@ pub record AdmitLent (a : AdmitArgs) : Type 0 where
 pub admission-ok : (K : ℕ) (a : AdmitArgs) → AdmitLent a → admitShape? a ≡ true → overK? K a ≡ false → Admissible K (admission a)
 unfolding beC
 admission-ok K a h e o =
-    let s = and-true (id? (a .id) && (whole? 32 (a .inputs) && whole? 32 (a .outputs))) _ e in
-    let s0 = and-true (id? (a .id)) _ (s .0) in
+    let s = and-true ((id? (a .id) && callerRight? (a .caller)) && (whole? 32 (a .inputs) && whole? 32 (a .outputs))) _ e in
+    let s0 = and-true (id? (a .id)) (callerRight? (a .caller)) (and-true (id? (a .id) && callerRight? (a .caller)) _ (s .0) .0) in
     let s1 = and-true (flag? (a .timeFlag) && flag? (a .heightFlag)) (flag? (a .labelFlag) && givenId? (a .tipFlag) (a .tip)) (s .1) in
     let s2 = and-true (flag? (a .labelFlag)) (givenId? (a .tipFlag) (a .tip)) (s1 .1) in
     let k = or-false (ltb K (length (a .inputs) / 32)) (ltb K (length (a .outputs) / 32)) o in
@@ -101,6 +102,7 @@ admission-ok K a h e o =
     let j = items-ok 32 (a .outputs) (h .outputs) .1 in
     record {
       id = id-ok (a .id) (s0 .0) (h .id);
+      caller = leb-true (a .caller) 15 (s0 .1);
       now = h .now;
       due = given-ok (beC 8) (a .timeFlag) (a .time) (h .time);
       dueHeight = given-ok (beC 4) (a .heightFlag) (a .height) (h .height);

@@ -9,12 +9,13 @@ use native.Mathlib.Nat.{mul-le-mul-right}
 use lib.ListN.{length, drop, length-append, length-replicate, length-drop}
 use lib.Seq.{drop-at}
 use Rattle.queue.specs.Codec.{All, byteC, beC, pairC, mapC, optC, vecC, countedC, vecMost}
-use Rattle.queue.specs.Frames.{Head, tagC, idC, labelC, termsC, heldC, bodyC, placeC, recK, recC, limitsC, headK, headC}
+use Rattle.queue.specs.Choice.{thenC}
+use Rattle.queue.specs.Frames.{Head, tagC, idC, labelC, termsC, heldC, bodyC, placeC, recK, recC, fourC, sixteenC, limitsK, limitsC, headK, headC}
 use Rattle.queue.specs.Forms.{headFor, storeOf, formC, areaForm, storeIn, framesC, queueC, ok-store}
 use Rattle.queue.specs.Areas.{layout, readArea, readImage, stands-reads, reads-stands, shows-reads, reads-shows}
 use Rattle.queue.specs.Plain.{area-plain, image-plain}
 use Rattle.queue.specs.Sounds.{Right, sound-of, Fit, fit-of, fit-sound, fit-ok}
-use Rattle.queue.specs.paper.Records.{Bytes, Id, Terms, Held, Rec, Queue}
+use Rattle.queue.specs.paper.Records.{Bytes, Id, Limits, Terms, Held, Rec, Queue}
 use Rattle.queue.specs.paper.Lists.{isSome, one, map, concat}
 use Rattle.queue.specs.paper.Sound.{sound?, need, holder?, inputs, outputs, content, labelLen, holders, holderBytes, tombstones}
 use Rattle.queue.specs.paper.Area.{areaBytes, imageUnder, imageBytes, over}
@@ -67,17 +68,17 @@ body-most K (some x) h i o =
     let c = bytes-most (x .bytes) in
     omega arith
 
--- "a tombstone at most 330", "a record frame is at most 338 bytes and what its inputs, outputs and signed bytes take"
-rec-most : (K c : ℕ) (r : Rec) → recC .ok r → Right K c r → recC .most r ≤ 330 + one (holder? r) * (8 + 64 * K) + length (content (r .body))
+-- document 01's "a tombstone at most 330", and one byte for the caller
+rec-most : (K c : ℕ) (r : Rec) → recC .ok r → Right K c r → recC .most r ≤ 331 + one (holder? r) * (8 + 64 * K) + length (content (r .body))
 unfolding recK mapC pairC tagC beC
 rec-most K c r h s =
     let a = id-most (r .id) (h .1 .0) in
     let b = terms-most (r .terms) (s .label) in
-    let d = place-most (r .place) (h .1 .1 .1 .1 .1 .0) in
-    let e = body-most K (r .body) (h .1 .1 .1 .1 .1 .1 .1 .1) (s .ins) (s .outs) in
+    let d = place-most (r .place) (h .1 .1 .1 .1 .1 .1 .0) in
+    let e = body-most K (r .body) (h .1 .1 .1 .1 .1 .1 .1 .1 .1) (s .ins) (s .outs) in
     omega arith
 
-recs-most : (K c : ℕ) (l : List Rec) → All (recC .ok) l → All (Right K c) l → vecMost recC l ≤ 330 * (holders l + tombstones l) + holders l * (8 + 64 * K) + holderBytes l
+recs-most : (K c : ℕ) (l : List Rec) → All (recC .ok) l → All (Right K c) l → vecMost recC l ≤ 331 * (holders l + tombstones l) + holders l * (8 + 64 * K) + holderBytes l
 recs-most K c [] h s = omega arith
 recs-most K c (r ∷ l) h s =
     let i = recs-most K c l (h .1) (s .1) in
@@ -94,9 +95,18 @@ unfolding optC
 tip-most none h = omega arith
 tip-most (some x) h = let e = id-most x h in omega arith
 
-head-most : (h : Head) → headC .ok h → headC .most h ≤ 74
-unfolding headK limitsC mapC pairC tagC beC
-head-most h k = let e = tip-most (h .tip) (k .1 .1 .1 .1 .0) in omega arith
+numbers-most : (l : List ℕ) → vecMost (beC 4) l ≡ 4 * length l
+unfolding beC
+numbers-most [] = refl
+numbers-most (n ∷ l) = let k = numbers-most l in omega arith
+
+limits-most : (m : Limits) → limitsC .ok m → limitsC .most m ≡ 80
+unfolding limitsK fourC sixteenC vecC mapC thenC pairC beC
+limits-most m h = let e = numbers-most (m .shares) in let k = h .1 .1 in omega arith
+
+head-most : (h : Head) → headC .ok h → headC .most h ≤ 138
+unfolding headK mapC pairC tagC beC
+head-most h k = let e = tip-most (h .tip) (k .1 .1 .1 .1 .0) in let l = limits-most (h .limits) (k .1 .0) in omega arith
 
 pub fits-need : (q : Queue) → sound? q ≡ true → queueC .ok q → length (queueC .enc q) ≤ need (q .limits)
 unfolding queueC mapC pairC beC storeIn framesC formC need

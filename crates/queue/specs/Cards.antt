@@ -12,11 +12,11 @@ use Rattle.queue.specs.Hex.{textOf, digOf}
 use Rattle.queue.specs.paper.Records.{Bytes, Id, Limits, Rec, Queue, queued, mined, conflicted}
 use Rattle.queue.specs.paper.Lists.{one, all?, find, map, concat}
 use Rattle.queue.specs.paper.Ids.{cmpL, same?, rise?}
-use Rattle.queue.specs.paper.Sound.{need, mined?, sound?, inRange, counts?, right?, distinct?, apart?, used?, clash?}
-use Rattle.queue.specs.paper.Area.{termsBytes, placeBytes, heldBytes, recBytes, headUnder, queueBytes, areaBytes, imageUnder, imageBytes, over}
-use Rattle.queue.specs.paper.Kinds.{kind?, says?}
+use Rattle.queue.specs.paper.Sound.{need, mined?, sound?, inRange, sharesRight?, counts?, right?, distinct?, apart?, used?, clash?}
+use Rattle.queue.specs.paper.Area.{termsBytes, placeBytes, heldBytes, recUnder, sharesBytes, headUnder, beVal, queueBytes, areaBytes, imageUnder, imageBytes, over}
+use Rattle.queue.specs.paper.Kinds.{kind?, firstShare, says?}
 use Rattle.queue.specs.paper.Changing.{Out, refused, done, top, named?, committed, moved, newRec, admit, finished, finishThose, forget, cancel, due?, expire, Applied, Reconciling, confirm, touch, releases, reconcile, reopened, reopen, setCursor, touchedRecs, toRelease}
-use Rattle.queue.specs.paper.Calls.{kindNumber, number, idsBytes, fresh, settleNext}
+use Rattle.queue.specs.paper.Calls.{kindNumber, number, items, entryBytes, idsBytes, admitArgs, Call, admitting, shape?, fresh, freshOf, settleNext}
 use Rattle.queue.specs.paper.Fees.{Best, bestFees, bestBytes, searchOf}
 use Rattle.queue.specs.paper.Decisions.{entered, decide, decisions}
 use Rattle.queue.specs.paper.Parents.{listed, waitsFor?, parentsFirstAt}
@@ -55,15 +55,16 @@ releasedIn (refused n) = 100
 releasedIn (done k q a) = length (a .1)
 
 abbrev limits : ℕ → ℕ → ℕ → ℕ → Limits
-limits P B T K = record { P = P; B = B; T = T; K = K }
+limits P B T K = record { P = P; B = B; T = T; K = K; shares = firstShare P }
 
 abbrev id : ℕ → Id
 id n = replicate 32 n
 
--- an id, inputs, n signed bytes, time deadline and height deadline
-abbrev enterWith : List Id → ℕ → ℕ → ℕ → Option ℕ → Option ℕ → Queue → Out Rec
-enterWith ins i n now due dueHeight q = admit (record {
+-- a caller, inputs, an id, n signed bytes, the time, time deadline and height deadline
+abbrev enterFor : ℕ → List Id → ℕ → ℕ → ℕ → Option ℕ → Option ℕ → Queue → Out Rec
+enterFor caller ins i n now due dueHeight q = admit (record {
   id = id i;
+  caller = caller;
   now = now;
   due = due;
   dueHeight = dueHeight;
@@ -75,6 +76,9 @@ enterWith ins i n now due dueHeight q = admit (record {
   tipHeight = 9;
   tip = none;
 }) q
+
+abbrev enterWith : List Id → ℕ → ℕ → ℕ → Option ℕ → Option ℕ → Queue → Out Rec
+enterWith = enterFor 0
 
 abbrev enter : ℕ → ℕ → ℕ → Option ℕ → Option ℕ → Queue → Out Rec
 enter = enterWith []
@@ -122,6 +126,7 @@ worked = record {
   counter = 1;
   recs = record {
     id = replicate 32 17;
+    caller = 0;
     state = 4;
     reason = 1;
     terms = record { created = 5; due = none; dueHeight = none; priority = 4294967295; label = none; fee = 7; size = 3; cost = 9 };
@@ -150,6 +155,7 @@ finds? c limit budget fees fee nodes distance = shown (bestFees (λ x. x .1) (λ
 abbrev paying : ℕ → Rec
 paying fee = record {
   id = id 1;
+  caller = 0;
   state = 0;
   reason = 0;
   terms = record { created = 0; due = none; dueHeight = none; priority = 0; label = none; fee = fee; size = 0; cost = 0 };
@@ -167,6 +173,7 @@ Row = ℕ × (ℕ × (List ℕ × List ℕ))
 abbrev standing : ℕ → ℕ → Option (ℕ × Id) → Option ℕ → Option ℕ → Row → Rec
 standing state reason place due dueHeight r = record {
   id = id (r .0);
+  caller = 0;
   state = state;
   reason = reason;
   terms = record { created = 0; due = due; dueHeight = dueHeight; priority = r .1 .0; label = none; fee = 0; size = 0; cost = 0 };
@@ -237,6 +244,7 @@ withMark state reason holds mark = record {
   counter = 1;
   recs = record {
     id = id 1;
+    caller = 0;
     state = state;
     reason = reason;
     terms = record { created = 0; due = none; dueHeight = none; priority = 0; label = none; fee = 0; size = 0; cost = 0 };
@@ -246,6 +254,57 @@ withMark state reason holds mark = record {
     body = cond holds (some (record { ins = []; outs = []; bytes = [] })) none;
   } ∷ [];
 }
+
+-- document 02, P8: P 3, B 10, and the first shares; the others are 0
+abbrev shared : List ℕ → Limits
+shared l = record { P = 3; B = 10; T = 1; K = 1; shares = l ++ replicate (16 - length l) 0 }
+
+-- three signed bytes for that caller
+abbrev enterBy : ℕ → ℕ → Queue → Out Rec
+enterBy caller i q = enterFor caller [] i 3 0 none none q
+
+-- callers 0 and 1 may have one pending record each
+abbrev oneEach : Queue
+oneEach = fresh (shared (1 ∷ 1 ∷ []))
+
+-- a rollback lifts caller 0 above its share
+abbrev lifted : Queue
+lifted = after (reopen (id 1 ∷ [])) (after (enterBy 0 2) (after (watch 50 100 (mined50 1)) (after (enterBy 0 1) oneEach)))
+
+abbrev calledBy? : ℕ → Id → Queue → Bool
+calledBy? caller i q = shown (find (named? i) (q .recs))
+  where
+    shown : Option Rec → Bool
+    shown none = false
+    shown (some r) = eqb (r .caller) caller && same? (take 33 (entryBytes r)) (i ++ (caller ∷ []))
+
+-- a record of that caller, under these shares
+abbrev withCaller : List ℕ → ℕ → Rec → Queue
+withCaller shares caller r = record { persisted = 0; limits = shared shares; revision = 0; cursor = 0; tip = none; counter = 1; recs = called ∷ [] }
+  where
+    called : Rec
+    called = record { id = r .id; caller = caller; state = r .state; reason = r .reason; terms = r .terms; place = r .place; mark = r .mark; finish = r .finish; body = r .body }
+
+abbrev cancelledOne : Rec
+cancelledOne = record {
+  id = id 1;
+  caller = 0;
+  state = 4;
+  reason = 1;
+  terms = record { created = 0; due = none; dueHeight = none; priority = 0; label = none; fee = 0; size = 0; cost = 0 };
+  place = none;
+  mark = 0;
+  finish = 1;
+  body = none;
+}
+
+-- an admission of a whole id with that caller
+abbrev calling : ℕ → Call
+calling caller = admitting (admitArgs (id 1) caller [] [] [] 0 0 0 0 0 0 0 [] 0 0 0 0 [])
+
+-- what a fresh queue under P 2, B 10, T 1, K 1 gives back for these shares, into n bytes
+abbrev freshWith : Bytes → ℕ → ℕ
+freshWith shares n = number (freshOf 2 10 1 1 shares (replicate n 9) .0)
 
 abbrev numbered : ℕ → Queue → Queue
 numbered n q = record { persisted = q .persisted; limits = q .limits; revision = q .revision; cursor = q .cursor; tip = q .tip; counter = n; recs = q .recs }
@@ -286,35 +345,39 @@ cards =
     ∷ eqb (number (settled .0)) 17
     ∷ same? (take 4 (settled .1)) (0 ∷ 0 ∷ 0 ∷ 100 ∷ [])
     ∷ eqb (gives (watch 132 100 [] (moved 100 132 (some (id 8)) at100))) 103
-    -- "Fresh with P 2, B 10, T 1, K 1, whole, 85 bytes": each digit's byte, and the end byte
+    -- "Fresh with P 2, B 10, T 1, K 1, whole", with P8's "2, then zeros, 213 bytes": each digit's byte, and the end byte
     ∷ same? (imageBytes small)
-    ((48 ∷ 51 ∷ [])
+    ((48 ∷ 52 ∷ [])
     ++ ((48 ∷ 48 ∷ 48 ∷ 48 ∷ 48 ∷ 48 ∷ 48 ∷ 50 ∷ [])
     ++ ((48 ∷ 48 ∷ 48 ∷ 48 ∷ 48 ∷ 48 ∷ 48 ∷ 97 ∷ [])
     ++ ((48 ∷ 48 ∷ 48 ∷ 48 ∷ 48 ∷ 48 ∷ 48 ∷ 49 ∷ [])
     ++ ((48 ∷ 48 ∷ 48 ∷ 48 ∷ 48 ∷ 48 ∷ 48 ∷ 49 ∷ [])
-    ++ (replicate 16 48 ++ (replicate 8 48 ++ (replicate 2 48 ++ (replicate 16 48 ++ (replicate 8 48 ++ (10 ∷ [])))))))))))
-    ∷ eqb (length (imageBytes small)) 85
-    -- docs/AREA.md: "A fresh queue under P 2, B 10, T 1, K 1 needs 3,348 bytes. They start with these 46, and the rest are zeros"
+    ++ ((48 ∷ 48 ∷ 48 ∷ 48 ∷ 48 ∷ 48 ∷ 48 ∷ 50 ∷ [])
+    ++ (replicate 120 48 ++ (replicate 16 48 ++ (replicate 8 48 ++ (replicate 2 48 ++ (replicate 16 48 ++ (replicate 8 48 ++ (10 ∷ [])))))))))))))
+    ∷ eqb (length (imageBytes small)) 213
+    -- docs/AREA.md: "A fresh queue under P 2, B 10, T 1, K 1 needs 3,348 bytes. They start with these 110, and the rest are zeros"
     ∷ eqb (need (limits 2 10 1 1)) 3348
     ∷ same? (areaBytes small)
     ((0 ∷ 0 ∷ 0 ∷ 0 ∷ [])
-    ++ ((3 ∷ 0 ∷ 0 ∷ 0 ∷ 2 ∷ 0 ∷ 0 ∷ 0 ∷ 10 ∷ 0 ∷ 0 ∷ 0 ∷ 1 ∷ 0 ∷ 0 ∷ 0 ∷ 1 ∷ [])
-    ++ (replicate 8 0 ++ (replicate 4 0 ++ (replicate 1 0 ++ (replicate 8 0 ++ (replicate 4 0 ++ replicate 3302 0)))))))
+    ++ ((4 ∷ 0 ∷ 0 ∷ 0 ∷ 2 ∷ 0 ∷ 0 ∷ 0 ∷ 10 ∷ 0 ∷ 0 ∷ 0 ∷ 1 ∷ 0 ∷ 0 ∷ 0 ∷ 1 ∷ [])
+    ++ ((0 ∷ 0 ∷ 0 ∷ 2 ∷ [])
+    ++ (replicate 60 0 ++ (replicate 8 0 ++ (replicate 4 0 ++ (replicate 1 0 ++ (replicate 8 0 ++ (replicate 4 0 ++ replicate 3238 0)))))))))
     -- "The same queue with one cancelled record .. starts with"
     ∷ sound? worked
     ∷ same? (queueBytes worked)
     ((0 ∷ 0 ∷ 0 ∷ 6 ∷ [])
-    ++ ((3 ∷ 0 ∷ 0 ∷ 0 ∷ 2 ∷ 0 ∷ 0 ∷ 0 ∷ 10 ∷ 0 ∷ 0 ∷ 0 ∷ 1 ∷ 0 ∷ 0 ∷ 0 ∷ 1 ∷ [])
+    ++ ((4 ∷ 0 ∷ 0 ∷ 0 ∷ 2 ∷ 0 ∷ 0 ∷ 0 ∷ 10 ∷ 0 ∷ 0 ∷ 0 ∷ 1 ∷ 0 ∷ 0 ∷ 0 ∷ 1 ∷ [])
+    ++ ((0 ∷ 0 ∷ 0 ∷ 2 ∷ [])
+    ++ (replicate 60 0
     ++ ((0 ∷ 0 ∷ 0 ∷ 0 ∷ 0 ∷ 0 ∷ 0 ∷ 2 ∷ [])
     ++ ((0 ∷ 0 ∷ 0 ∷ 6 ∷ 0 ∷ [])
     ++ ((0 ∷ 0 ∷ 0 ∷ 0 ∷ 0 ∷ 0 ∷ 0 ∷ 1 ∷ 0 ∷ 0 ∷ 0 ∷ 1 ∷ [])
     ++ ((2 ∷ [])
     ++ (replicate 32 17
-    ++ ((4 ∷ 1 ∷ [])
+    ++ ((0 ∷ 4 ∷ 1 ∷ [])
     ++ ((0 ∷ 0 ∷ 0 ∷ 0 ∷ 0 ∷ 0 ∷ 0 ∷ 5 ∷ 0 ∷ 0 ∷ 255 ∷ 255 ∷ 255 ∷ 255 ∷ 0 ∷ [])
     ++ ((0 ∷ 0 ∷ 0 ∷ 0 ∷ 0 ∷ 0 ∷ 0 ∷ 7 ∷ 0 ∷ 0 ∷ 0 ∷ 3 ∷ 0 ∷ 0 ∷ 0 ∷ 0 ∷ 0 ∷ 0 ∷ 0 ∷ 9 ∷ [])
-    ++ (0 ∷ 0 ∷ 0 ∷ 0 ∷ 0 ∷ 0 ∷ 0 ∷ 0 ∷ 0 ∷ 1 ∷ 0 ∷ [])))))))))))
+    ++ (0 ∷ 0 ∷ 0 ∷ 0 ∷ 0 ∷ 0 ∷ 0 ∷ 0 ∷ 0 ∷ 1 ∷ 0 ∷ [])))))))))))))
     -- P12: fees 5, 4, 3 and sizes 6, 5, 5, limit 10
     ∷ finds? three 10 1 [] 0 1 7
     ∷ finds? three 10 2 (5 ∷ []) 5 2 2
@@ -414,15 +477,67 @@ cards =
     ∷ (sound? (withMark 2 0 true 0) && not (sound? (withMark 2 0 true 3)))
     ∷ (sound? (withMark 5 3 false 0) && not (sound? (withMark 5 3 false 3)))
     ∷ (sound? (withMark 4 1 false 0) && not (sound? (withMark 4 1 false 3)))
-    -- "header kind 03": 01 and 03 are read; 01 can't say mark 3
-    ∷ all? kind? (1 ∷ 3 ∷ [])
-    ∷ all? (λ k. not (kind? k)) (0 ∷ 2 ∷ 4 ∷ 5 ∷ 6 ∷ 255 ∷ [])
+    -- "header kind 03": 01 and 03 are read, and 04; 01 can't say mark 3
+    ∷ all? kind? (1 ∷ 3 ∷ 4 ∷ [])
+    ∷ all? (λ k. not (kind? k)) (0 ∷ 2 ∷ 5 ∷ 6 ∷ 255 ∷ [])
     ∷ (says? 3 (withMark 2 0 false 3) && not (says? 1 (withMark 2 0 false 3)))
     ∷ (says? 1 (withMark 2 0 false 5) && says? 3 (withMark 2 0 false 5))
-    -- the worked image under 01 differs in its second digit alone
-    ∷ same? (imageUnder 1 small) (48 ∷ 49 ∷ drop 2 (imageBytes small))
+    -- the worked image under 01 is document 01's, of 85 bytes: no shares; under 03 it differs in its second digit alone
+    ∷ eqb (length (imageUnder 1 small)) 85
+    ∷ same? (imageUnder 1 small) (48 ∷ 49 ∷ (take 32 (drop 2 (imageBytes small)) ++ drop 162 (imageBytes small)))
+    ∷ same? (imageUnder 3 small) (48 ∷ 51 ∷ drop 2 (imageUnder 1 small))
+    -- P8: "18, pending records of this caller reach its share": one enters, a second of the same caller doesn't, another caller's does
+    ∷ eqb (gives (enterBy 0 1 oneEach)) 102
+    ∷ eqb (gives (enterBy 0 2 (after (enterBy 0 1) oneEach))) 18
+    ∷ eqb (gives (enterBy 1 2 (after (enterBy 0 1) oneEach))) 102
+    -- a share of 0: always; a share of 2: two
+    ∷ eqb (gives (enterBy 15 1 oneEach)) 18
+    ∷ eqb (gives (enterBy 15 1 (fresh (shared (replicate 15 0 ++ (1 ∷ [])))))) 102
+    ∷ eqb (gives (enterBy 0 2 (after (enterBy 0 1) (fresh (shared (2 ∷ [])))))) 102
+    ∷ eqb (gives (enterBy 0 3 (after (enterBy 0 2) (after (enterBy 0 1) (fresh (shared (2 ∷ []))))))) 18
+    -- "directly after 10": 10 goes first, 18 before 11 and 12, 9 before it
+    ∷ eqb (gives (enterBy 0 4 (after (enterBy 2 3) (after (enterBy 1 2) (after (enterBy 0 1) (fresh (shared (1 ∷ 1 ∷ 1 ∷ [])))))))) 10
+    ∷ eqb (gives (enterFor 0 [] 2 9 0 none none (after (enterBy 0 1) oneEach))) 18
+    ∷ eqb (gives (enterFor 1 [] 2 9 0 none none (after (enterBy 0 1) oneEach))) 11
+    ∷ eqb (gives (enterFor 0 (id 9 ∷ []) 2 3 0 none none (after (enterFor 0 (id 9 ∷ []) 1 3 0 none none) oneEach))) 18
+    ∷ eqb (gives (enterFor 1 (id 9 ∷ []) 2 3 0 none none (after (enterFor 0 (id 9 ∷ []) 1 3 0 none none) oneEach))) 12
+    ∷ eqb (gives (enterFor 0 [] 2 3 5 (some 5) none (after (enterBy 0 1) oneEach))) 7
+    -- a pending or Mined id gives its old record, whoever asks; Mined ones and tombstones are not counted, Conflicted ones are
+    ∷ eqb (gives (enterBy 15 1 (after (enterBy 0 1) oneEach))) 100
+    ∷ eqb (gives (enterBy 15 1 (after (watch 50 100 (mined50 1)) (after (enterBy 0 1) oneEach)))) 100
+    ∷ eqb (gives (enterBy 0 2 (after (watch 50 100 (mined50 1)) (after (enterBy 0 1) oneEach)))) 102
+    ∷ eqb (gives (enterBy 0 2 (after (cancel (id 1)) (after (enterBy 0 1) oneEach)))) 102
+    ∷ eqb (gives (enterBy 0 2 (withCaller (1 ∷ 1 ∷ []) 0 (inConflict (1, (0, ([], []))))))) 18
+    ∷ eqb (gives (enterBy 1 2 (withCaller (1 ∷ 1 ∷ []) 0 (inConflict (1, (0, ([], []))))))) 102
+    -- "rollbacks can lift a caller above its share": the queue is sound, and 18 stays
+    ∷ (sound? lifted && eqb (gives (enterBy 0 3 lifted)) 18)
+    ∷ eqb (gives (enterBy 1 3 lifted)) 102
+    -- a record keeps its caller: confirmed, released, reopened, cancelled; admitted anew it has the new one
+    ∷ calledBy? 1 (id 1) (after (enterBy 1 1) oneEach)
+    ∷ calledBy? 1 (id 1) (after (watch 50 0 (mined50 1)) (after (enterBy 1 1) oneEach))
+    ∷ calledBy? 1 (id 1) (after (reopen (id 1 ∷ [])) (after (watch 50 100 (mined50 1)) (after (enterBy 1 1) oneEach)))
+    ∷ calledBy? 1 (id 1) (after (cancel (id 1)) (after (enterBy 1 1) oneEach))
+    ∷ calledBy? 0 (id 1) (after (enterBy 0 1) (after (cancel (id 1)) (after (enterBy 1 1) oneEach)))
+    -- "a caller number over 15 is 5"; in a record, a tombstone's too, it is not sound
+    ∷ (shape? (calling 15) && not (shape? (calling 16)))
+    ∷ (sound? (withCaller [] 15 (waiting (1, (0, ([], []))))) && not (sound? (withCaller [] 16 (waiting (1, (0, ([], [])))))))
+    ∷ (sound? (withCaller [] 15 cancelledOne) && not (sound? (withCaller [] 16 cancelledOne)))
+    -- "a share over P is 1", and not sound
+    ∷ (sound? (fresh (shared (replicate 16 3))) && not (sound? (fresh (shared (replicate 15 3 ++ (4 ∷ []))))))
+    ∷ not (sound? (fresh (shared (replicate 17 0))))
+    ∷ eqb (freshWith (sharesBytes (replicate 16 2)) 3348) 100
+    ∷ eqb (freshWith (sharesBytes (replicate 15 2 ++ (3 ∷ []))) 0) 1
+    -- then 2, and 5 for a list that is not whole, of which no share is read
+    ∷ eqb (freshWith (replicate 63 255) 3347) 2
+    ∷ all? (λ n. eqb (freshWith (replicate n 255) 3348) 5) (0 ∷ 63 ∷ 65 ∷ 128 ∷ [])
+    ∷ eqb (freshWith (replicate 64 255) 3348) 1
+    -- "Images with kinds 01 and 03 open with caller 0 throughout, share 0 being P and the others 0": they can say no other
+    ∷ (says? 3 (withCaller (3 ∷ []) 0 cancelledOne) && says? 1 (withCaller (3 ∷ []) 0 cancelledOne))
+    ∷ (says? 4 (withCaller (3 ∷ []) 1 cancelledOne) && not (says? 3 (withCaller (3 ∷ []) 1 cancelledOne)))
+    ∷ (says? 4 (withCaller (2 ∷ []) 0 cancelledOne) && not (says? 3 (withCaller (2 ∷ []) 0 cancelledOne)))
+    ∷ not (says? 1 (withCaller (3 ∷ 1 ∷ []) 0 cancelledOne))
     ∷ []
 
 pub all-cards : all? (λ b. b) cards ≡ true
-unfolding says? cmpL over need sound? inRange counts? right? rise? distinct? apart? used? clash? termsBytes placeBytes heldBytes recBytes headUnder queueBytes areaBytes imageUnder committed moved newRec admit finished finishThose forget cancel due? expire confirm touch releases touchedRecs toRelease reconcile entered decide decisions reopened reopen setCursor textOf digOf idsBytes bestBytes searchOf listed waitsFor?
+unfolding says? cmpL over need sound? inRange counts? right? rise? distinct? apart? used? clash? termsBytes placeBytes heldBytes recUnder sharesBytes headUnder beVal items entryBytes freshOf sharesRight? queueBytes areaBytes imageUnder committed moved newRec admit finished finishThose forget cancel due? expire confirm touch releases touchedRecs toRelease reconcile entered decide decisions reopened reopen setCursor textOf digOf idsBytes bestBytes searchOf listed waitsFor?
 all-cards = refl

@@ -1,14 +1,35 @@
--- Codecs that are chosen by a test of the header kind, or that take only some values. Each has its two laws, so what is put together
--- of them has both for every kind.
-use mathlib.Core.Path.{_≡_}
+-- Codecs that are chosen by a test of the header kind, or by a value that was read before, or that take only some values. Each has its
+-- two laws, so what is put together of them has both for every kind.
+use mathlib.Core.Path.{_≡_, sym}
 use mathlib.Core.Bool.{Bool, true, false, cond}
-use mathlib.Core.List.{_++_}
-use Rattle.queue.specs.Codec.{Bytes, Got, fail, got, _>>=_, bind-got, if-got, Codec}
+use mathlib.Core.List.{[], _++_, append-assoc}
+use Prim.Native.Nat.{_+_}
+use native.Mathlib.Omega.{arith}
+use lib.ListN.{length-append}
+use Rattle.queue.specs.Codec.{Bytes, Got, fail, got, _>>=_, bind-got, if-got, all-append, Codec}
+
+-- no bytes: one fixed value, for what an older kind does not have
+module _ {A : Type 0} (x : A) where
+  unfoldable pub fixC : Codec A
+  fixC = record {
+    ok = λ a. a ≡ x;
+    enc = λ a. [];
+    dec = λ s. got x s;
+    fwd = λ a r h. rw h;
+    bwd = λ s a r e. let k : x ≡ a = cc in let m : s ≡ r = cc in (m, sym k);
+    small = λ a h. tt;
+    most = λ a. 0;
+    fits = λ a h. omega arith;
+  }
 
 -- one of two
 abbrev pub pickC : {A : Type 0} → Bool → Codec A → Codec A → Codec A
 pickC true 𝓐 𝓑 = 𝓐
 pickC false 𝓐 𝓑 = 𝓑
+
+-- what only some kinds have, and its value under the others
+abbrev pub sinceC : {A : Type 0} → Bool → Codec A → A → Codec A
+sinceC has 𝓐 x = pickC has 𝓐 (fixC x)
 
 -- only the values that pass a test; the bytes stay
 module _ {A : Type 0} (t : A → Bool) (𝓐 : Codec A) where
@@ -40,4 +61,36 @@ module _ {A : Type 0} (t : A → Bool) (𝓐 : Codec A) where
     small = λ a h. 𝓐 .small a (h .0);
     most = 𝓐 .most;
     fits = λ a h. 𝓐 .fits a (h .0);
+  }
+
+-- two in a row, the second by the value of the first
+module _ {A B : Type 0} (𝓐 : Codec A) (𝓑 : A → Codec B) where
+  unfoldable pub thenDec : Bytes → Got (A × B)
+  thenDec s = 𝓐 .dec s >>= λ a t. 𝓑 a .dec t >>= λ b r. got (a, b) r
+
+  pub then-fwd : (x : A × B) (r : Bytes) → 𝓐 .ok (x .0) × 𝓑 (x .0) .ok (x .1) → thenDec ((𝓐 .enc (x .0) ++ 𝓑 (x .0) .enc (x .1)) ++ r) ≡ got x r
+  unfolding thenDec
+  then-fwd x r h = rw (append-assoc, 𝓐 .fwd (x .0) _ (h .0), 𝓑 (x .0) .fwd (x .1) r (h .1))
+
+  pub then-bwd : (s : Bytes) (x : A × B) (r : Bytes) → thenDec s ≡ got x r → (s ≡ (𝓐 .enc (x .0) ++ 𝓑 (x .0) .enc (x .1)) ++ r) × (𝓐 .ok (x .0) × 𝓑 (x .0) .ok (x .1))
+  unfolding thenDec
+  then-bwd s x r e =
+      bind-got (𝓐 .dec s) _ x r e λ a t p f.
+      bind-got (𝓑 a .dec t) _ x r f λ b q p′ f′.
+      let u = 𝓐 .bwd s a t p in
+      let v = 𝓑 a .bwd t b q p′ in
+      let e1 : (a, b) ≡ x = cc in
+      let e2 : q ≡ r = cc in
+      rw (← e1, ← e2) (cc (append-assoc (𝓐 .enc a) (𝓑 a .enc b) q, u .0, v .0), (u .1, v .1))
+
+  unfoldable pub thenC : Codec (A × B)
+  thenC = record {
+    ok = λ x. 𝓐 .ok (x .0) × 𝓑 (x .0) .ok (x .1);
+    enc = λ x. 𝓐 .enc (x .0) ++ 𝓑 (x .0) .enc (x .1);
+    dec = thenDec;
+    fwd = then-fwd;
+    bwd = then-bwd;
+    small = λ x h. all-append _ (𝓐 .enc (x .0)) (𝓑 (x .0) .enc (x .1)) (𝓐 .small (x .0) (h .0)) (𝓑 (x .0) .small (x .1) (h .1));
+    most = λ x. 𝓐 .most (x .0) + 𝓑 (x .0) .most (x .1);
+    fits = λ x h. let a = 𝓐 .fits (x .0) (h .0) in let b = 𝓑 (x .0) .fits (x .1) (h .1) in rw length-append (omega arith);
   }

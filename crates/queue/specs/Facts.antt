@@ -1,23 +1,29 @@
 -- What the rules look at in a record, and how what was read stands to the record or the header.
-use mathlib.Core.Path.{_≡_}
-use mathlib.Core.Bool.{Bool, true}
+use mathlib.Core.Path.{_≡_, ap, sym}
+use mathlib.Core.Bool.{Bool, true, cond}
 use mathlib.Core.Option.{Option, none, some}
-use mathlib.Core.List.{_++_}
+use mathlib.Core.List.{List, _++_}
 use Prim.Native.Nat.{ℕ, _+_, _^_, _≤_, _<_}
 use lib.ListN.{length, take, drop}
 use Rattle.queue.specs.Codec.{beC, optC}
 use Rattle.queue.specs.paper.Records.{Bytes, Id, Limits, Terms, Held, Rec}
 use Rattle.queue.specs.paper.Lists.{isSome}
 use Rattle.queue.specs.paper.Sound.{labelLen, inputs, outputs, content}
-use Rattle.queue.specs.Frames.{Head, tagC, markC, idC, termsC, placeC, bodyC, limitsC}
+use Rattle.queue.specs.Frames.{Head, tagC, markC, callerC, idC, termsC, placeC, bodyC, Four, sharesC, limitsK}
 use Rattle.queue.specs.Reads.{Reads, whole, listAt}
+use Rattle.queue.specs.ReadLaws.{Small}
+use Rattle.queue.specs.paper.Kinds.{newest, hasCallers}
+use Rattle.queue.specs.paper.Calls.{numbers, limitsOf}
 use Rattle.queue.specs.declared.frame.TermsR.{TermsR}
 use Rattle.queue.specs.declared.frame.PlaceR.{PlaceR}
 use Rattle.queue.specs.declared.frame.BodyR.{BodyR}
 use Rattle.queue.specs.declared.frame.RestR.{RestR}
 use Rattle.queue.specs.declared.frame.Facts.{Facts}
 use Rattle.queue.specs.declared.frame.Seen.{Seen}
+use Rattle.queue.specs.declared.limits.Limits as code
 use Rattle.queue.specs.declared.frame.Lim.{Lim}
+use Rattle.queue.specs.declared.frame.SharesR.{SharesR}
+use Rattle.queue.specs.declared.frame.LimitsR.{LimitsR}
 use Rattle.queue.specs.declared.frame.HeadR.{HeadR}
 
 -- a number, 0 where there is none
@@ -31,6 +37,7 @@ placeHeight (some p) = p .0
 
 unfoldable pub factsOf : Rec → Facts
 factsOf r = record {
+  caller = r .caller;
   state = r .state;
   reason = r .reason;
   created = record { 0 = r .terms .created };
@@ -60,6 +67,10 @@ TagAt n s at ok next = Reads (tagC n) s at ok next (λ u. Unit {0})
 -- a withdrawn mark, as the kind k has it
 abbrev pub MarkAt : ℕ → Bytes → ℕ → Bool → ℕ → ℕ → Type 0
 MarkAt k s at ok next v = Reads (markC k) s at ok next (λ x. x ≡ v) × (v < 256)
+
+-- a caller, as the kind k has it
+abbrev pub CallerAt : ℕ → Bytes → ℕ → Bool → ℕ → ℕ → Type 0
+CallerAt k s at ok next v = Reads (callerC k) s at ok next (λ x. x ≡ v) × (v < 256)
 
 -- a number of n bytes
 abbrev pub NumAt : ℕ → Bytes → ℕ → Bool → ℕ → ℕ → Type 0
@@ -127,11 +138,16 @@ pub record RestAs (v : Bytes) (at : ℕ) (x : RestR) (t : Option (ℕ × Id) × 
 
 -- ---- a record
 
--- where its terms start: behind its kind, id, state and reason
+-- where its terms start: behind its kind, id, caller, state and reason
 abbrev pub termsAt : ℕ
-termsAt = 35
+termsAt = 36
+
+-- under a kind: the older ones have no caller
+abbrev pub termsUnder : ℕ → ℕ
+termsUnder k = cond (hasCallers k) 36 35
 
 pub record Bounded (f : Facts) : Type 0 where
+  pub caller : f .caller < 256
   pub state : f .state < 256
   pub reason : f .reason < 256
   pub created : f .created .0 < 18446744073709551616
@@ -147,16 +163,16 @@ pub record Bounded (f : Facts) : Type 0 where
   pub outs : f .outs < 65536
   pub bytes : f .bytes < 4294967296
 
--- x was read from v, and says of r: its id, its facts, and where its parts stand
-pub record SeenAs (v : Bytes) (x : Seen) (r : Rec) : Type 0 where
+-- x was read from v, and says of r: its id, its facts, and where its parts stand, the terms at `from`
+pub record SeenFrom (from : ℕ) (v : Bytes) (x : Seen) (r : Rec) : Type 0 where
   pub id : x .id ≡ r .id
   pub facts : x .facts ≡ factsOf r
   pub small : Bounded (x .facts)
-  pub terms : drop termsAt v ≡ termsC .enc (r .terms) ++ drop (x .after) v
+  pub terms : drop from v ≡ termsC .enc (r .terms) ++ drop (x .after) v
   pub place : drop (x .after) v ≡ placeC .enc (r .place) ++ drop (x .mark) v
   pub marks : drop (x .mark) v ≡ beC 1 .enc (r .mark) ++ (beC 8 .enc (r .finish) ++ drop (x .body) v)
   pub body : drop (x .body) v ≡ bodyC .enc (r .body) ++ drop (x .size) v
-  pub up : termsAt ≤ x .after
+  pub up : from ≤ x .after
   pub upPlace : x .after ≤ x .mark
   pub bodyAt : x .body ≡ x .mark + 9
   pub upBody : x .mark + 10 ≤ x .size
@@ -170,43 +186,96 @@ pub record SeenAs (v : Bytes) (x : Seen) (r : Rec) : Type 0 where
   pub signed : take (x .facts .bytes) (drop (x .content) v) ≡ content (r .body)
   pub signedIn : x .content + x .facts .bytes ≤ length v
 
+-- under a kind, and in an area
+abbrev pub SeenUnder : ℕ → Bytes → Seen → Rec → Type 0
+SeenUnder k v x r = SeenFrom (termsUnder k) v x r
+
+abbrev pub SeenAs : Bytes → Seen → Rec → Type 0
+SeenAs v x r = SeenFrom termsAt v x r
+
 -- ---- a header
 
-pub record LimAs (x : Lim) (m : Limits) : Type 0 where
-  pub P : m .P ≡ x .p
-  pub B : m .B ≡ x .b
-  pub T : m .T ≡ x .t
-  pub K : m .K ≡ x .k
+-- the limits and shares that the code has: the shares as their bytes
+abbrev pub limitsIn : code.Limits → Limits
+limitsIn l = limitsOf (l .p) (l .b) (l .t) (l .k) (l .shares)
+
+-- they fit their fields
+pub record LimitsFit (l : code.Limits) : Type 0 where
+  pub p : l .p < 4294967296
+  pub b : l .b < 4294967296
+  pub t : l .t < 4294967296
+  pub k : l .k < 4294967296
+  pub long : length (l .shares) ≡ 64
+  pub small : Small (l .shares)
+
+-- P, B, T, K
+pub record LimAs (x : Lim) (m : Four) : Type 0 where
+  pub P : m .0 ≡ x .p
+  pub B : m .1 .0 ≡ x .b
+  pub T : m .1 .1 .0 ≡ x .t
+  pub K : m .1 .1 .1 ≡ x .k
   pub pSmall : x .p < 4294967296
   pub bSmall : x .b < 4294967296
   pub tSmall : x .t < 4294967296
   pub kSmall : x .k < 4294967296
 
--- x was read from v, and says of h: its numbers, and where its parts stand
-pub record HeadAs (v : Bytes) (x : HeadR) (h : Head) : Type 0 where
-  pub P : h .limits .P ≡ x .p
-  pub B : h .limits .B ≡ x .b
-  pub T : h .limits .T ≡ x .t
-  pub K : h .limits .K ≡ x .k
+-- the shares as they were read: their bytes
+pub record SharesAs (x : SharesR) (l : List ℕ) : Type 0 where
+  pub is : numbers (x .bytes) ≡ l
+  pub long : length (x .bytes) ≡ 64
+  pub small : Small (x .bytes)
+
+-- under a kind without shares they come of P, which fits its field
+abbrev pub SharesAt : ℕ → ℕ → Bytes → ℕ → SharesR → Type 0
+SharesAt k p v at r = p < 4294967296 → Reads (sharesC k p) v at (r .ok) (r .next) (SharesAs r)
+
+pub record LimitsAs (x : LimitsR) (m : Limits) : Type 0 where
+  pub is : limitsIn (x .limits) ≡ m
+  pub fit : LimitsFit (x .limits)
+
+-- how long the limits and shares are under a kind
+abbrev pub limitsLen : ℕ → ℕ
+limitsLen k = cond (hasCallers k) 80 16
+
+-- x was read from v under the kind k, and says of h: its numbers, and where its parts stand; its limits and shares take n bytes
+pub record HeadFrom (k n : ℕ) (v : Bytes) (x : HeadR) (h : Head) : Type 0 where
+  pub lim : limitsIn (x .limits) ≡ h .limits
+  pub fit : LimitsFit (x .limits)
   pub revision : h .revision ≡ x .revision
   pub cursor : h .cursor ≡ x .cursor .0
   pub tip : isSome (h .tip) ≡ x .tip
   pub counter : h .counter ≡ x .counter .0
   pub count : h .count ≡ x .count
-  pub limits : drop 1 v ≡ limitsC .enc (h .limits) ++ drop 17 v
-  pub revisionAt : drop 17 v ≡ beC 8 .enc (h .revision) ++ drop 25 v
+  pub limits : drop 1 v ≡ limitsK k .enc (h .limits) ++ drop (1 + n) v
+  pub revisionAt : drop (1 + n) v ≡ beC 8 .enc (h .revision) ++ drop (9 + n) v
   pub marks : drop (x .marks) v ≡ (beC 4 .enc (h .cursor) ++ optC idC .enc (h .tip)) ++ drop (x .after) v
   pub counterAt : drop (x .after) v ≡ beC 8 .enc (h .counter) ++ (beC 4 .enc (h .count) ++ drop (x .size) v)
-  pub marksAt : x .marks ≡ 25
-  pub up : 30 ≤ x .after
-  pub most : x .after ≤ 62
+  pub marksAt : x .marks ≡ 9 + n
+  pub up : 14 + n ≤ x .after
+  pub most : x .after ≤ 46 + n
   pub sizeAt : x .size ≡ x .after + 12
   pub end : x .size ≤ length v
-  pub pSmall : x .p < 4294967296
-  pub bSmall : x .b < 4294967296
-  pub tSmall : x .t < 4294967296
-  pub kSmall : x .k < 4294967296
   pub revisionSmall : x .revision < 18446744073709551616
   pub cursorSmall : x .cursor .0 < 4294967296
   pub counterSmall : x .counter .0 < 18446744073709551616
   pub countSmall : x .count < 4294967296
+
+abbrev pub HeadUnder : ℕ → Bytes → HeadR → Head → Type 0
+HeadUnder k v x h = HeadFrom k (limitsLen k) v x h
+
+abbrev pub HeadAs : Bytes → HeadR → Head → Type 0
+HeadAs v x h = HeadFrom newest 80 v x h
+
+-- its limits, one by one
+module _ {k n : ℕ} {v : Bytes} {x : HeadR} {h : Head} (w : HeadFrom k n v x h) where
+  pub head-P : h .limits .P ≡ x .limits .p
+  head-P = ap (λ (m : Limits). m .P) (sym (w .lim))
+
+  pub head-B : h .limits .B ≡ x .limits .b
+  head-B = ap (λ (m : Limits). m .B) (sym (w .lim))
+
+  pub head-T : h .limits .T ≡ x .limits .t
+  head-T = ap (λ (m : Limits). m .T) (sym (w .lim))
+
+  pub head-K : h .limits .K ≡ x .limits .k
+  head-K = ap (λ (m : Limits). m .K) (sym (w .lim))

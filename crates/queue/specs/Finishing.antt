@@ -57,7 +57,7 @@ walkL p state reason floor num (r ∷ l) =
 -- the bytes of a finished record, and of what becomes of a record
 unfoldable pub finBytes : Bytes → ℕ → Seen → ℕ → ℕ → ℕ → Bytes
 finBytes s base x state reason n =
-    ((((((2 ∷ []) ++ x .id) ++ (state ∷ [])) ++ (reason ∷ [])) ++ take (x .mark + 1 - termsAt) (drop (base + termsAt) s)) ++ be 8 n) ++ (0 ∷ [])
+    (((((((2 ∷ []) ++ x .id) ++ be 1 (x .facts .caller)) ++ (state ∷ [])) ++ (reason ∷ [])) ++ take (x .mark + 1 - termsAt) (drop (base + termsAt) s)) ++ be 8 n) ++ (0 ∷ [])
 
 unfoldable pub stepBytes : Bytes → ℕ → Seen → Fate → Bytes
 stepBytes s base x Drop = []

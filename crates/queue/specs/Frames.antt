@@ -8,10 +8,10 @@ use native.Mathlib.Omega.{arith}
 use lib.Dec.{ltb, eqb}
 use borrow.Author.Tests.{lt-ltb, ltb-true, eqb-true, eq-eqb}
 use Rattle.queue.specs.Codec.{Got, fail, got, no-got, if-got, Codec, byteC, beC, pairC, mapC, optC, vecC, countedC}
-use Rattle.queue.specs.Choice.{pickC, guardC}
+use Rattle.queue.specs.Choice.{pickC, sinceC, guardC, thenC}
 use Rattle.queue.specs.Lists.{and-true}
 use Rattle.queue.specs.paper.Records.{Bytes, Id, Limits, Terms, Held, Rec}
-use Rattle.queue.specs.paper.Kinds.{newest, hasMark3}
+use Rattle.queue.specs.paper.Kinds.{newest, hasMark3, hasCallers, firstShare}
 
 -- one byte that says what stands behind it
 module _ (n : ℕ) where
@@ -81,14 +81,14 @@ unfoldable pub placeC : Codec (Option (ℕ × Id))
 placeC = optC (pairC (beC 4) idC)
 
 abbrev pub RecT : Type 0
-RecT = Unit {0} × (Id × (ℕ × (ℕ × (Terms × (Option (ℕ × Id) × (ℕ × (ℕ × Option Held)))))))
+RecT = Unit {0} × (Id × (ℕ × (ℕ × (ℕ × (Terms × (Option (ℕ × Id) × (ℕ × (ℕ × Option Held))))))))
 
 abbrev pub recOf : RecT → Rec
-recOf t = let (u, (a, (b, (c, (d, (e, (f, (g, h)))))))) = t in
-    record { id = a; state = b; reason = c; terms = d; place = e; mark = f; finish = g; body = h }
+recOf t = let (u, (a, (w, (b, (c, (d, (e, (f, (g, h))))))))) = t in
+    record { id = a; caller = w; state = b; reason = c; terms = d; place = e; mark = f; finish = g; body = h }
 
 abbrev pub recTuple : Rec → RecT
-recTuple r = (tt, (r .id, (r .state, (r .reason, (r .terms, (r .place, (r .mark, (r .finish, r .body))))))))
+recTuple r = (tt, (r .id, (r .caller, (r .state, (r .reason, (r .terms, (r .place, (r .mark, (r .finish, r .body)))))))))
 
 -- every mark since kind 03, before it all but 3
 abbrev pub markSince : Bool → Codec ℕ
@@ -101,14 +101,37 @@ markC k = markSince (hasMark3 k)
 abbrev pub restK : ℕ → Codec (Option (ℕ × Id) × (ℕ × (ℕ × Option Held)))
 restK k = pairC placeC (pairC (markC k) (pairC (beC 8) bodyC))
 
--- kind 02, id, state, reason, terms, mined place, withdrawn mark, finish number, holder
+-- the caller since kind 04, before it 0
+abbrev pub callerC : ℕ → Codec ℕ
+callerC k = sinceC (hasCallers k) (beC 1) 0
+
+-- kind 02, id, caller, state, reason, terms, mined place, withdrawn mark, finish number, holder
 unfoldable pub recK : ℕ → Codec Rec
 recK k = mapC recOf recTuple (λ t. refl) (λ t. refl)
-    (pairC (tagC 2) (pairC idC (pairC (beC 1) (pairC (beC 1) (pairC termsC (restK k))))))
+    (pairC (tagC 2) (pairC idC (pairC (callerC k) (pairC (beC 1) (pairC (beC 1) (pairC termsC (restK k)))))))
 
-unfoldable pub limitsC : Codec Limits
-limitsC = mapC (λ t. record { P = t .0; B = t .1 .0; T = t .1 .1 .0; K = t .1 .1 .1 }) (λ m. (m .P, (m .B, (m .T, m .K)))) (λ t. refl) (λ t. refl)
-    (pairC (beC 4) (pairC (beC 4) (pairC (beC 4) (beC 4))))
+-- P, B, T, K
+abbrev pub Four : Type 0
+Four = ℕ × (ℕ × (ℕ × ℕ))
+
+unfoldable pub fourC : Codec Four
+fourC = pairC (beC 4) (pairC (beC 4) (pairC (beC 4) (beC 4)))
+
+-- the sixteen shares since kind 04, before it P and fifteen zeros
+unfoldable pub sixteenC : Codec (List ℕ)
+sixteenC = vecC (beC 4) 16
+
+abbrev pub sharesC : ℕ → ℕ → Codec (List ℕ)
+sharesC k P = sinceC (hasCallers k) sixteenC (firstShare P)
+
+abbrev pub limitsFrom : Four × List ℕ → Limits
+limitsFrom t = let ((p, (b, (u, k))), l) = t in record { P = p; B = b; T = u; K = k; shares = l }
+
+abbrev pub limitsTuple : Limits → Four × List ℕ
+limitsTuple m = ((m .P, (m .B, (m .T, m .K))), m .shares)
+
+unfoldable pub limitsK : ℕ → Codec Limits
+limitsK k = mapC limitsFrom limitsTuple (λ t. refl) (λ t. refl) (thenC fourC (λ m. sharesC k (m .0)))
 
 -- the header's values; count: how many record frames follow
 pub record Head : Type 0 where
@@ -132,7 +155,7 @@ headTuple h = (tt, (h .limits, (h .revision, (h .cursor, (h .tip, (h .counter, h
 -- the header kind, limits, revision, cursor height, tip, counter, record count
 unfoldable pub headK : ℕ → Codec Head
 headK k = mapC headOf headTuple (λ t. refl) (λ t. refl)
-    (pairC (tagC k) (pairC limitsC (pairC (beC 8) (pairC (beC 4) (pairC (optC idC) (pairC (beC 8) (beC 4)))))))
+    (pairC (tagC k) (pairC (limitsK k) (pairC (beC 8) (pairC (beC 4) (pairC (optC idC) (pairC (beC 8) (beC 4)))))))
 
 -- ---- under the newest kind, which an area has
 abbrev pub restC : Codec (Option (ℕ × Id) × (ℕ × (ℕ × Option Held)))
@@ -140,6 +163,9 @@ restC = restK newest
 
 abbrev pub recC : Codec Rec
 recC = recK newest
+
+abbrev pub limitsC : Codec Limits
+limitsC = limitsK newest
 
 abbrev pub headC : Codec Head
 headC = headK newest

@@ -10,9 +10,9 @@ use Rattle.queue.specs.paper.Records.{Bytes, Id, Limits, Rec, Queue}
 use Rattle.queue.specs.paper.Kinds.{newest}
 use Rattle.queue.specs.declared.head.Marks.{Marks}
 
--- the persisted height 4, the header without its tip 41
+-- the persisted height 4, the header without its tip 105
 abbrev pub frontLen : ℕ
-frontLen = 45
+frontLen = 109
 
 abbrev pub tipOf : Bool → Id → Option Id
 tipOf has id = cond has (some id) none

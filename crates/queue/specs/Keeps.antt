@@ -22,7 +22,7 @@ use Rattle.queue.specs.declared.Kind.the-variants.{Nothing, Memory, Whol
 use Rattle.queue.specs.paper.Records.{Id, Limits, Held, Rec, Queue, queued, mined, conflicted, cancelled, expired}
 use Rattle.queue.specs.paper.Lists.{isSome, one, any?, total, count, filter, find, map, maybe}
 use Rattle.queue.specs.paper.Ids.{same?}
-use Rattle.queue.specs.paper.Sound.{inRange, holder?, pending?, mined?, content, minedHolders, heldRight?, reasonRight?, placeRight?, markRight?, finishRight?}
+use Rattle.queue.specs.paper.Sound.{limitsRight?, holder?, pending?, mined?, content, minedHolders, heldRight?, reasonRight?, placeRight?, markRight?, finishRight?}
 use Rattle.queue.specs.paper.Changing.{Out, refused, done, top, named?, committed, moved, finished, finishThose, forget, finishAll, cancel, due?, expire, reopened, listed?, reopen, setCursor}
 use Rattle.queue.specs.paper.Calls.{fresh}
 
@@ -51,7 +51,7 @@ same-kept q f = record { fit = f; limits = refl; level = refl }
 
 -- ---- queues that differ in marks alone
 
-pub fresh-fit : (m : Limits) → inRange m ≡ true → Fit (fresh m)
+pub fresh-fit : (m : Limits) → limitsRight? m ≡ true → Fit (fresh m)
 unfolding optC
 fresh-fit m e = record {
   sound = record { range = range-of m e; few = omega arith; fewHolders = omega arith; fewBytes = omega arith; fewMined = omega arith; fewMinedBytes = omega arith; fewTombs = omega arith; right = tt; rising = tt; distinct = tt; apart = tt };
@@ -113,7 +113,7 @@ finish-later c d true n le e = e
 finish-later c d false n le e = let a = and-true (leb 1 n) (leb n c) e in let b = leb-true n c (a .1) in and-both (leb 1 n) (leb n d) (a .0) (le-leb n d (omega arith))
 
 pub right-later : (K c d : ℕ) (r : Rec) → c ≤ d → Right K c r → Right K d r
-right-later K c d r le h = record { held = h .held; reason = h .reason; place = h .place; mark = h .mark; finish = finish-later c d (holder? r) (r .finish) le (h .finish); label = h .label; ins = h .ins; outs = h .outs; size = h .size }
+right-later K c d r le h = record { held = h .held; reason = h .reason; place = h .place; mark = h .mark; caller = h .caller; finish = finish-later c d (holder? r) (r .finish) le (h .finish); label = h .label; ins = h .ins; outs = h .outs; size = h .size }
 
 -- a tombstone's number is at most the counter
 pub finish-le : (c : ℕ) (h : Bool) (n : ℕ) → finishRight? c h n ≡ true → h ≡ false → n ≤ c
@@ -194,6 +194,7 @@ finished-right state reason g K c d k r t a b h =
       reason = g .why;
       place = no-place state (isSome (r .place)) (unmined-place (r .state) (isSome (r .place)) n (h .place)) (g .unmined);
       mark = no-mark state (r .mark) false (unmined-mark (r .state) (holder? r) (r .mark) n (h .mark));
+      caller = h .caller;
       finish = in-range d k a b;
       label = h .label;
       ins = omega arith;
@@ -207,7 +208,7 @@ none-ok = tt
 
 pub finished-fields : (state reason k : ℕ) (r : Rec) → state < 256 → reason < 256 → k < 256 ^ 8 → Fields r → Fields (finished state reason k r)
 unfolding finished
-finished-fields state reason k r a b c h = record { id = h .id; state = a; reason = b; terms = h .terms; place = h .place; mark = h .mark; finish = c; body = none-ok }
+finished-fields state reason k r a b c h = record { id = h .id; caller = h .caller; state = a; reason = b; terms = h .terms; place = h .place; mark = h .mark; finish = c; body = none-ok }
 
 -- a record without inputs is apart from any
 pub finished-apart : (state reason k : ℕ) (a b : Rec) → Apart a (finished state reason k b)
@@ -368,6 +369,7 @@ reopened-right K c r x = record {
   reason = reopened-cases (λ s n _. reasonRight? s n ≡ true) refl refl refl refl (holder? r) (r .mark) (r .state) (x .mark);
   place = reopened-cases (λ s _ _. placeRight? s false ≡ true) refl refl refl refl (holder? r) (r .mark) (r .state) (x .mark);
   mark = refl;
+  caller = x .caller;
   finish = x .finish;
   label = x .label;
   ins = x .ins;
@@ -383,6 +385,7 @@ pub reopened-fields : (K c : ℕ) (r : Rec) → Right K c r → Fields r → Fie
 unfolding reopened placeC optC
 reopened-fields K c r x h = record {
   id = h .id;
+  caller = h .caller;
   state = reopened-cases (λ s _ _. s < 256) (omega arith) (omega arith) (omega arith) (omega arith) (holder? r) (r .mark) (r .state) (x .mark);
   reason = reopened-cases (λ _ n _. n < 256) (omega arith) (omega arith) (omega arith) (omega arith) (holder? r) (r .mark) (r .state) (x .mark);
   terms = h .terms;

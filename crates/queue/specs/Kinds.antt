@@ -1,18 +1,20 @@
 -- What is read under an older kind stands under the newest, with the same record; what an older kind can say stands under it.
 use mathlib.Core.Path.{_≡_, refl}
-use mathlib.Core.Bool.{Bool, true, false, not, _||_}
+use mathlib.Core.Bool.{Bool, true, false, not, _&&_, _||_}
 use mathlib.Core.List.{List, [], _∷_, _++_}
-use Prim.Native.Nat.{ℕ, _<_}
+use Prim.Native.Nat.{ℕ, _^_, _<_}
 use native.Mathlib.Omega.{arith}
 use lib.Dec.{eqb}
-use borrow.Author.Tests.{eqb-true}
-use Rattle.queue.specs.Codec.{All, beC, pairC, mapC, optC}
-use Rattle.queue.specs.Choice.{guardC}
-use Rattle.queue.specs.Frames.{Head, tagC, idC, limitsC, markSince, markC, recK, headK, recC, headC}
+use borrow.Author.Tests.{eqb-true, eq-eqb}
+use Rattle.queue.specs.Codec.{Codec, All, beC, pairC, mapC, optC, vecC}
+use Rattle.queue.specs.Choice.{fixC, sinceC, guardC, thenC}
+use Rattle.queue.specs.Frames.{Head, tagC, idC, termsC, Four, fourC, sixteenC, sharesC, limitsK, limitsC, restK, restC, callerC, markSince, markC, recK, headK, recC, headC}
 use Rattle.queue.specs.Lists.{and-true, and-both}
-use Rattle.queue.specs.paper.Records.{Bytes, Rec, Queue}
+use Rattle.queue.specs.Order.{same-is, same-self}
+use Rattle.queue.specs.paper.Records.{Bytes, Limits, Rec, Queue}
+use Rattle.queue.specs.paper.Ids.{same?}
 use Rattle.queue.specs.paper.Lists.{all?}
-use Rattle.queue.specs.paper.Kinds.{newest, kind?, hasMark3, markSaid?, says?}
+use Rattle.queue.specs.paper.Kinds.{newest, kind?, hasMark3, hasCallers, markSaid?, callerSaid?, sharesSaid?, recSaid?, firstShare, says?}
 
 -- ---- the withdrawn mark; since: whether the kind has mark 3
 marks-enc : (since : Bool) (m : ℕ) → markSince since .enc m ≡ beC 1 .enc m
@@ -41,74 +43,132 @@ mark-up k m h = marks-up (hasMark3 k) m h
 pub mark-enc : (k m : ℕ) → markC k .enc m ≡ beC 1 .enc m
 mark-enc k m = marks-enc (hasMark3 k) m
 
+-- ---- what only some kinds have; t says that a is what the others have
+since-up : {A : Type 0} (has : Bool) (𝓐 : Codec A) (x a : A) → 𝓐 .ok x → sinceC has 𝓐 x .ok a → 𝓐 .ok a
+unfolding fixC
+since-up true 𝓐 x a o h = h
+since-up false 𝓐 x a o h = rw h o
+
+since-said : {A : Type 0} (has : Bool) (𝓐 : Codec A) (x a : A) (t : Bool) → (a ≡ x → t ≡ true) → sinceC has 𝓐 x .ok a → (has || t) ≡ true
+unfolding fixC
+since-said true 𝓐 x a t e h = refl
+since-said false 𝓐 x a t e h = e h
+
+since-down : {A : Type 0} (has : Bool) (𝓐 : Codec A) (x a : A) (t : Bool) → (t ≡ true → a ≡ x) → (has || t) ≡ true → 𝓐 .ok a → sinceC has 𝓐 x .ok a
+unfolding fixC
+since-down true 𝓐 x a t e s h = h
+since-down false 𝓐 x a t e s h = e s
+
+pub caller-up : (k c : ℕ) → callerC k .ok c → beC 1 .ok c
+unfolding beC
+caller-up k c h = since-up (hasCallers k) (beC 1) 0 c (omega arith) h
+
 -- ---- a record
-pub rec-enc : (k : ℕ) (r : Rec) → recK k .enc r ≡ recC .enc r
-unfolding recK mapC pairC
+
+-- from its state on it has the same bytes under all kinds
+unfoldable pub recTail : Rec → Bytes
+recTail r = beC 1 .enc (r .state) ++ (beC 1 .enc (r .reason) ++ (termsC .enc (r .terms) ++ restC .enc (r .place, (r .mark, (r .finish, r .body)))))
+
+pub rec-enc : (k : ℕ) (r : Rec) → recK k .enc r ≡ 2 ∷ (idC .enc (r .id) ++ (callerC k .enc (r .caller) ++ recTail r))
+unfolding recK recTail mapC pairC tagC
 rec-enc k r = rw (mark-enc k (r .mark))
 
 pub rec-up : (k : ℕ) (r : Rec) → recK k .ok r → recC .ok r
 unfolding recK mapC pairC
-rec-up k r h = (h .0, (h .1 .0, (h .1 .1 .0, (h .1 .1 .1 .0, (h .1 .1 .1 .1 .0, (h .1 .1 .1 .1 .1 .0, (marks-up (hasMark3 k) (r .mark) (h .1 .1 .1 .1 .1 .1 .0), h .1 .1 .1 .1 .1 .1 .1)))))))
+rec-up k r h = (h .0, (h .1 .0, (caller-up k (r .caller) (h .1 .1 .0), (h .1 .1 .1 .0, (h .1 .1 .1 .1 .0, (h .1 .1 .1 .1 .1 .0, (h .1 .1 .1 .1 .1 .1 .0, (marks-up (hasMark3 k) (r .mark) (h .1 .1 .1 .1 .1 .1 .1 .0), h .1 .1 .1 .1 .1 .1 .1 .1))))))))
 
-pub rec-said : (k : ℕ) (r : Rec) → recK k .ok r → markSaid? k (r .mark) ≡ true
+pub rec-said : (k : ℕ) (r : Rec) → recK k .ok r → recSaid? k r ≡ true
 unfolding recK mapC pairC
-rec-said k r h = marks-said (hasMark3 k) (r .mark) (h .1 .1 .1 .1 .1 .1 .0)
+rec-said k r h = and-both (markSaid? k (r .mark)) (callerSaid? k (r .caller))
+    (marks-said (hasMark3 k) (r .mark) (h .1 .1 .1 .1 .1 .1 .1 .0))
+    (since-said (hasCallers k) (beC 1) 0 (r .caller) (eqb (r .caller) 0) (λ e. eq-eqb (r .caller) 0 e) (h .1 .1 .0))
 
-pub rec-down : (k : ℕ) (r : Rec) → markSaid? k (r .mark) ≡ true → recC .ok r → recK k .ok r
+pub rec-down : (k : ℕ) (r : Rec) → recSaid? k r ≡ true → recC .ok r → recK k .ok r
 unfolding recK mapC pairC
-rec-down k r s h = (h .0, (h .1 .0, (h .1 .1 .0, (h .1 .1 .1 .0, (h .1 .1 .1 .1 .0, (h .1 .1 .1 .1 .1 .0, (marks-down (hasMark3 k) (r .mark) s (h .1 .1 .1 .1 .1 .1 .0), h .1 .1 .1 .1 .1 .1 .1)))))))
+rec-down k r s h =
+    let t = and-true (markSaid? k (r .mark)) (callerSaid? k (r .caller)) s in
+    let c = since-down (hasCallers k) (beC 1) 0 (r .caller) (eqb (r .caller) 0) (λ e. eqb-true (r .caller) 0 e) (t .1) (h .1 .1 .0) in
+    (h .0, (h .1 .0, (c, (h .1 .1 .1 .0, (h .1 .1 .1 .1 .0, (h .1 .1 .1 .1 .1 .0, (h .1 .1 .1 .1 .1 .1 .0, (marks-down (hasMark3 k) (r .mark) (t .0) (h .1 .1 .1 .1 .1 .1 .1 .0), h .1 .1 .1 .1 .1 .1 .1 .1))))))))
 
 -- ---- records
 pub recs-up : (k : ℕ) (l : List Rec) → All (recK k .ok) l → All (recC .ok) l
 recs-up k [] h = tt
 recs-up k (r ∷ l) h = (rec-up k r (h .0), recs-up k l (h .1))
 
-recs-said : (k : ℕ) (l : List Rec) → All (recK k .ok) l → all? (λ r. markSaid? k (r .mark)) l ≡ true
+recs-said : (k : ℕ) (l : List Rec) → All (recK k .ok) l → all? (recSaid? k) l ≡ true
 recs-said k [] h = refl
-recs-said k (r ∷ l) h = and-both (markSaid? k (r .mark)) _ (rec-said k r (h .0)) (recs-said k l (h .1))
+recs-said k (r ∷ l) h = and-both (recSaid? k r) _ (rec-said k r (h .0)) (recs-said k l (h .1))
 
-recs-down : (k : ℕ) (l : List Rec) → all? (λ r. markSaid? k (r .mark)) l ≡ true → All (recC .ok) l → All (recK k .ok) l
+recs-down : (k : ℕ) (l : List Rec) → all? (recSaid? k) l ≡ true → All (recC .ok) l → All (recK k .ok) l
 recs-down k [] s h = tt
-recs-down k (r ∷ l) s h = let t = and-true (markSaid? k (r .mark)) _ s in (rec-down k r (t .0) (h .0), recs-down k l (t .1) (h .1))
+recs-down k (r ∷ l) s h = let t = and-true (recSaid? k r) _ s in (rec-down k r (t .0) (h .0), recs-down k l (t .1) (h .1))
 
-pub queue-said : (k : ℕ) (q : Queue) → All (recK k .ok) (q .recs) → says? k q ≡ true
-unfolding says?
-queue-said k q h = recs-said k (q .recs) h
+-- ---- limits
+first-ok : (p : ℕ) → p < 256 ^ 4 → sixteenC .ok (firstShare p)
+unfolding sixteenC vecC beC
+first-ok p h = ((h, (omega arith, (omega arith, (omega arith, (omega arith, (omega arith, (omega arith, (omega arith, (omega arith, (omega arith, (omega arith, (omega arith, (omega arith, (omega arith, (omega arith, (omega arith, tt)))))))))))))))), refl)
 
-pub said-queue : (k : ℕ) (q : Queue) → says? k q ≡ true → All (recC .ok) (q .recs) → All (recK k .ok) (q .recs)
+four-first : (m : Four) → fourC .ok m → m .0 < 256 ^ 4
+unfolding fourC pairC beC
+four-first m h = h .0
+
+pub limits-up : (k : ℕ) (m : Limits) → limitsK k .ok m → limitsC .ok m
+unfolding limitsK mapC thenC
+limits-up k m h = (h .0, since-up (hasCallers k) sixteenC (firstShare (m .P)) (m .shares) (first-ok (m .P) (four-first (m .P, (m .B, (m .T, m .K))) (h .0))) (h .1))
+
+limits-said : (k : ℕ) (m : Limits) → limitsK k .ok m → sharesSaid? k m ≡ true
+unfolding limitsK mapC thenC
+limits-said k m h = since-said (hasCallers k) sixteenC (firstShare (m .P)) (m .shares) (same? (m .shares) (firstShare (m .P))) (λ e. rw e (same-self (firstShare (m .P)))) (h .1)
+
+limits-down : (k : ℕ) (m : Limits) → sharesSaid? k m ≡ true → limitsC .ok m → limitsK k .ok m
+unfolding limitsK mapC thenC
+limits-down k m s h = (h .0, since-down (hasCallers k) sixteenC (firstShare (m .P)) (m .shares) (same? (m .shares) (firstShare (m .P))) (λ e. same-is (m .shares) (firstShare (m .P)) e) s (h .1))
+
+-- ---- a header
+
+-- from its revision on it has the same bytes under all kinds
+unfoldable pub headTail : Head → Bytes
+headTail h = beC 8 .enc (h .revision) ++ (beC 4 .enc (h .cursor) ++ (optC idC .enc (h .tip) ++ (beC 8 .enc (h .counter) ++ beC 4 .enc (h .count))))
+
+pub head-first : (k : ℕ) (h : Head) → headK k .enc h ≡ k ∷ (limitsK k .enc (h .limits) ++ headTail h)
+unfolding headK headTail mapC pairC tagC
+head-first k h = refl
+
+pub head-up : (k : ℕ) (h : Head) → headK k .ok h → headC .ok h
+unfolding headK mapC pairC tagC
+head-up k h x = (omega arith, (limits-up k (h .limits) (x .1 .0), x .1 .1))
+
+head-down : (k : ℕ) (h : Head) → k < 256 → sharesSaid? k (h .limits) ≡ true → headC .ok h → headK k .ok h
+unfolding headK mapC pairC tagC
+head-down k h l s x = (l, (limits-down k (h .limits) s (x .1 .0), x .1 .1))
+
+head-said : (k : ℕ) (h : Head) → headK k .ok h → sharesSaid? k (h .limits) ≡ true
+unfolding headK mapC pairC
+head-said k h x = limits-said k (h .limits) (x .1 .0)
+
+pub kind-byte : (k : ℕ) → kind? k ≡ true → k < 256
+kind-byte k e = go (eqb k 1) (eqb k 3) (eqb k 4) (eqb-true k 1) (eqb-true k 3) (eqb-true k 4) e
+  where
+    go : (a b c : Bool) → (a ≡ true → k ≡ 1) → (b ≡ true → k ≡ 3) → (c ≡ true → k ≡ 4) → (a || (b || c)) ≡ true → k < 256
+    go true b c f g h t = let z = f refl in omega arith
+    go false true c f g h t = let z = g refl in omega arith
+    go false false true f g h t = let z = h refl in omega arith
+    go false false false f g h t = let z : _≡_ {A = ℕ} 0 1 = cc in absurd (omega arith)
+
+-- ---- a queue; h: its header
+pub queue-said : (k : ℕ) (q : Queue) (h : Head) → h .limits ≡ q .limits → headK k .ok h × All (recK k .ok) (q .recs) → says? k q ≡ true
 unfolding says?
-said-queue k q s h = recs-down k (q .recs) s h
+queue-said k q h e x = and-both (sharesSaid? k (q .limits)) _ (rw (← e) (head-said k h (x .0))) (recs-said k (q .recs) (x .1))
+
+pub said-queue : (k : ℕ) (q : Queue) (h : Head) → h .limits ≡ q .limits → k < 256 → says? k q ≡ true → headC .ok h × All (recC .ok) (q .recs) → headK k .ok h × All (recK k .ok) (q .recs)
+unfolding says?
+said-queue k q h e l s x = let t = and-true (sharesSaid? k (q .limits)) _ s in (head-down k h l (rw e (t .0)) (x .0), recs-down k (q .recs) (t .1) (x .1))
 
 -- the newest kind can say every queue
 pub newest-says : (q : Queue) → says? newest q ≡ true
 unfolding says?
 newest-says q = go (q .recs)
   where
-    go : (l : List Rec) → all? (λ r. markSaid? newest (r .mark)) l ≡ true
+    go : (l : List Rec) → all? (recSaid? newest) l ≡ true
     go [] = refl
     go (r ∷ l) = go l
-
--- ---- a header
-unfoldable pub headTail : Head → Bytes
-headTail h = limitsC .enc (h .limits) ++ (beC 8 .enc (h .revision) ++ (beC 4 .enc (h .cursor) ++ (optC idC .enc (h .tip) ++ (beC 8 .enc (h .counter) ++ beC 4 .enc (h .count)))))
-
--- its kind stands first, and nothing else of it depends on the kind
-pub head-first : (k : ℕ) (h : Head) → headK k .enc h ≡ k ∷ headTail h
-unfolding headK headTail mapC pairC tagC
-head-first k h = refl
-
-pub head-up : (k : ℕ) (h : Head) → headK k .ok h → headC .ok h
-unfolding headK mapC pairC tagC
-head-up k h x = (omega arith, x .1)
-
-pub head-down : (k : ℕ) (h : Head) → k < 256 → headC .ok h → headK k .ok h
-unfolding headK mapC pairC tagC
-head-down k h s x = (s, x .1)
-
-pub kind-byte : (k : ℕ) → kind? k ≡ true → k < 256
-kind-byte k e = go (eqb k 1) (eqb k 3) (eqb-true k 1) (eqb-true k 3) e
-  where
-    go : (a b : Bool) → (a ≡ true → k ≡ 1) → (b ≡ true → k ≡ 3) → (a || b) ≡ true → k < 256
-    go true b f g t = let z = f refl in omega arith
-    go false true f g t = let z = g refl in omega arith
-    go false false f g t = let z : _≡_ {A = ℕ} 0 1 = cc in absurd (omega arith)

@@ -22,6 +22,7 @@ pub mod Sums
 pub mod Opens
 pub mod Plain
 pub mod Order
+pub mod Shares
 pub mod Sounds
 pub mod Bound
 pub mod ListLaws

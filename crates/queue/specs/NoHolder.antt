@@ -20,7 +20,7 @@ use Rattle.queue.specs.paper.Records.{Id, Rec, Queue, queued, conflicted
 use Rattle.queue.specs.paper.Lists.{maybe, isSome, isEmpty?, all?, any?, count, filter, find, map}
 use Rattle.queue.specs.paper.Ids.{below?, same?}
 use Rattle.queue.specs.paper.Sound.{holder?, pending?, mined?, inputs, labelLen, among?, clash?}
-use Rattle.queue.specs.paper.Changing.{Out, refused, done, top, topHeight, named?, committed, moved, Admission, reached?, newRec, put, pendings, pendingBytes, admitNew, admit, finished, finishThose, forget, finishAll, cancel, due?, expire, Applied, Reconciling, confirmed?, confirm, judge, touchFound, touch, ownOf, touchedRecs, toRelease, placeIn, releaseOne, trimmed, reconcile, reopened, listed?, reopen, setCursor}
+use Rattle.queue.specs.paper.Changing.{Out, refused, done, top, topHeight, named?, committed, moved, Admission, reached?, newRec, put, pendings, pendingBytes, pendingsOf, shareOf, admitNew, admit, finished, finishThose, forget, finishAll, cancel, due?, expire, Applied, Reconciling, confirmed?, confirm, judge, touchFound, touch, ownOf, touchedRecs, toRelease, placeIn, releaseOne, trimmed, reconcile, reopened, listed?, reopen, setCursor}
 use Rattle.queue.specs.paper.Reading.{first?, selected?, selectedAt}
 
 -- a record is no holder of this id; no record is, so that the id is a tombstone's or nobody's
@@ -65,9 +65,11 @@ admit-no-holder i a q e h = cases (reached? (a .due) (a .now))
     new : LeavesNoHolder i (admitNew a q)
     new = cases (leb (q .limits .P) (pendings (q .recs)))
         (λ t. rw t tt)
-        (λ t. cases (ltb (q .limits .B) (pendingBytes (q .recs) + length (a .held .bytes)))
-        (λ u. rw (t, u) tt)
-        (λ u. cases (clash? (a .held .ins) (q .recs)) (λ v. rw (t, u, v) tt) (λ v. rw (t, u, v) (put-no-holder i (newRec a) (q .recs) (new-not-holder i a e) h))))
+        (λ t. cases (leb (shareOf (a .caller) (q .limits)) (pendingsOf (a .caller) (q .recs)))
+        (λ w. rw (t, w) tt)
+        (λ w. cases (ltb (q .limits .B) (pendingBytes (q .recs) + length (a .held .bytes)))
+        (λ u. rw (t, w, u) tt)
+        (λ u. cases (clash? (a .held .ins) (q .recs)) (λ v. rw (t, w, u, v) tt) (λ v. rw (t, w, u, v) (put-no-holder i (newRec a) (q .recs) (new-not-holder i a e) h)))))
 
     found : (o : Option Rec) → LeavesNoHolder i (maybe (admitNew a q) (λ r. cond (pending? (r .state) || mined? r) (done Nothing q r) (admitNew a q)) o)
     found none = new

@@ -2,7 +2,7 @@
 use mathlib.Core.Path.{_≡_, refl}
 use mathlib.Core.Bool.{Bool, true, false, _&&_}
 use mathlib.Core.Option.{none, some}
-use mathlib.Core.List.{List}
+use mathlib.Core.List.{List, []}
 use Prim.Native.Nat.{ℕ, _-_, _≤_}
 use lib.Dec.{leb}
 use lib.ListN.{length, take, drop}
@@ -11,12 +11,13 @@ use Rattle.queue.specs.Reads.{whole, listAt, behind}
 use Rattle.queue.specs.View.{view}
 use Rattle.queue.specs.Forms.{formC, afterIn, Framed, Store, headFor, recIn, areaForm, storeOf, queueC}
 use Rattle.queue.specs.Areas.{readArea, zero?}
-use Rattle.queue.specs.Facts.{HeadAs}
+use Rattle.queue.specs.Facts.{limitsIn, HeadUnder}
 use Rattle.queue.specs.Sums.{SumsAs}
 use Rattle.queue.specs.paper.Ids.{rise?}
 use Rattle.queue.specs.paper.Records.{Bytes, Limits, Rec, Queue}
 use Rattle.queue.specs.paper.Lists.{all?, map}
-use Rattle.queue.specs.paper.Sound.{inRange, need, right?, counts?, distinct?, apart?, sound?}
+use Rattle.queue.specs.paper.Calls.{limitsOf}
+use Rattle.queue.specs.paper.Sound.{limitsRight?, need, right?, counts?, distinct?, apart?, sound?}
 use Rattle.queue.specs.declared.frame.Form.{Form}
 use Rattle.queue.specs.declared.area.Open.{Open}
 use Rattle.queue.specs.declared.area.Area.{Area}
@@ -26,12 +27,13 @@ use Rattle.queue.specs.declared.scan.Span.{Span}
 abbrev pub needMost : ℕ
 needMost = 51905024
 
+-- limits alone, where the shares have no part
 abbrev pub limits : ℕ → ℕ → ℕ → ℕ → Limits
-limits p b t k = record { P = p; B = b; T = t; K = k }
+limits p b t k = limitsOf p b t k []
 
 -- x was read from s at base, and says of st: its header, and where its records stand
 pub record StoreAs (form : Form) (s : Bytes) (base : ℕ) (x : Open) (st : Store) : Type 0 where
-  pub head : HeadAs (view (form .hex) s base) (x .head) (headFor st)
+  pub head : HeadUnder (form .kind) (view (form .hex) s base) (x .head) (headFor st)
   pub frame : Framed (headK (form .kind)) (form .hex) s base (x .head .ok) (x .head .size) (headFor st)
   pub start : x .start ≡ afterIn (form .hex) s base (x .head .size)
   pub all : whole (recIn form) (x .head .count) s (x .start) ≡ true
@@ -40,12 +42,12 @@ pub record StoreAs (form : Form) (s : Bytes) (base : ℕ) (x : Open) (st : Store
   pub end : drop (x .next) s ≡ behind (recIn form) (x .head .count) s (x .start)
   pub up : x .start ≤ x .next
   pub ends : x .next ≤ length s
-  pub sums : SumsAs (x .head .k) (x .head .counter) (x .sums) (listAt (recIn form) (x .head .count) s (x .start))
+  pub sums : SumsAs (x .head .limits .k) (x .head .counter) (x .sums) (listAt (recIn form) (x .head .count) s (x .start))
 
 -- the rules of a sound queue on its limits, counter and records
 unfoldable pub soundL : Limits → ℕ → List Rec → Bool
 soundL m counter l =
-    inRange m && (counts? m l && (all? (right? (m .K) counter) l && (rise? (map (λ r. r .id) l) && (distinct? l && apart? l))))
+    limitsRight? m && (counts? m l && (all? (right? (m .K) counter) l && (rise? (map (λ r. r .id) l) && (distinct? l && apart? l))))
 
 pub sound-list : (q : Queue) → sound? q ≡ soundL (q .limits) (q .counter) (q .recs)
 unfolding sound? soundL
@@ -56,8 +58,8 @@ unfoldable pub filledBy : Bytes → ℕ → Limits → ℕ → List Rec → Bool
 filledBy s from m counter l = soundL m counter l && (leb (need m) (length s) && (leb from (need m) && zero? (take (need m - from) (drop from s))))
 
 pub record FilledAs (s : Bytes) (x : Open) (r : Span) : Type 0 where
-  pub is : r .ok ≡ filledBy s (x .next) (limits (x .head .p) (x .head .b) (x .head .t) (x .head .k)) (x .head .counter .0) (listAt (formC false recC) (x .head .count) s (x .start))
-  pub next : r .ok ≡ true → (r .next ≡ need (limits (x .head .p) (x .head .b) (x .head .t) (x .head .k))) × (r .next ≤ needMost)
+  pub is : r .ok ≡ filledBy s (x .next) (limitsIn (x .head .limits)) (x .head .counter .0) (listAt (formC false recC) (x .head .count) s (x .start))
+  pub next : r .ok ≡ true → (r .next ≡ need (limitsIn (x .head .limits))) × (r .next ≤ needMost)
 
 -- x was read from the area s, which holds q
 pub record AreaAs (s : Bytes) (x : Area) (q : Queue) : Type 0 where

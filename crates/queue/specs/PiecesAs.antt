@@ -54,11 +54,15 @@ answerBytes w l = be 4 (count (passes? w) l) ++ piecesOf w l
 unfoldable pub toldPieces : What → Bytes → Bytes → Written
 toldPieces w area out = readOf (λ q. answerBytes w (q .recs)) area out
 
+-- its id and state
+unfoldable pub dueAt : Bytes → ℕ → Bytes
+dueAt s base = take 32 (drop (base + 1) s) ++ take 1 (drop (base + 34) s)
+
 -- the piece of a record that was read at base
 unfoldable pub pieceAt : What → Bytes → ℕ → Seen → Bytes
 pieceAt Ids s base x = take 32 (drop (base + 1) s)
 pieceAt Guarded s base x = take 32 (drop (base + 1) s)
-pieceAt (DueBy t h) s base x = take 33 (drop (base + 1) s)
+pieceAt (DueBy t h) s base x = dueAt s base
 pieceAt Confirmed s base x = take 32 (drop (base + 1) s) ++ take (x .mark - x .after - 1) (drop (base + x .after + 1) s)
 pieceAt Entries s base x = entryAt s base x
 
@@ -70,7 +74,7 @@ pieceLen Confirmed x = 32 + (x .mark - x .after - 1)
 pieceLen Entries x = entryLen x
 
 pub record PieceIn (s : Bytes) (base : ℕ) (x : Seen) : Type 0 where
-  pub id : base + 45 ≤ length s
+  pub id : base + 46 ≤ length s
   pub up : x .after + 1 ≤ x .mark
   pub entry : EntryIn s base x
 

@@ -1,18 +1,20 @@
 -- The encoding that document 01 and docs/AREA.md say in plain words is that of the codecs.
 use mathlib.Core.Path.{_≡_, refl, ap, _∙_}
+use mathlib.Core.Bool.{Bool, true, false}
 use mathlib.Core.Option.{Option, none, some}
-use mathlib.Core.List.{List, [], _∷_, _++_}
+use mathlib.Core.List.{List, [], _∷_, _++_, append-assoc}
 use Prim.Native.Nat.{ℕ}
 use lib.ListN.{length}
 use Rattle.queue.specs.Codec.{Codec, be, byteC, beC, pairC, mapC, optC, optEnc, vecC, countedC, encs}
-use Rattle.queue.specs.Frames.{tagC, idC, labelC, termsC, heldC, bodyC, placeC, recK, recC, limitsC, headK}
+use Rattle.queue.specs.Choice.{fixC, sinceC, thenC}
+use Rattle.queue.specs.Frames.{tagC, idC, labelC, termsC, heldC, bodyC, placeC, callerC, recK, recC, fourC, sixteenC, sharesC, limitsK, limitsC, headK}
 use Rattle.queue.specs.Forms.{headFor, storeOf, formC, lineEnc, recIn, textForm, queueC, queue-enc, image-enc}
-use Rattle.queue.specs.Kinds.{rec-enc}
+use Rattle.queue.specs.Kinds.{mark-enc}
 use Rattle.queue.specs.Areas.{layout, image}
-use Rattle.queue.specs.paper.Records.{Bytes, Id, Terms, Held, Rec, Queue}
+use Rattle.queue.specs.paper.Records.{Bytes, Id, Limits, Terms, Held, Rec, Queue}
 use Rattle.queue.specs.paper.Lists.{map, concat}
-use Rattle.queue.specs.paper.Area.{flagged, termsBytes, placeBytes, heldBytes, recBytes, headUnder, queueBytes, areaBytes, line, imageUnder}
-use Rattle.queue.specs.paper.Kinds.{newest}
+use Rattle.queue.specs.paper.Area.{flagged, since, termsBytes, placeBytes, heldBytes, recUnder, recBytes, sharesBytes, headUnder, queueBytes, areaBytes, line, imageUnder}
+use Rattle.queue.specs.paper.Kinds.{newest, hasCallers, firstShare}
 
 pub bytes-plain : (s : Bytes) → encs byteC s ≡ s
 unfolding encs byteC
@@ -66,18 +68,44 @@ pub body-plain : (o : Option Held) → bodyC .enc o ≡ flagged heldBytes o
 unfolding bodyC
 body-plain o = opt-plain heldC heldBytes held-plain o
 
+since-plain : {A : Type 0} (has : Bool) (𝓐 : Codec A) (x a : A) → sinceC has 𝓐 x .enc a ≡ since has (𝓐 .enc a)
+unfolding fixC
+since-plain true 𝓐 x a = refl
+since-plain false 𝓐 x a = refl
+
+pub caller-plain : (k c : ℕ) → callerC k .enc c ≡ since (hasCallers k) (be 1 c)
+unfolding beC
+caller-plain k c = since-plain (hasCallers k) (beC 1) 0 c
+
+pub rec-under : (k : ℕ) (r : Rec) → recK k .enc r ≡ recUnder k r
+unfolding recK recUnder mapC pairC tagC beC
+rec-under k r = rw (id-plain (r .id), caller-plain k (r .caller), terms-plain (r .terms), place-plain (r .place), mark-enc k (r .mark), body-plain (r .body))
+
 pub rec-plain : (r : Rec) → recC .enc r ≡ recBytes r
-unfolding recK recBytes mapC pairC tagC beC
-rec-plain r = rw (id-plain (r .id), terms-plain (r .terms), place-plain (r .place), body-plain (r .body))
+rec-plain r = rec-under newest r
 
 pub recs-plain : (l : List Rec) → encs recC l ≡ concat (map recBytes l)
 unfolding encs
 recs-plain [] = refl
 recs-plain (r ∷ l) = rw (rec-plain r, recs-plain l)
 
+pub numbers-plain : (l : List ℕ) → encs (beC 4) l ≡ sharesBytes l
+unfolding encs beC sharesBytes
+numbers-plain [] = refl
+numbers-plain (n ∷ l) = ap (λ (z : Bytes). be 4 n ++ z) (numbers-plain l)
+
+pub shares-plain : (l : List ℕ) → sixteenC .enc l ≡ sharesBytes l
+unfolding sixteenC vecC
+shares-plain l = numbers-plain l
+
+-- the limits, and the shares where the kind has them
+pub limits-plain : (k : ℕ) (m : Limits) → limitsK k .enc m ≡ (be 4 (m .P) ++ (be 4 (m .B) ++ (be 4 (m .T) ++ be 4 (m .K)))) ++ since (hasCallers k) (sharesBytes (m .shares))
+unfolding limitsK mapC thenC fourC pairC beC
+limits-plain k m = rw (since-plain (hasCallers k) sixteenC (firstShare (m .P)) (m .shares), shares-plain (m .shares))
+
 pub head-plain : (k : ℕ) (q : Queue) → headK k .enc (headFor (storeOf q)) ≡ headUnder k q
-unfolding headK headUnder limitsC mapC pairC tagC beC
-head-plain k q = rw (opt-plain idC (λ i. i) id-plain (q .tip))
+unfolding headK headUnder mapC pairC tagC beC
+head-plain k q = rw (opt-plain idC (λ i. i) id-plain (q .tip), limits-plain k (q .limits)) (simp append-assoc)
 
 pub queue-plain : (q : Queue) → queueC .enc q ≡ queueBytes q
 unfolding queueBytes
@@ -87,10 +115,10 @@ pub area-plain : (q : Queue) → layout q ≡ areaBytes q
 unfolding layout areaBytes
 area-plain q = rw (queue-plain q)
 
-lines-plain : (k : ℕ) (l : List Rec) → encs (recIn (textForm k)) l ≡ concat (map (λ r. line (recBytes r)) l)
+lines-plain : (k : ℕ) (l : List Rec) → encs (recIn (textForm k)) l ≡ concat (map (λ r. line (recUnder k r)) l)
 unfolding encs formC lineEnc
 lines-plain k [] = refl
-lines-plain k (r ∷ l) = rw (rec-enc k r, rec-plain r, lines-plain k l)
+lines-plain k (r ∷ l) = rw (rec-under k r, lines-plain k l)
 
 pub image-plain : (k : ℕ) (q : Queue) → image k q ≡ imageUnder k q
 unfolding image lineEnc imageUnder

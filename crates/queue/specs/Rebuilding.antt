@@ -59,7 +59,7 @@ tailLen x n = cond (eqb n 0) (x .size - (x .mark + 1)) 9
 
 unfoldable pub nextBytes : Bytes → ℕ → Seen → Bytes → Verdict → ℕ → Bytes
 nextBytes s base x t v n =
-    (((leadBytes (x .id) (stateN (v .what) n (x .facts)) (reasonN (v .what) n (x .facts)) ++ take (x .after - termsAt) (drop (base + termsAt) s)) ++ placeN s base x t v)
+    (((leadBytes (x .id) (x .facts .caller) (stateN (v .what) n (x .facts)) (reasonN (v .what) n (x .facts)) ++ take (x .after - termsAt) (drop (base + termsAt) s)) ++ placeN s base x t v)
     ++ be 1 (markN (v .what) (x .facts))) ++ tailN s base x n
 
 abbrev pub nextLen : Seen → Verdict → ℕ → ℕ

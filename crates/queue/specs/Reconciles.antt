@@ -96,7 +96,7 @@ confirm-mark s n h m a b = cases (eqb s expired && eqb n 3)
 
 confirm-right : (K c : ℕ) (a : Applied) (r : Rec) → Right K c r → Right K c (confirm a r)
 unfolding confirm
-confirm-right K c a r h = record { held = refl; reason = refl; place = refl; mark = confirm-mark (r .state) (r .reason) (holder? r) (r .mark) (h .held) (h .mark); finish = h .finish; label = h .label; ins = h .ins; outs = h .outs; size = h .size }
+confirm-right K c a r h = record { held = refl; reason = refl; place = refl; mark = confirm-mark (r .state) (r .reason) (holder? r) (r .mark) (h .held) (h .mark); caller = h .caller; finish = h .finish; label = h .label; ins = h .ins; outs = h .outs; size = h .size }
 
 held-now : (s : ℕ) (h : Bool) → h ≡ true → pending? s ≡ true → heldRight? s h ≡ true
 held-now s h e p = rw (e, p)
@@ -111,6 +111,7 @@ judged-right state reason p w K c r t h =
       reason = w;
       place = no-place state (isSome (r .place)) k (pending-mined state p);
       mark = no-mark state (r .mark) (holder? r) m;
+      caller = h .caller;
       finish = h .finish;
       label = h .label;
       ins = h .ins;
@@ -134,9 +135,9 @@ module _ (c : Reconciling) (own : List Id) (ok : All AppliedOk (c .applied)) whe
   pub touched-fields : (r : Rec) → Fields r → Fields (touched r)
   unfolding confirm placeC optC pairC beC
   touched-fields r h = touch-cases Fields c own ok r h
-      (λ a k. record { id = h .id; state = omega arith; reason = omega arith; terms = h .terms; place = k; mark = pick (eqb (r .state) expired && eqb (r .reason) 3) 3 _ (omega arith) (pick (eqb (r .state) cancelled || eqb (r .state) expired) (r .state) (r .mark) (h .state) (h .mark)); finish = h .finish; body = h .body })
-      (λ p. record { id = h .id; state = omega arith; reason = omega arith; terms = h .terms; place = h .place; mark = h .mark; finish = h .finish; body = h .body })
-      (λ p. record { id = h .id; state = omega arith; reason = omega arith; terms = h .terms; place = h .place; mark = h .mark; finish = h .finish; body = h .body })
+      (λ a k. record { id = h .id; caller = h .caller; state = omega arith; reason = omega arith; terms = h .terms; place = k; mark = pick (eqb (r .state) expired && eqb (r .reason) 3) 3 _ (omega arith) (pick (eqb (r .state) cancelled || eqb (r .state) expired) (r .state) (r .mark) (h .state) (h .mark)); finish = h .finish; body = h .body })
+      (λ p. record { id = h .id; caller = h .caller; state = omega arith; reason = omega arith; terms = h .terms; place = h .place; mark = h .mark; finish = h .finish; body = h .body })
+      (λ p. record { id = h .id; caller = h .caller; state = omega arith; reason = omega arith; terms = h .terms; place = h .place; mark = h .mark; finish = h .finish; body = h .body })
     where
       pick : (t : Bool) (a b : ℕ) → a < 256 → b < 256 → cond t a b < 256
       pick true a b x y = x
@@ -263,6 +264,7 @@ released-right K c d k r t a b h = record {
   reason = refl;
   place = mined-place (r .state) (isSome (r .place)) t (h .place);
   mark = tomb-mark (r .state) (holder? r) (r .mark) (h .mark);
+  caller = h .caller;
   finish = in-range d k a b;
   label = h .label;
   ins = omega arith;

@@ -90,8 +90,8 @@ WholeTo s c d d′ = (q : Queue) → readArea s ≡ some q → d′ ≡ over (ar
 abbrev pub FloorFor : Bytes → Area → ℕ → ℕ → Type 0
 FloorFor s a g f =
     (g ≡ 0 → f ≡ 0)
-    × ((g ≡ 0 → ⊥) → ((sum Tombstones (listAt (formC false recC) (a .open .head .count) s (a .open .start)) + g ≤ a .open .head .t) × (f ≡ 0))
-    ⊎ ((x : ℕ) → ltb (above (a .open .head .counter .0) g (listAt (formC false recC) (a .open .head .count) s (a .open .start)) x) (a .open .head .t) ≡ leb f x))
+    × ((g ≡ 0 → ⊥) → ((sum Tombstones (listAt (formC false recC) (a .open .head .count) s (a .open .start)) + g ≤ a .open .head .limits .t) × (f ≡ 0))
+    ⊎ ((x : ℕ) → ltb (above (a .open .head .counter .0) g (listAt (formC false recC) (a .open .head .count) s (a .open .start)) x) (a .open .head .limits .t) ≡ leb f x))
 
 -- the answer's bytes, where ids are those of the places gone
 unfoldable pub goneBytes : Bytes → Bool → List ℕ → Bytes

@@ -56,13 +56,13 @@ unfoldable pub reasonF : Facts → ℕ
 reasonF f = cond (eqb (f .mark) 0) (cond (f .holder) 4 3) (cond (eqb (f .mark) 4) 1 (cond (eqb (f .mark) 5) 2 3))
 
 -- a record's bytes up to its terms
-unfoldable pub leadBytes : Id → ℕ → ℕ → Bytes
-leadBytes id state reason = (((2 ∷ []) ++ id) ++ be 1 state) ++ be 1 reason
+unfoldable pub leadBytes : Id → ℕ → ℕ → ℕ → Bytes
+leadBytes id caller state reason = ((((2 ∷ []) ++ id) ++ be 1 caller) ++ be 1 state) ++ be 1 reason
 
 -- the bytes of a record that was read at base, reopened; and of what becomes of it
 unfoldable pub reopenedBytes : Bytes → ℕ → Seen → Bytes
 reopenedBytes s base x =
-    ((leadBytes (x .id) (stateF (x .facts)) (reasonF (x .facts)) ++ take (x .after - termsAt) (drop (base + termsAt) s)) ++ be 2 0)
+    ((leadBytes (x .id) (x .facts .caller) (stateF (x .facts)) (reasonF (x .facts)) ++ take (x .after - termsAt) (drop (base + termsAt) s)) ++ be 2 0)
     ++ take (x .size - (x .mark + 1)) (drop (base + (x .mark + 1)) s)
 
 abbrev pub reopenedLen : Seen → ℕ

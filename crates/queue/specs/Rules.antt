@@ -8,18 +8,18 @@ use lib.Dec.{ltb, leb, eqb}
 use lib.ListN.{length}
 use Rattle.queue.specs.paper.Records.{Rec}
 use Rattle.queue.specs.paper.Lists.{one, total}
-use Rattle.queue.specs.paper.Sound.{pending?, heldRight?, reasonRight?, placeRight?, markRight?, finishRight?, sizesRight?, right?, holders, holderBytes, minedHolders, minedBytes, tombstones}
+use Rattle.queue.specs.paper.Sound.{pending?, heldRight?, reasonRight?, placeRight?, markRight?, finishRight?, sizesRight?, right?, holders, holderBytes, minedHolders, minedBytes, tombstones, callerRight?}
 use Rattle.queue.specs.paper.Changing.{reached?, due?, higher}
 use Rattle.queue.specs.Facts.{factsOf}
 use Rattle.queue.specs.declared.frame.Facts.{Facts}
 use Rattle.queue.specs.declared.rules.Query.{Query}
-use Rattle.queue.specs.declared.rules.Query.the-variants.{Holders, HeldBytes, MinedHolders, MinedBytes, Tombstones, Due}
+use Rattle.queue.specs.declared.rules.Query.the-variants.{Holders, HeldBytes, MinedHolders, MinedBytes, Tombstones, Due, PendingOf}
 
 unfoldable pub rightF : ℕ → ℕ → Facts → Bool
 rightF k c f =
     ((heldRight? (f .state) (f .holder) && reasonRight? (f .state) (f .reason))
     && (placeRight? (f .state) (f .placed) && markRight? (f .state) (f .holder) (f .mark)))
-    && (finishRight? c (f .holder) (f .finish .0) && sizesRight? k (f .label) (f .ins) (f .outs) (f .holder) (f .size) (f .bytes))
+    && ((callerRight? (f .caller) && finishRight? c (f .holder) (f .finish .0)) && sizesRight? k (f .label) (f .ins) (f .outs) (f .holder) (f .size) (f .bytes))
 
 unfoldable pub dueF : ℕ → ℕ → Facts → Bool
 dueF now height f = pending? (f .state) && ((f .timed && leb (f .due .0) now) || (f .heighted && leb (f .dueheight .0) height))
@@ -35,6 +35,7 @@ weight MinedHolders f = one (eqb (f .state) 2 && f .holder)
 weight MinedBytes f = cond (eqb (f .state) 2) (f .bytes) 0
 weight Tombstones f = one (not (f .holder))
 weight (Due t h) f = one (dueF (t .0) (h .0) f)
+weight (PendingOf c) f = one (pending? (f .state) && eqb (f .caller) c)
 
 unfoldable pub sum : Query → List Rec → ℕ
 sum q l = total (λ r. weight q (factsOf r)) l

@@ -15,7 +15,7 @@ use Rattle.queue.specs.ReadingAs.{partIn}
 use Rattle.queue.specs.paper.Records.{Bytes, Id, Held, Rec, Queue}
 use Rattle.queue.specs.paper.Lists.{find, map, concat}
 use Rattle.queue.specs.paper.Sound.{need}
-use Rattle.queue.specs.paper.Area.{flagged, termsBytes, placeBytes, heldBytes, recBytes, headBytes, queueBytes, areaBytes}
+use Rattle.queue.specs.paper.Area.{flagged, termsBytes, placeBytes, heldBytes, recUnder, recBytes, headBytes, queueBytes, areaBytes}
 use Rattle.queue.specs.paper.Changing.{named?}
 use Rattle.queue.specs.paper.Calls.{endOf, signedPart}
 
@@ -37,9 +37,9 @@ body-ends none h e = let z : _≡_ {A = ℕ} 0 1 = cc in absurd (omega arith)
 body-ends (some x) h e = let k : x ≡ h = cc in rw k (behind (1 ∷ []) (held-ends h))
 
 rec-ends : (r : Rec) (h : Held) → r .body ≡ some h → Ends (recBytes r) (h .bytes)
-unfolding recBytes
+unfolding recUnder
 rec-ends r h e =
-    behind (2 ∷ []) (behind (r .id) (behind (be 1 (r .state)) (behind (be 1 (r .reason)) (behind (termsBytes (r .terms)) (behind (placeBytes (r .place)) (behind (be 1 (r .mark)) (behind (be 8 (r .finish)) (body-ends (r .body) h e))))))))
+    behind (2 ∷ []) (behind (r .id) (behind (be 1 (r .caller)) (behind (be 1 (r .state)) (behind (be 1 (r .reason)) (behind (termsBytes (r .terms)) (behind (placeBytes (r .place)) (behind (be 1 (r .mark)) (behind (be 8 (r .finish)) (body-ends (r .body) h e)))))))))
 
 -- the frame of the first record of an id stands among the frames, and ends where `endOf` says
 record Among (i : Id) (l : List Rec) (r : Rec) : Type 0 where

@@ -1,22 +1,23 @@
 -- A sound queue as a record with named parts, and the numbers that fit their fields.
 use mathlib.Core.Path.{_≡_, refl, sym, _∙_}
-use mathlib.Core.Bool.{Bool, true, false, not, _||_}
+use mathlib.Core.Bool.{Bool, true, false, not, _&&_, _||_}
 use mathlib.Core.List.{List, [], _∷_}
 use Prim.Native.Nat.{ℕ, _+_, _*_, _^_, _≤_, _<_}
 use native.Mathlib.Omega.{arith}
-use lib.Dec.{eqb}
+use lib.Dec.{leb, eqb}
 use lib.ListN.{length}
 use borrow.Author.Tests.{leb-true, le-leb, eqb-true, eqb-false, eq-eqb, ne-eqb, not-true}
-use Rattle.queue.specs.Codec.{cases, All, beC, pairC, mapC, optC}
+use Rattle.queue.specs.Codec.{cases, All, beC, pairC, mapC, optC, vecC}
+use Rattle.queue.specs.Choice.{thenC}
 use Rattle.queue.specs.Lists.{Pairwise, and-true, and-both, all-of, of-all, all-map}
 use Rattle.queue.specs.ReadLaws.{false-true}
-use Rattle.queue.specs.Frames.{tagC, idC, termsC, placeC, bodyC, recK, recC, limitsC, headK}
+use Rattle.queue.specs.Frames.{tagC, idC, termsC, placeC, bodyC, recK, recC, fourC, sixteenC, limitsK, limitsC, headK}
 use Rattle.queue.specs.Forms.{areaForm, storeOf, queueC, store-ok, ok-store, queue-ok, ok-queue}
 use Rattle.queue.specs.Order.{same-is, same-self, below-trans, or-false, or-true}
 use Rattle.queue.specs.paper.Records.{Id, Limits, Rec, Queue}
 use Rattle.queue.specs.paper.Lists.{isSome, one, all?, count, map}
 use Rattle.queue.specs.paper.Ids.{below?, same?, rise?}
-use Rattle.queue.specs.paper.Sound.{inRange, holder?, inputs, outputs, content, labelLen, holders, holderBytes, minedHolders, minedBytes, tombstones, heldRight?, among?, used?, clash?, apart?, reasonRight?, placeRight?, markRight?, finishRight?, stamped?, distinct?, right?, counts?, sound?}
+use Rattle.queue.specs.paper.Sound.{inRange, sharesRight?, limitsRight?, holder?, inputs, outputs, content, labelLen, holders, holderBytes, minedHolders, minedBytes, tombstones, heldRight?, among?, used?, clash?, apart?, reasonRight?, placeRight?, markRight?, finishRight?, stamped?, distinct?, right?, counts?, sound?}
 
 -- the rules of one record
 pub record Right (K counter : ℕ) (r : Rec) : Type 0 where
@@ -24,6 +25,7 @@ pub record Right (K counter : ℕ) (r : Rec) : Type 0 where
   pub reason : reasonRight? (r .state) (r .reason) ≡ true
   pub place : placeRight? (r .state) (isSome (r .place)) ≡ true
   pub mark : markRight? (r .state) (holder? r) (r .mark) ≡ true
+  pub caller : r .caller ≤ 15
   pub finish : finishRight? counter (holder? r) (r .finish) ≡ true
   pub label : labelLen (r .terms .label) ≤ 200
   pub ins : length (inputs (r .body)) ≤ K
@@ -38,6 +40,7 @@ right-of K c r e =
     let b0 = and-true _ _ (b .0) in
     let b1 = and-true _ _ (b .1) in
     let d = and-true _ _ (a .1) in
+    let d0 = and-true _ _ (d .0) in
     let f = and-true _ _ (d .1) in
     let g = and-true _ _ (f .0) in
     let h = and-true _ _ (g .1) in
@@ -46,7 +49,8 @@ right-of K c r e =
       reason = b0 .1;
       place = b1 .0;
       mark = b1 .1;
-      finish = d .0;
+      caller = leb-true _ _ (d0 .0);
+      finish = d0 .1;
       label = leb-true _ _ (g .0);
       ins = leb-true _ _ (h .0);
       outs = leb-true _ _ (h .1);
@@ -58,9 +62,9 @@ unfolding right?
 of-right K c r h =
     and-both _ _
     (and-both _ _ (and-both _ _ (h .held) (h .reason)) (and-both _ _ (h .place) (h .mark)))
-    (and-both _ _ (h .finish) (and-both _ _ (and-both _ _ (le-leb _ _ (h .label)) (and-both _ _ (le-leb _ _ (h .ins)) (le-leb _ _ (h .outs)))) (h .size)))
+    (and-both _ _ (and-both _ _ (le-leb _ _ (h .caller)) (h .finish)) (and-both _ _ (and-both _ _ (le-leb _ _ (h .label)) (and-both _ _ (le-leb _ _ (h .ins)) (le-leb _ _ (h .outs)))) (h .size)))
 
--- limits in range
+-- limits in range, and shares
 pub record InRange (m : Limits) : Type 0 where
   pub P-low : 1 ≤ m .P
   pub P-high : m .P ≤ 1024
@@ -70,10 +74,13 @@ pub record InRange (m : Limits) : Type 0 where
   pub T-high : m .T ≤ 1024
   pub K-low : 1 ≤ m .K
   pub K-high : m .K ≤ 128
+  pub shares : sharesRight? m ≡ true
 
-pub range-of : (m : Limits) → inRange m ≡ true → InRange m
+pub range-of : (m : Limits) → limitsRight? m ≡ true → InRange m
 unfolding inRange
-range-of m e =
+range-of m z =
+    let y = and-true (inRange m) (sharesRight? m) z in
+    let e = y .0 in
     let a = and-true _ _ e in
     let b = and-true _ _ (a .0) in
     let d = and-true _ _ (a .1) in
@@ -90,14 +97,15 @@ range-of m e =
       T-high = leb-true _ _ (t .1);
       K-low = leb-true _ _ (k .0);
       K-high = leb-true _ _ (k .1);
+      shares = y .1;
     }
 
-pub of-range : (m : Limits) → InRange m → inRange m ≡ true
+pub of-range : (m : Limits) → InRange m → limitsRight? m ≡ true
 unfolding inRange
 of-range m h =
-    and-both _ _
+    and-both (inRange m) (sharesRight? m) (and-both _ _
     (and-both _ _ (and-both _ _ (le-leb _ _ (h .P-low)) (le-leb _ _ (h .P-high))) (and-both _ _ (le-leb _ _ (h .B-low)) (le-leb _ _ (h .B-high))))
-    (and-both _ _ (and-both _ _ (le-leb _ _ (h .T-low)) (le-leb _ _ (h .T-high))) (and-both _ _ (le-leb _ _ (h .K-low)) (le-leb _ _ (h .K-high))))
+    (and-both _ _ (and-both _ _ (le-leb _ _ (h .T-low)) (le-leb _ _ (h .T-high))) (and-both _ _ (le-leb _ _ (h .K-low)) (le-leb _ _ (h .K-high))))) (h .shares)
 
 -- "ids strictly rising", between any two records
 abbrev pub Before : Rec → Rec → Type 0
@@ -241,7 +249,7 @@ pub record Sound (m : Limits) (counter : ℕ) (l : List Rec) : Type 0 where
 pub sound-of : (q : Queue) → sound? q ≡ true → Sound (q .limits) (q .counter) (q .recs)
 unfolding sound? counts?
 sound-of q e =
-    let a = and-true (inRange (q .limits)) _ e in
+    let a = and-true (limitsRight? (q .limits)) _ e in
     let b = and-true (counts? (q .limits) (q .recs)) _ (a .1) in
     let c = and-true _ _ (b .0) in
     let c0 = and-true _ _ (c .0) in
@@ -279,6 +287,7 @@ of-sound q s =
 
 pub record Fields (r : Rec) : Type 0 where
   pub id : idC .ok (r .id)
+  pub caller : r .caller < 256
   pub state : r .state < 256
   pub reason : r .reason < 256
   pub terms : termsC .ok (r .terms)
@@ -291,18 +300,19 @@ pub fields-of : (r : Rec) → recC .ok r → Fields r
 unfolding recK mapC pairC beC tagC
 fields-of r h = record {
   id = h .1 .0;
-  state = h .1 .1 .0;
-  reason = h .1 .1 .1 .0;
-  terms = h .1 .1 .1 .1 .0;
-  place = h .1 .1 .1 .1 .1 .0;
-  mark = h .1 .1 .1 .1 .1 .1 .0;
-  finish = h .1 .1 .1 .1 .1 .1 .1 .0;
-  body = h .1 .1 .1 .1 .1 .1 .1 .1;
+  caller = h .1 .1 .0;
+  state = h .1 .1 .1 .0;
+  reason = h .1 .1 .1 .1 .0;
+  terms = h .1 .1 .1 .1 .1 .0;
+  place = h .1 .1 .1 .1 .1 .1 .0;
+  mark = h .1 .1 .1 .1 .1 .1 .1 .0;
+  finish = h .1 .1 .1 .1 .1 .1 .1 .1 .0;
+  body = h .1 .1 .1 .1 .1 .1 .1 .1 .1;
 }
 
 pub of-fields : (r : Rec) → Fields r → recC .ok r
 unfolding recK mapC pairC beC tagC
-of-fields r h = (omega arith, (h .id, (h .state, (h .reason, (h .terms, (h .place, (h .mark, (h .finish, h .body))))))))
+of-fields r h = (omega arith, (h .id, (h .caller, (h .state, (h .reason, (h .terms, (h .place, (h .mark, (h .finish, h .body)))))))))
 
 -- a sound queue whose numbers fit
 pub record Fit (q : Queue) : Type 0 where
@@ -330,14 +340,20 @@ fit-of q e o =
       recs = all-map (q .recs) fields-of (b .1);
     }
 
+shares-small : (P : ℕ) (l : List ℕ) → P ≤ 1024 → all? (λ n. leb n P) l ≡ true → All (beC 4 .ok) l
+unfolding beC
+shares-small P [] h e = tt
+shares-small P (n ∷ l) h e = let t = and-true (leb n P) _ e in let k = leb-true n P (t .0) in (omega arith, shares-small P l h (t .1))
+
 limits-ok : (m : Limits) → InRange m → limitsC .ok m
-unfolding limitsC mapC pairC beC
+unfolding limitsK fourC sixteenC vecC mapC thenC pairC beC sharesRight?
 limits-ok m h =
     let p = h .P-high in
     let b = h .B-high in
     let t = h .T-high in
     let k = h .K-high in
-    (omega arith, (omega arith, (omega arith, omega arith)))
+    let z = and-true (eqb (length (m .shares)) 16) _ (h .shares) in
+    ((omega arith, (omega arith, (omega arith, omega arith))), (shares-small (m .P) (m .shares) (h .P-high) (z .1), eqb-true (length (m .shares)) 16 (z .0)))
 
 pub fit-sound : (q : Queue) → Fit q → sound? q ≡ true
 fit-sound q f = of-sound q (f .sound)

@@ -14,6 +14,7 @@ use super::head::FRONT;
 use super::head::Marks;
 use super::head::put_front;
 use super::head::tip_len;
+use super::limits::Limits;
 use super::logic::both;
 use super::logic::either;
 use super::put::copy_part;
@@ -25,9 +26,11 @@ use super::reading::entry_len;
 use super::reading::find_id;
 use super::reading::put_entry;
 use super::reopen::put_lead;
+use super::rules::Query;
 use super::rules::height_reached;
 use super::rules::pending;
 use super::rules::time_reached;
+use super::scan::tally;
 use super::view::cmp_id;
 use super::view::id_at;
 use super::view::size;
@@ -45,7 +48,7 @@ ghost use Rattle.queue.specs.Frames.{recC};
 ghost use Rattle.queue.specs.Reads.{whole, listAt};
 ghost use Rattle.queue.specs.Forms.{formC};
 ghost use Rattle.queue.specs.Fronts.{tipOf};
-ghost use Rattle.queue.specs.Admitting.{newOf, optLen, labelSize, termsLen, heldLen, newLen, newTerms, heldOf, TermsFit, HeldFit, putF, recIf, keepBytes, WithFrom, WithTo, RoomIs, entryNewLen, argsOf, NumbersFit, LentIn, AskedIn, FreeOf, TipFor, NewTold, FoundTold, AdmitTold, ListsAre, FlagsAre};
+ghost use Rattle.queue.specs.Admitting.{newOf, optLen, labelSize, termsLen, heldLen, newLen, newTerms, heldOf, TermsFit, HeldFit, putF, recIf, keepBytes, WithFrom, WithTo, PendingsAre, FullIs, RoomIs, entryNewLen, argsOf, NumbersFit, LentIn, AskedIn, FreeOf, TipFor, NewTold, FoundTold, AdmitTold, ListsAre, FlagsAre};
 ghost use Rattle.queue.specs.CallsAs.{AreaIn, FoundIn};
 ghost use Rattle.queue.specs.Writes.{HeadIn};
 ghost use Rattle.queue.specs.paper.Sound.{labelLen};
@@ -55,6 +58,7 @@ ghost use Rattle.queue.specs.paper.Calls.{given, entryBytes, givenId?, a
 
 // The numbers that an admission is asked with.
 pub struct Asked {
+    pub caller: u64,
     pub now: Time,
     pub timeflag: u64,
     pub time: Time,
@@ -142,7 +146,7 @@ fn put_new(
     requires { ⌜ TermsFit x (now label) (length (now bytes)) × HeldFit (now inputs) (now outputs) (now bytes) × (at + newLen x (now inputs) (now outputs) (now bytes) (now label) ≤ length (now dst)) ⌝ }
     ensures { λ r. ⌜ Put (now (dst .entry)) at (recC .enc (newOf x id (now (inputs .entry)) (now (outputs .entry)) (now (bytes .entry)) (now (label .entry)))) (newLen x (now (inputs .entry)) (now (outputs .entry)) (now (bytes .entry)) (now (label .entry))) r (now (dst .exit)) ⌝ }
 {
-    let a = put_lead(id, 0, 0, dst, at);
+    let a = put_lead(id, x.caller, 0, 0, dst, at);
     let b = put_terms(x, label, bytes.len() as u64, dst, a);
     let c = fill_zero(dst, b, b + 10);
     put_held(inputs, outputs, bytes, dst, c)
@@ -258,21 +262,43 @@ fn put_with(
         counter: n,
         count: h.count + 1 - m,
     };
-    put_front(h.p, h.b, h.t, h.k, marks, tip, dst);
+    let l = h.limits;
+    put_front(l, marks, tip, dst);
     fill_zero(dst, e, a.need);
 }
 
-// Is there room for one more pending record of n bytes? 10 or 11 where there is not, else 0.
-fn room_for(s: &[u8], a: Area, n: u64) -> u64
-    requires { ⌜ AreaIn (now s) a ⌝ }
-    ensures { λ r. ⌜ RoomIs (now (s .entry)) n r ⌝ }
+// Do the pending records of a caller reach its share? n: all pending records. They are counted only where these do.
+fn share_full(s: &[u8], a: Area, caller: u64, n: u64) -> bool
+    requires { ⌜ AreaIn (now s) a × (caller ≤ 15) × PendingsAre (now s) n ⌝ }
+    ensures { λ r. ⌜ FullIs (now (s .entry)) caller r ⌝ }
 {
     let o = a.open;
     let h = o.head;
-    let b = h.b;
+    let l = h.limits;
+    let v = l.shares;
+    let m = Limits::share(v, caller);
+    if n < m {
+        return false;
+    }
+    m <= tally(s, o.start, h.count, Query::PendingOf(caller))
+}
+
+// Is there room for one more pending record of n bytes, of that caller? 10, 18 or 11 where there is not, else 0.
+fn room_for(s: &[u8], a: Area, caller: u64, n: u64) -> u64
+    requires { ⌜ AreaIn (now s) a × (caller ≤ 15) ⌝ }
+    ensures { λ r. ⌜ RoomIs (now (s .entry)) caller n r ⌝ }
+{
+    let o = a.open;
+    let h = o.head;
+    let l = h.limits;
+    let b = l.b;
     let u = o.sums;
-    if h.p <= u.holders - u.mined {
+    let m = u.holders - u.mined;
+    if l.p <= m {
         return 10;
+    }
+    if share_full(s, a, caller, m) {
+        return 18;
     }
     if b < n {
         return 11;
@@ -298,7 +324,8 @@ fn put_told(
 {
     let n = inputs.len();
     let a = put_id(dst, 0, id);
-    let b = put_be(dst, a, 2, 0);
+    let w = put_be(dst, a, 1, x.caller);
+    let b = put_be(dst, w, 2, 0);
     let c = put_terms(x, label, bytes.len() as u64, dst, b);
     let d = put_u8(dst, c, 0);
     let e = put_be(dst, d, 2, (n / 32) as u64);
@@ -319,8 +346,8 @@ fn label_size(flag: u64, label: &[u8]) -> usize
     if flag == 1 { 2 + label.len() } else { 1 }
 }
 
-// An entry without its terms and inputs: id, state, reason, mined flag, input count. And the terms that are always there.
-const ENTRY: usize = 37;
+// An entry without its terms and inputs: id, caller, state, reason, mined flag, input count. And the terms that are always there.
+const ENTRY: usize = 38;
 
 const FIXED_TERMS: usize = 32;
 
@@ -386,7 +413,7 @@ fn admit_free(
     tip: &[u8],
     out: &mut [u8],
 ) -> Answer
-    requires { ⌜ AreaIn (now cur) a × AskedIn x id (now inputs) (now outputs) (now bytes) (now label) (now tip) (a .open .head .k) × (RoomIs (now cur) (length (now bytes)) 0 × FreeOf (now cur) (now inputs)) × (a .need ≤ length (now next)) ⌝ }
+    requires { ⌜ AreaIn (now cur) a × AskedIn x id (now inputs) (now outputs) (now bytes) (now label) (now tip) (a .open .head .limits .k) × (RoomIs (now cur) (x .caller) (length (now bytes)) 0 × FreeOf (now cur) (now inputs)) × (a .need ≤ length (now next)) ⌝ }
     ensures { λ r. ⌜ NewTold (now (cur .entry)) (argsOf x id (now (inputs .entry)) (now (outputs .entry)) (now (bytes .entry)) (now (label .entry)) (now (tip .entry))) (outcome r (now (next .exit)) (now (out .exit))) (now (next .entry)) (now (out .entry)) ⌝ }
 {
     let n = entry_new_len(x, inputs, label);
@@ -416,7 +443,7 @@ fn admit_free(
     Answer::Done(Kind::Whole)
 }
 
-// No pending or Mined record has this id. Refusals 10, 11, 12.
+// No pending or Mined record has this id. Refusals 10, 18, 11, 12.
 fn admit_new(
     cur: &[u8],
     next: &mut [u8],
@@ -430,10 +457,10 @@ fn admit_new(
     tip: &[u8],
     out: &mut [u8],
 ) -> Answer
-    requires { ⌜ AreaIn (now cur) a × AskedIn x id (now inputs) (now outputs) (now bytes) (now label) (now tip) (a .open .head .k) × (a .need ≤ length (now next)) ⌝ }
+    requires { ⌜ AreaIn (now cur) a × AskedIn x id (now inputs) (now outputs) (now bytes) (now label) (now tip) (a .open .head .limits .k) × (a .need ≤ length (now next)) ⌝ }
     ensures { λ r. ⌜ NewTold (now (cur .entry)) (argsOf x id (now (inputs .entry)) (now (outputs .entry)) (now (bytes .entry)) (now (label .entry)) (now (tip .entry))) (outcome r (now (next .exit)) (now (out .exit))) (now (next .entry)) (now (out .entry)) ⌝ }
 {
-    let r = room_for(cur, a, bytes.len() as u64);
+    let r = room_for(cur, a, x.caller, bytes.len() as u64);
     if r != 0 {
         return Answer::Refused(r);
     }
@@ -461,7 +488,7 @@ fn admit_found(
     tip: &[u8],
     out: &mut [u8],
 ) -> Answer
-    requires { ⌜ FoundIn (now cur) a id at × AskedIn x id (now inputs) (now outputs) (now bytes) (now label) (now tip) (a .open .head .k) × (a .need ≤ length (now next)) ⌝ }
+    requires { ⌜ FoundIn (now cur) a id at × AskedIn x id (now inputs) (now outputs) (now bytes) (now label) (now tip) (a .open .head .limits .k) × (a .need ≤ length (now next)) ⌝ }
     ensures { λ r. ⌜ FoundTold (now (cur .entry)) (argsOf x id (now (inputs .entry)) (now (outputs .entry)) (now (bytes .entry)) (now (label .entry)) (now (tip .entry))) (outcome r (now (next .exit)) (now (out .exit))) (now (next .entry)) (now (out .entry)) ⌝ }
 {
     let y = rec_at(cur, at);
@@ -490,7 +517,7 @@ fn admit_named(
     tip: &[u8],
     out: &mut [u8],
 ) -> Answer
-    requires { ⌜ AreaIn (now cur) a × AskedIn x id (now inputs) (now outputs) (now bytes) (now label) (now tip) (a .open .head .k) × (a .need ≤ length (now next)) ⌝ }
+    requires { ⌜ AreaIn (now cur) a × AskedIn x id (now inputs) (now outputs) (now bytes) (now label) (now tip) (a .open .head .limits .k) × (a .need ≤ length (now next)) ⌝ }
     ensures { λ r. ⌜ FoundTold (now (cur .entry)) (argsOf x id (now (inputs .entry)) (now (outputs .entry)) (now (bytes .entry)) (now (label .entry)) (now (tip .entry))) (outcome r (now (next .exit)) (now (out .exit))) (now (next .entry)) (now (out .entry)) ⌝ }
 {
     let o = a.open;
@@ -535,7 +562,7 @@ fn admit_timely(
     tip: &[u8],
     out: &mut [u8],
 ) -> Answer
-    requires { ⌜ AreaIn (now cur) a × LentIn x id (now inputs) (now outputs) (now bytes) (now label) (now tip) (a .open .head .k) × (a .need ≤ length (now next)) ⌝ }
+    requires { ⌜ AreaIn (now cur) a × LentIn x id (now inputs) (now outputs) (now bytes) (now label) (now tip) (a .open .head .limits .k) × (a .need ≤ length (now next)) ⌝ }
     ensures { λ r. ⌜ AdmitTold (now (cur .entry)) (argsOf x id (now (inputs .entry)) (now (outputs .entry)) (now (bytes .entry)) (now (label .entry)) (now (tip .entry))) (outcome r (now (next .exit)) (now (out .exit))) (now (next .entry)) (now (out .entry)) ⌝ }
 {
     let t = x.now;
@@ -560,14 +587,14 @@ fn given_id(flag: u64, n: usize) -> bool
     both(flag <= 1, either(flag == 0, n == 32))
 }
 
-// Is the id whole, and are the lists?
-fn lists_whole(id: &[u8], inputs: &[u8], outputs: &[u8]) -> bool
-    ensures { λ r. ⌜ ListsAre (now (id .entry)) (now (inputs .entry)) (now (outputs .entry)) r ⌝ }
+// Is the id whole, and are the lists, and is there such a caller?
+fn lists_whole(id: &[u8], caller: u64, inputs: &[u8], outputs: &[u8]) -> bool
+    ensures { λ r. ⌜ ListsAre (now (id .entry)) caller (now (inputs .entry)) (now (outputs .entry)) r ⌝ }
 {
     let a = size(id, false, 0);
     let b = size(inputs, false, 0);
     let c = size(outputs, false, 0);
-    both(a == 32, both(b % 32 == 0, c % 32 == 0))
+    both(both(a == 32, caller <= 15), both(b % 32 == 0, c % 32 == 0))
 }
 
 // Are the flags listed, and is the tip whole where there is one?
@@ -610,25 +637,27 @@ fn admit_asked(
     if next.len() < a.need {
         return Answer::Refused(2);
     }
-    let l = lists_whole(id, inputs, outputs);
+    let l = lists_whole(id, x.caller, inputs, outputs);
     let f = flags_listed(x, bytes, label, tip);
     if !both(l, f) {
         return Answer::Refused(5);
     }
     let o = a.open;
     let h = o.head;
-    if over_k(h.k, inputs.len(), outputs.len()) {
+    let m = h.limits;
+    if over_k(m.k, inputs.len(), outputs.len()) {
         return Answer::Refused(6);
     }
     let k = id_at(id, false, 0, 0);
     admit_timely(cur, next, a, x, k, inputs, outputs, bytes, label, tip, out)
 }
 
-// Admission. Refusals 3, 2, 5, 6, 7, 8, 9, 10, 11, 12, 4.
+// Admission. Refusals 3, 2, 5, 6, 7, 8, 9, 10, 18, 11, 12, 4.
 pub fn admit(
     cur: &[u8],
     next: &mut [u8],
     id: &[u8],
+    caller: u8,
     inputs: &[u8],
     outputs: &[u8],
     bytes: &[u8],
@@ -647,9 +676,10 @@ pub fn admit(
     tip: &[u8],
     out: &mut [u8],
 ) -> Answer
-    ensures { λ r. ⌜ outcome r (now (next .exit)) (now (out .exit)) ≡ admitOf (now (cur .entry)) (now (next .entry)) (now (out .entry)) (admitArgs (now (id .entry)) (now (inputs .entry)) (now (outputs .entry)) (now (bytes .entry)) clock timeflag time heightflag height priority labelflag (now (label .entry)) fee cost tipheight tipflag (now (tip .entry))) ⌝ }
+    ensures { λ r. ⌜ outcome r (now (next .exit)) (now (out .exit)) ≡ admitOf (now (cur .entry)) (now (next .entry)) (now (out .entry)) (admitArgs (now (id .entry)) caller (now (inputs .entry)) (now (outputs .entry)) (now (bytes .entry)) clock timeflag time heightflag height priority labelflag (now (label .entry)) fee cost tipheight tipflag (now (tip .entry))) ⌝ }
 {
     let x = Asked {
+        caller: caller as u64,
         now: Time(clock),
         timeflag: timeflag as u64,
         time: Time(time),

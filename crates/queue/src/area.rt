@@ -26,7 +26,8 @@ ghost use Rattle.queue.specs.Frames.{recC};
 ghost use Rattle.queue.specs.Forms.{formC, recIn, storeIn};
 ghost use Rattle.queue.specs.Reads.{Reads, whole, listAt};
 ghost use Rattle.queue.specs.Sums.{SumsAs, countsN};
-ghost use Rattle.queue.specs.Opens.{limits, StoreAs, soundL, FilledAs, AreaIs};
+ghost use Rattle.queue.specs.Facts.{limitsIn};
+ghost use Rattle.queue.specs.Opens.{StoreAs, soundL, FilledAs, AreaIs};
 
 // A queue without its persisted height: its header, where its records start and end, and what they come to.
 pub struct Open {
@@ -39,12 +40,16 @@ pub struct Open {
 
 // No queue.
 pub fn no_store() -> Open {
-    let head = HeadR {
-        ok: false,
+    let limits = Limits {
         p: 0,
         b: 0,
         t: 0,
         k: 0,
+        shares: [0u8; 64],
+    };
+    let head = HeadR {
+        ok: false,
+        limits: limits,
         revision: 0,
         cursor: Height(0),
         tip: false,
@@ -90,7 +95,8 @@ pub fn store_at(s: &[u8], form: Form, base: usize) -> Open
     }
     let start = after_in(s, hex, base, h.size);
     let c = h.counter;
-    let p = frames(s, form, start, h.count, h.k, c);
+    let l = h.limits;
+    let p = frames(s, form, start, h.count, l.k, c);
     let a = p.sums;
     Open {
         ok: p.ok,
@@ -112,15 +118,16 @@ fn counts_ok(n: u64, p: u64, b: u64, t: u64, a: Sums) -> bool
 
 // The rules of a sound queue. Once the counts are right the tables of the last two are large enough.
 pub fn sound_at(s: &[u8], form: Form, x: Open) -> bool
-    requires { ⌜ (x .start ≤ length (now s)) × (whole (recIn form) (x .head .count) (now s) (x .start) ≡ true) × SumsAs (x .head .k) (x .head .counter) (x .sums) (listAt (recIn form) (x .head .count) (now s) (x .start)) ⌝ }
-    ensures { λ r. ⌜ r ≡ soundL (limits (x .head .p) (x .head .b) (x .head .t) (x .head .k)) (x .head .counter .0) (listAt (recIn form) (x .head .count) (now (s .entry)) (x .start)) ⌝ }
+    requires { ⌜ (x .start ≤ length (now s)) × (length (x .head .limits .shares) ≡ 64) × (whole (recIn form) (x .head .count) (now s) (x .start) ≡ true) × SumsAs (x .head .limits .k) (x .head .counter) (x .sums) (listAt (recIn form) (x .head .count) (now s) (x .start)) ⌝ }
+    ensures { λ r. ⌜ r ≡ soundL (limitsIn (x .head .limits)) (x .head .counter .0) (listAt (recIn form) (x .head .count) (now (s .entry)) (x .start)) ⌝ }
 {
     let h = x.head;
     let a = x.sums;
-    if !Limits::check(h.p, h.b, h.t, h.k) {
+    let l = h.limits;
+    if !Limits::right(l) {
         return false;
     }
-    if !counts_ok(h.count, h.p, h.b, h.t, a) {
+    if !counts_ok(h.count, l.p, l.b, l.t, a) {
         return false;
     }
     if !both(a.right, a.rises) {
@@ -141,14 +148,15 @@ pub struct Area {
 
 // The rules, and zeros behind the records up to what the limits need.
 fn filled(s: &[u8], x: Open) -> Span
-    requires { ⌜ (x .start ≤ length (now s)) × (whole (formC false recC) (x .head .count) (now s) (x .start) ≡ true) × SumsAs (x .head .k) (x .head .counter) (x .sums) (listAt (formC false recC) (x .head .count) (now s) (x .start)) × (x .next ≤ length (now s)) ⌝ }
+    requires { ⌜ (x .start ≤ length (now s)) × (length (x .head .limits .shares) ≡ 64) × (whole (formC false recC) (x .head .count) (now s) (x .start) ≡ true) × SumsAs (x .head .limits .k) (x .head .counter) (x .sums) (listAt (formC false recC) (x .head .count) (now s) (x .start)) × (x .next ≤ length (now s)) ⌝ }
     ensures { λ r. ⌜ FilledAs (now (s .entry)) x r ⌝ }
 {
     let h = x.head;
+    let l = h.limits;
     if !sound_at(s, AREA, x) {
         return Span { ok: false, next: 0 };
     }
-    let m = Limits::need(h.p, h.b, h.t, h.k);
+    let m = Limits::need(l);
     let e = x.next;
     if s.len() < m {
         return Span { ok: false, next: 0 };

@@ -113,7 +113,9 @@ fn put_end(src: &[u8], base: usize, x: Seen, state: u8, reason: u8, dst: &mut [u
 {
     let id = x.id;
     let m = x.mark;
-    let a = put_id(dst, 0, id);
+    let f = x.facts;
+    let w = put_id(dst, 0, id);
+    let a = put_be(dst, w, 1, f.caller);
     let b = put_u8(dst, a, state);
     let c = put_u8(dst, b, reason);
     let d = copy_part(src, base + TERMS, m - TERMS, dst, c);

@@ -101,8 +101,10 @@ fn put_finished(
 {
     let id = x.id;
     let m = x.mark;
+    let y = x.facts;
     let a = put_u8(dst, at, 2);
-    let b = put_id(dst, a, id);
+    let w = put_id(dst, a, id);
+    let b = put_be(dst, w, 1, y.caller);
     let c = put_u8(dst, b, state);
     let d = put_u8(dst, c, reason);
     let e = copy_part(src, base + TERMS, m + 1 - TERMS, dst, d);

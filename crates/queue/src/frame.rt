@@ -1,9 +1,12 @@
 // The frames of a header and of a record, read from a view. Every reader is total: what is short or bad has `ok` false.
+use super::limits::Limits;
 use super::logic::all4;
 use super::logic::all8;
 use super::logic::both;
 use super::logic::either;
 use super::near::rec_near;
+use super::put::copy_view;
+use super::put::put_be;
 use super::view::be;
 use super::view::fetch;
 use super::view::id_at;
@@ -12,9 +15,9 @@ ghost use mathlib.Core.Path.{_≡_};
 ghost use Prim.Native.Nat.{_+_, _≤_, _<_, _^_};
 ghost use lib.ListN.{length, getD};
 ghost use Rattle.queue.specs.Codec.{beC, optC};
-ghost use Rattle.queue.specs.Frames.{idC, labelC, termsC, placeC, bodyC, restK, recK, recC, limitsC, headK};
+ghost use Rattle.queue.specs.Frames.{idC, labelC, termsC, placeC, bodyC, restK, recK, recC, fourC, limitsK, headK};
 ghost use Rattle.queue.specs.Reads.{Reads, Span, OptSpan, Counted, flagC};
-ghost use Rattle.queue.specs.Facts.{TagAt, MarkAt, NumAt, OptAt, PlaceAs, TermsAs, BodyAs, RestAs, SeenAs, LimAs, HeadAs};
+ghost use Rattle.queue.specs.Facts.{TagAt, MarkAt, CallerAt, NumAt, OptAt, PlaceAs, TermsAs, BodyAs, RestAs, SeenUnder, SeenAs, LimAs, SharesAt, LimitsAs, HeadUnder};
 ghost use mathlib.Core.Bool.{true, false};
 ghost use Rattle.queue.specs.paper.Sound.{labelLen};
 ghost use Rattle.queue.specs.paper.Kinds.{kind?};
@@ -37,10 +40,13 @@ pub struct Form {
 }
 
 // The header kind that is written.
-pub const NEWEST: u8 = 3;
+pub const NEWEST: u8 = 4;
 
 // The header kind that brought the withdrawn mark 3.
 const MARK_3: u8 = 3;
+
+// The header kind that brought the caller and the shares.
+pub const CALLERS: u8 = 4;
 
 // The frames of an area.
 pub const AREA: Form = Form {
@@ -133,6 +139,7 @@ pub struct RestR {
 
 // What the rules look at in a record; what is absent is 0.
 pub struct Facts {
+    pub caller: u64,
     pub state: u64,
     pub reason: u64,
     pub created: Time,
@@ -153,10 +160,10 @@ pub struct Facts {
     pub bytes: u64,
 }
 
-// Where the terms of a record start: behind its kind, id, state and reason.
-pub const TERMS: usize = 35;
+// Where the terms of a record of an area start: behind its kind, id, caller, state and reason.
+pub const TERMS: usize = 36;
 
-// A record read. Its terms stand at TERMS..after, its place at after..mark, its withdrawn mark at mark, its holder flag at
+// A record read. Its terms end at after, its place at after..mark, its withdrawn mark at mark, its holder flag at
 // body, its inputs at at, its outputs at outs, its signed bytes at content; the frame ends at size.
 pub struct Seen {
     pub ok: bool,
@@ -180,13 +187,23 @@ pub struct Lim {
     pub next: usize,
 }
 
+// The shares as their bytes.
+pub struct SharesR {
+    pub ok: bool,
+    pub bytes: [u8; 64],
+    pub next: usize,
+}
+
+pub struct LimitsR {
+    pub ok: bool,
+    pub limits: Limits,
+    pub next: usize,
+}
+
 // A header read. Its cursor height and tip stand at marks..after, its counter at after; the frame ends at size.
 pub struct HeadR {
     pub ok: bool,
-    pub p: u64,
-    pub b: u64,
-    pub t: u64,
-    pub k: u64,
+    pub limits: Limits,
     pub revision: u64,
     pub cursor: Height,
     pub tip: bool,
@@ -507,13 +524,28 @@ fn rest_at(s: &[u8], form: Form, base: usize, at: usize) -> RestR
     }
 }
 
+// The caller where the kind has it; else 0.
+fn caller_at(s: &[u8], form: Form, base: usize, at: usize) -> NumR
+    ensures { λ r. ⌜ CallerAt (form .kind) (view (form .hex) (now (s .entry)) base) at (r .ok) (r .next) (r .value) ⌝ }
+{
+    if form.kind < CALLERS {
+        return NumR {
+            ok: true,
+            value: 0,
+            next: at,
+        };
+    }
+    num(s, form.hex, base, at, 1)
+}
+
 fn rec_any(s: &[u8], form: Form, base: usize) -> Seen
-    ensures { λ r. ⌜ Reads (recK (form .kind)) (view (form .hex) (now (s .entry)) base) 0 (r .ok) (r .size) (SeenAs (view (form .hex) (now (s .entry)) base) r) ⌝ }
+    ensures { λ r. ⌜ Reads (recK (form .kind)) (view (form .hex) (now (s .entry)) base) 0 (r .ok) (r .size) (SeenUnder (form .kind) (view (form .hex) (now (s .entry)) base) r) ⌝ }
 {
     let hex = form.hex;
     let a = tag_at(s, hex, base, 0, 2);
     let b = id_read(s, hex, base, a.next);
-    let c = num(s, hex, base, b.next, 1);
+    let w = caller_at(s, form, base, b.next);
+    let c = num(s, hex, base, w.next, 1);
     let d = num(s, hex, base, c.next, 1);
     let t = terms_at(s, hex, base, d.next);
     let e = rest_at(s, form, base, t.next);
@@ -524,6 +556,7 @@ fn rec_any(s: &[u8], form: Form, base: usize) -> Seen
     let mined = e.mined;
     let finish = e.finish;
     let facts = Facts {
+        caller: w.value,
         state: c.value,
         reason: d.value,
         created: created,
@@ -543,7 +576,7 @@ fn rec_any(s: &[u8], form: Form, base: usize) -> Seen
         outs: h.outs,
         bytes: h.bytes,
     };
-    let ok = all4(a.ok, b.ok, c.ok, all4(d.ok, t.ok, e.ok, true));
+    let ok = all4(a.ok, b.ok, w.ok, all4(c.ok, d.ok, t.ok, e.ok));
     let id = b.id;
     Seen {
         ok: ok,
@@ -581,7 +614,7 @@ pub fn rec_at(s: &[u8], base: usize) -> Seen
 
 // A record in any form.
 pub fn rec_in(s: &[u8], form: Form, base: usize) -> Seen
-    ensures { λ r. ⌜ Reads (recK (form .kind)) (view (form .hex) (now (s .entry)) base) 0 (r .ok) (r .size) (SeenAs (view (form .hex) (now (s .entry)) base) r) ⌝ }
+    ensures { λ r. ⌜ Reads (recK (form .kind)) (view (form .hex) (now (s .entry)) base) 0 (r .ok) (r .size) (SeenUnder (form .kind) (view (form .hex) (now (s .entry)) base) r) ⌝ }
 {
     if form.hex {
         return rec_any(s, form, base);
@@ -595,8 +628,9 @@ pub fn rec_in(s: &[u8], form: Form, base: usize) -> Seen
     rec_any(s, form, base)
 }
 
-pub fn limits_at(s: &[u8], hex: bool, base: usize, at: usize) -> Lim
-    ensures { λ r. ⌜ Reads limitsC (view hex (now (s .entry)) base) at (r .ok) (r .next) (LimAs r) ⌝ }
+// P, B, T and K.
+fn limits_at(s: &[u8], hex: bool, base: usize, at: usize) -> Lim
+    ensures { λ r. ⌜ Reads fourC (view hex (now (s .entry)) base) at (r .ok) (r .next) (LimAs r) ⌝ }
 {
     let a = num(s, hex, base, at, 4);
     let b = num(s, hex, base, a.next, 4);
@@ -610,6 +644,57 @@ pub fn limits_at(s: &[u8], hex: bool, base: usize, at: usize) -> Lim
         t: c.value,
         k: d.value,
         next: d.next,
+    }
+}
+
+// The sixteen shares where the kind has them; else P and fifteen zeros.
+fn shares_at(s: &[u8], form: Form, base: usize, at: usize, p: u64) -> SharesR
+    ensures { λ r. ⌜ SharesAt (form .kind) p (view (form .hex) (now (s .entry)) base) at r ⌝ }
+{
+    let mut v = [0u8; 64];
+    if form.kind < CALLERS {
+        put_be(&mut v, 0, 4, p);
+        return SharesR {
+            ok: true,
+            bytes: v,
+            next: at,
+        };
+    }
+    let q = span(s, form.hex, base, at, 64);
+    if q.ok {
+        copy_view(s, form.hex, base, at, 64, &mut v, 0);
+        return SharesR {
+            ok: true,
+            bytes: v,
+            next: q.next,
+        };
+    }
+    SharesR {
+        ok: false,
+        bytes: v,
+        next: 0,
+    }
+}
+
+// The limits with the shares.
+fn limits_in(s: &[u8], form: Form, base: usize, at: usize) -> LimitsR
+    ensures { λ r. ⌜ Reads (limitsK (form .kind)) (view (form .hex) (now (s .entry)) base) at (r .ok) (r .next) (LimitsAs r) ⌝ }
+{
+    let m = limits_at(s, form.hex, base, at);
+    let q = shares_at(s, form, base, m.next, m.p);
+    let ok = both(m.ok, q.ok);
+    let v = q.bytes;
+    let l = Limits {
+        p: m.p,
+        b: m.b,
+        t: m.t,
+        k: m.k,
+        shares: v,
+    };
+    LimitsR {
+        ok: ok,
+        limits: l,
+        next: q.next,
     }
 }
 
@@ -627,27 +712,25 @@ pub fn kind_at(s: &[u8], hex: bool, base: usize) -> u8
 pub fn known(kind: u8) -> bool
     ensures { λ r. ⌜ r ≡ kind? kind ⌝ }
 {
-    either(kind == 1, kind == 3)
+    either(kind == 1, either(kind == 3, kind == 4))
 }
 
 pub fn head_at(s: &[u8], form: Form, base: usize) -> HeadR
-    ensures { λ r. ⌜ Reads (headK (form .kind)) (view (form .hex) (now (s .entry)) base) 0 (r .ok) (r .size) (HeadAs (view (form .hex) (now (s .entry)) base) r) ⌝ }
+    ensures { λ r. ⌜ Reads (headK (form .kind)) (view (form .hex) (now (s .entry)) base) 0 (r .ok) (r .size) (HeadUnder (form .kind) (view (form .hex) (now (s .entry)) base) r) ⌝ }
 {
     let hex = form.hex;
     let a = tag_at(s, hex, base, 0, form.kind);
-    let m = limits_at(s, hex, base, a.next);
+    let m = limits_in(s, form, base, a.next);
     let r = num(s, hex, base, m.next, 8);
     let c = num(s, hex, base, r.next, 4);
     let i = opt_span(s, hex, base, c.next, 32);
     let f = num(s, hex, base, i.next, 8);
     let n = num(s, hex, base, f.next, 4);
     let ok = all4(a.ok, m.ok, r.ok, all4(c.ok, i.ok, f.ok, n.ok));
+    let l = m.limits;
     HeadR {
         ok: ok,
-        p: m.p,
-        b: m.b,
-        t: m.t,
-        k: m.k,
+        limits: l,
         revision: r.value,
         cursor: Height(c.value),
         tip: i.has,

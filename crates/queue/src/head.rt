@@ -2,26 +2,31 @@
 use super::frame::Finish;
 use super::frame::Height;
 use super::frame::NEWEST;
+use super::limits::Limits;
+use super::put::copy_part;
 use super::put::put_be;
 use super::put::put_id;
 use super::put::put_u8;
 ghost use mathlib.Core.Path.{_≡_};
-ghost use Prim.Native.Nat.{_+_, _≤_, _<_};
+ghost use Prim.Native.Nat.{_+_, _≤_};
 ghost use lib.ListN.{length};
 ghost use Rattle.queue.specs.Codec.{optC};
 ghost use Rattle.queue.specs.Frames.{idC, limitsC};
 ghost use Rattle.queue.specs.Splice.{Put};
-ghost use Rattle.queue.specs.Opens.{limits};
+ghost use Rattle.queue.specs.Facts.{limitsIn, LimitsFit};
 ghost use Rattle.queue.specs.Fronts.{frontLen, tipOf, tipSize, Small, startBytes, marksBytes, frontBytes};
 
-fn put_limits(p: u64, b: u64, t: u64, k: u64, dst: &mut [u8], at: usize) -> usize
-    requires { ⌜ (at + 16 ≤ length (now dst)) × (p < 4294967296) × (b < 4294967296) × (t < 4294967296) × (k < 4294967296) ⌝ }
-    ensures { λ r. ⌜ Put (now (dst .entry)) at (limitsC .enc (limits p b t k)) 16 r (now (dst .exit)) ⌝ }
+// The limits and the shares.
+pub fn put_limits(l: Limits, dst: &mut [u8], at: usize) -> usize
+    requires { ⌜ (at + 80 ≤ length (now dst)) × LimitsFit l ⌝ }
+    ensures { λ r. ⌜ Put (now (dst .entry)) at (limitsC .enc (limitsIn l)) 80 r (now (dst .exit)) ⌝ }
 {
-    let a = put_be(dst, at, 4, p);
-    let c = put_be(dst, a, 4, b);
-    let d = put_be(dst, c, 4, t);
-    put_be(dst, d, 4, k)
+    let v = l.shares;
+    let a = put_be(dst, at, 4, l.p);
+    let b = put_be(dst, a, 4, l.b);
+    let c = put_be(dst, b, 4, l.t);
+    let d = put_be(dst, c, 4, l.k);
+    copy_part(&v, 0, 64, dst, d)
 }
 
 pub fn tip_len(has: bool) -> usize
@@ -51,13 +56,13 @@ pub struct Marks {
     pub count: u64,
 }
 
-fn put_start(p: u64, b: u64, t: u64, k: u64, height: Height, revision: u64, dst: &mut [u8]) -> usize
-    requires { ⌜ (29 ≤ length (now dst)) × (p < 4294967296) × (b < 4294967296) × (t < 4294967296) × (k < 4294967296) ⌝ }
-    ensures { λ r. ⌜ Put (now (dst .entry)) 0 (startBytes (limits p b t k) (height .0) revision) 29 r (now (dst .exit)) ⌝ }
+fn put_start(l: Limits, height: Height, revision: u64, dst: &mut [u8]) -> usize
+    requires { ⌜ (93 ≤ length (now dst)) × LimitsFit l ⌝ }
+    ensures { λ r. ⌜ Put (now (dst .entry)) 0 (startBytes (limitsIn l) (height .0) revision) 93 r (now (dst .exit)) ⌝ }
 {
     let a = put_be(dst, 0, 4, height.0);
     let c = put_u8(dst, a, NEWEST);
-    let d = put_limits(p, b, t, k, dst, c);
+    let d = put_limits(l, dst, c);
     put_be(dst, d, 8, revision)
 }
 
@@ -73,15 +78,15 @@ fn put_marks(m: Marks, tip: [u8; 32], dst: &mut [u8], at: usize) -> usize
     put_be(dst, c, 4, m.count)
 }
 
-// How long the front is without its tip: the persisted height 4, the header 41.
-pub const FRONT: usize = 45;
+// How long the front is without its tip: the persisted height 4, the header 105.
+pub const FRONT: usize = 109;
 
 // The persisted height and the header, over the start of dst.
-pub fn put_front(p: u64, b: u64, t: u64, k: u64, m: Marks, tip: [u8; 32], dst: &mut [u8]) -> usize
-    requires { ⌜ (frontLen + tipSize (m .tip) ≤ length (now dst)) × (p < 4294967296) × (b < 4294967296) × (t < 4294967296) × (k < 4294967296) × Small m ⌝ }
-    ensures { λ r. ⌜ Put (now (dst .entry)) 0 (frontBytes (limits p b t k) m tip) (frontLen + tipSize (m .tip)) r (now (dst .exit)) ⌝ }
+pub fn put_front(l: Limits, m: Marks, tip: [u8; 32], dst: &mut [u8]) -> usize
+    requires { ⌜ (frontLen + tipSize (m .tip) ≤ length (now dst)) × LimitsFit l × Small m ⌝ }
+    ensures { λ r. ⌜ Put (now (dst .entry)) 0 (frontBytes (limitsIn l) m tip) (frontLen + tipSize (m .tip)) r (now (dst .exit)) ⌝ }
 {
     let height = m.persisted;
-    let a = put_start(p, b, t, k, height, m.revision, dst);
+    let a = put_start(l, height, m.revision, dst);
     put_marks(m, tip, dst, a)
 }

@@ -187,7 +187,8 @@ pub fn rec_near(s: &[u8], base: usize) -> Seen
     ensures { λ r. ⌜ Reads recC (view false (now (s .entry)) base) 0 (r .ok) (r .size) (SeenAs (view false (now (s .entry)) base) r) ⌝ }
 {
     let id = id_at(s, false, base, 1);
-    let c = num_near(s, base, 33, 1);
+    let w = num_near(s, base, 33, 1);
+    let c = num_near(s, base, w.next, 1);
     let d = num_near(s, base, c.next, 1);
     let t = terms_near(s, base, d.next);
     let e = rest_near(s, base, t.next);
@@ -198,6 +199,7 @@ pub fn rec_near(s: &[u8], base: usize) -> Seen
     let mined = e.mined;
     let finish = e.finish;
     let facts = Facts {
+        caller: w.value,
         state: c.value,
         reason: d.value,
         created: created,
@@ -217,7 +219,7 @@ pub fn rec_near(s: &[u8], base: usize) -> Seen
         outs: h.outs,
         bytes: h.bytes,
     };
-    let ok = all4(true, true, c.ok, all4(d.ok, t.ok, e.ok, true));
+    let ok = all4(true, true, w.ok, all4(c.ok, d.ok, t.ok, e.ok));
     Seen {
         ok: ok,
         id: id,

@@ -24,7 +24,7 @@ ghost use Rattle.queue.specs.Frames.{recC};
 ghost use Rattle.queue.specs.Forms.{formC};
 ghost use Rattle.queue.specs.Reads.{whole, listAt};
 ghost use Rattle.queue.specs.Splice.{Put};
-ghost use Rattle.queue.specs.PiecesAs.{passesF, pieceAt, pieceLen, PieceIn, piecesOf, toldPieces, MeasureAs};
+ghost use Rattle.queue.specs.PiecesAs.{dueAt, passesF, pieceAt, pieceLen, PieceIn, piecesOf, toldPieces, MeasureAs};
 ghost use Rattle.queue.specs.Checked.{written};
 ghost use Rattle.queue.specs.paper.Reading.{recordIds, guardedIds, dueStates, confirmations};
 ghost use Rattle.queue.specs.paper.Calls.{counted, entryBytes, idsBytes, placedBytes, dueBytes, readOf};
@@ -79,6 +79,15 @@ fn put_confirmed(src: &[u8], base: usize, x: Seen, dst: &mut [u8], at: usize) ->
     copy_part(src, p, n, dst, a)
 }
 
+// Id and state: the caller between them is left out.
+fn put_due(src: &[u8], base: usize, dst: &mut [u8], at: usize) -> usize
+    requires { ⌜ (base + 35 ≤ length (now src)) × (at + 33 ≤ length (now dst)) ⌝ }
+    ensures { λ r. ⌜ Put (now (dst .entry)) at (dueAt (now (src .entry)) base) 33 r (now (dst .exit)) ⌝ }
+{
+    let a = copy_part(src, base + 1, 32, dst, at);
+    copy_part(src, base + 34, 1, dst, a)
+}
+
 // The piece of the record read at base.
 fn put_piece(src: &[u8], base: usize, x: Seen, w: What, dst: &mut [u8], at: usize) -> usize
     requires { ⌜ PieceIn (now src) base x × (at + pieceLen w x ≤ length (now dst)) ⌝ }
@@ -87,7 +96,7 @@ fn put_piece(src: &[u8], base: usize, x: Seen, w: What, dst: &mut [u8], at: usiz
     match w {
         What::Ids => copy_part(src, base + 1, 32, dst, at),
         What::Guarded => copy_part(src, base + 1, 32, dst, at),
-        What::DueBy(_, _) => copy_part(src, base + 1, 33, dst, at),
+        What::DueBy(_, _) => put_due(src, base, dst, at),
         What::Confirmed => put_confirmed(src, base, x, dst, at),
         What::Entries => put_entry(src, base, x, dst, at),
     }

@@ -214,6 +214,7 @@ fn put_next(
     let p = x.after;
     let a = put_lead(
         id,
+        f.caller,
         state_next(v.what, n, f),
         reason_next(v.what, n, f),
         dst,

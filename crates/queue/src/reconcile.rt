@@ -88,6 +88,7 @@ fn release_all(
 {
     let o = a.open;
     let h = o.head;
+    let l = h.limits;
     let c = gather_mined(s, o.start, h.count, t, vs, ranks, times, places);
     release_rows(
         s,
@@ -96,8 +97,8 @@ fn release_all(
         &mut places[..c],
         height,
         window,
-        h.p,
-        h.b,
+        l.p,
+        l.b,
         gone,
     )
 }
@@ -113,7 +114,8 @@ fn floor_for(s: &[u8], a: Area, g: u64) -> u64
     let o = a.open;
     let h = o.head;
     let n = h.counter;
-    floor(s, o.start, h.count, n.0, g, h.t)
+    let l = h.limits;
+    floor(s, o.start, h.count, n.0, g, l.t)
 }
 
 // The queue of src after its reconciliation, with the records at the places gone released; rows has room for their ranks.
@@ -165,7 +167,8 @@ fn put_whole(
         counter: Finish(n.0 + g),
         count: w.kept,
     };
-    put_front(h.p, h.b, h.t, h.k, marks, tip, dst);
+    let l = h.limits;
+    put_front(l, marks, tip, dst);
     fill_zero(dst, w.at, a.need);
 }
 

@@ -147,14 +147,22 @@ fn reason_again(f: Facts) -> u64
 }
 
 // A record's bytes up to its terms.
-pub fn put_lead(id: [u8; 32], state: u64, reason: u64, dst: &mut [u8], at: usize) -> usize
+pub fn put_lead(
+    id: [u8; 32],
+    caller: u64,
+    state: u64,
+    reason: u64,
+    dst: &mut [u8],
+    at: usize,
+) -> usize
     requires { ⌜ at + termsAt ≤ length (now dst) ⌝ }
-    ensures { λ r. ⌜ Put (now (dst .entry)) at (leadBytes id state reason) termsAt r (now (dst .exit)) ⌝ }
+    ensures { λ r. ⌜ Put (now (dst .entry)) at (leadBytes id caller state reason) termsAt r (now (dst .exit)) ⌝ }
 {
     let a = put_u8(dst, at, 2);
     let b = put_id(dst, a, id);
-    let c = put_be(dst, b, 1, state);
-    put_be(dst, c, 1, reason)
+    let c = put_be(dst, b, 1, caller);
+    let d = put_be(dst, c, 1, state);
+    put_be(dst, d, 1, reason)
 }
 
 // The record read at base, without place and mark.
@@ -166,7 +174,7 @@ fn put_reopened(src: &[u8], base: usize, x: Seen, dst: &mut [u8], at: usize) -> 
     let id = x.id;
     let p = x.after;
     let m = x.mark + 1;
-    let a = put_lead(id, state_again(f), reason_again(f), dst, at);
+    let a = put_lead(id, f.caller, state_again(f), reason_again(f), dst, at);
     let b = copy_part(src, base + TERMS, p - TERMS, dst, a);
     let c = put_be(dst, b, 2, 0);
     copy_part(src, base + m, x.size - m, dst, c)
@@ -229,7 +237,8 @@ fn put_opened(src: &[u8], a: Area, ids: &[u8], k: u64, dst: &mut [u8])
         counter: n,
         count: h.count,
     };
-    put_front(h.p, h.b, h.t, h.k, marks, tip, dst);
+    let l = h.limits;
+    put_front(l, marks, tip, dst);
     fill_zero(dst, e, a.need);
 }
 

@@ -21,6 +21,7 @@ pub enum Query {
     MinedBytes,
     Tombstones,
     Due(Time, Height),
+    PendingOf(u64),
 }
 
 pub fn pending(state: u64) -> bool
@@ -97,7 +98,7 @@ pub fn right(k: u64, counter: Finish, f: Facts) -> bool
         place_right(f.state, f.placed),
         mark_right(f.state, f.holder, f.mark),
     );
-    let c = finish_right(counter, f.holder, n);
+    let c = both(f.caller <= 15, finish_right(counter, f.holder, n));
     let d = sizes_right(k, f);
     both(both(a, b), both(c, d))
 }
@@ -140,5 +141,6 @@ pub fn weigh(q: Query, f: Facts) -> u64
         Query::MinedBytes => { if f.state == 2 { f.bytes } else { 0 } }
         Query::Tombstones => one_if(!f.holder),
         Query::Due(t, h) => one_if(due(t, h, f)),
+        Query::PendingOf(c) => one_if(both(pending(f.state), f.caller == c)),
     }
 }

@@ -36,7 +36,7 @@ pub fn tip_at(s: &[u8], h: HeadR) -> [u8; 32]
     ensures { λ r. ⌜ TipIs (now (s .entry)) h r ⌝ }
 {
     if h.tip {
-        return id_at(s, false, 4, 30);
+        return id_at(s, false, 4, 94);
     }
     [0u8; 32]
 }
@@ -68,23 +68,25 @@ pub fn put_moved(
         counter: n,
         count: h.count,
     };
-    put_front(h.p, h.b, h.t, h.k, m, tip, dst);
+    let l = h.limits;
+    put_front(l, m, tip, dst);
     fill_zero(dst, e, a.need);
 }
 
 // The floor where m more records are finished; what the check counted says whether any is forgotten.
 fn floor_of(s: &[u8], a: Area, m: u64) -> u64
     requires { ⌜ AreaIn (now s) a × (m ≤ a .open .head .count) × (a .open .head .counter .0 + m < 18446744073709551616) ⌝ }
-    ensures { λ r. ⌜ ((sum Query.Tombstones (listAt (formC false recC) (a .open .head .count) (now (s .entry)) (a .open .start)) + m ≤ a .open .head .t) × (r ≡ 0)) ⊎ ((x : ℕ) → ltb (above (a .open .head .counter .0) m (listAt (formC false recC) (a .open .head .count) (now (s .entry)) (a .open .start)) x) (a .open .head .t) ≡ leb r x) ⌝ }
+    ensures { λ r. ⌜ ((sum Query.Tombstones (listAt (formC false recC) (a .open .head .count) (now (s .entry)) (a .open .start)) + m ≤ a .open .head .limits .t) × (r ≡ 0)) ⊎ ((x : ℕ) → ltb (above (a .open .head .counter .0) m (listAt (formC false recC) (a .open .head .count) (now (s .entry)) (a .open .start)) x) (a .open .head .limits .t) ≡ leb r x) ⌝ }
 {
     let x = a.open;
     let h = x.head;
     let u = x.sums;
     let n = h.counter;
-    if h.count - u.holders + m <= h.t {
+    let l = h.limits;
+    if h.count - u.holders + m <= l.t {
         return 0;
     }
-    floor(s, x.start, h.count, n.0, m, h.t)
+    floor(s, x.start, h.count, n.0, m, l.t)
 }
 
 // The queue of src with those picked finished, m of them, and the lowest finish numbers beyond T forgotten.
@@ -129,6 +131,7 @@ pub fn put_ended(
         counter: Finish(n.0 + m),
         count: w.kept,
     };
-    put_front(h.p, h.b, h.t, h.k, marks, tip, dst);
+    let l = h.limits;
+    put_front(l, marks, tip, dst);
     fill_zero(dst, w.at, a.need);
 }

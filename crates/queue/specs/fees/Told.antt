@@ -19,6 +19,7 @@ use Rattle.queue.specs.declared.fees.Choice.{Choice}
 abbrev pub noRec : Rec
 noRec = record {
   id = [];
+  caller = 0;
   state = 0;
   reason = 0;
   terms = record { created = 0; due = none; dueHeight = none; priority = 0; label = none; fee = 0; size = 0; cost = 0 };

@@ -1,12 +1,13 @@
 -- Document 01, "Image", and docs/AREA.md: the bytes of a sound queue in an area, and its image. Numbers are big-endian.
+use mathlib.Core.Bool.{Bool, cond}
 use mathlib.Core.Option.{Option}
-use mathlib.Core.List.{[], _∷_, _++_}
+use mathlib.Core.List.{List, [], _∷_, _++_}
 use Prim.Native.Nat.{ℕ, _+_, _-_, _*_, _^_}
 use lib.ListN.{length, drop, replicate}
 use Rattle.queue.specs.paper.Records.{Bytes, Id, Terms, Held, Rec, Queue}
 use Rattle.queue.specs.paper.Lists.{maybe, map, concat}
 use Rattle.queue.specs.paper.Sound.{need}
-use Rattle.queue.specs.paper.Kinds.{newest}
+use Rattle.queue.specs.paper.Kinds.{newest, hasCallers}
 use Rattle.queue.specs.Codec.{be}
 use Rattle.queue.specs.Hex.{textOf}
 
@@ -32,23 +33,37 @@ unfoldable pub heldBytes : Held → Bytes
 heldBytes h =
     be 2 (length (h .ins)) ++ (concat (h .ins) ++ (be 2 (length (h .outs)) ++ (concat (h .outs) ++ (be 4 (length (h .bytes)) ++ h .bytes))))
 
--- "kind 02; id 32; state; reason; .. ; mined ..; withdrawn mark; finish number 8; holder flag; .."
-unfoldable pub recBytes : Rec → Bytes
-recBytes r =
+-- what only some kinds have
+abbrev pub since : Bool → Bytes → Bytes
+since has bytes = cond has bytes []
+
+-- "kind 02; id 32; state; reason; .. ; mined ..; withdrawn mark; finish number 8; holder flag; .." Document 02, P8: "the caller, one
+-- byte after the id"
+unfoldable pub recUnder : ℕ → Rec → Bytes
+recUnder k r =
     2 ∷ (r .id
+    ++ (since (hasCallers k) (be 1 (r .caller))
     ++ (be 1 (r .state)
     ++ (be 1 (r .reason)
-    ++ (termsBytes (r .terms) ++ (placeBytes (r .place) ++ (be 1 (r .mark) ++ (be 8 (r .finish) ++ flagged heldBytes (r .body))))))))
+    ++ (termsBytes (r .terms) ++ (placeBytes (r .place) ++ (be 1 (r .mark) ++ (be 8 (r .finish) ++ flagged heldBytes (r .body)))))))))
+
+abbrev pub recBytes : Rec → Bytes
+recBytes r = recUnder newest r
+
+-- "the shares, 4 bytes each"
+unfoldable pub sharesBytes : List ℕ → Bytes
+sharesBytes l = concat (map (be 4) l)
 
 -- "Header: kind 01; P, B, T, K 4 each; revision 8; cursor height 4; tip flag, tip 32; counter 8; record count 4." Document 02, P4:
--- "header kind 03"
+-- "header kind 03"; P8: "the header kind becomes 04, with the shares, 4 bytes each, after K"
 unfoldable pub headUnder : ℕ → Queue → Bytes
 headUnder k q =
     k ∷ (be 4 (q .limits .P)
     ++ (be 4 (q .limits .B)
     ++ (be 4 (q .limits .T)
     ++ (be 4 (q .limits .K)
-    ++ (be 8 (q .revision) ++ (be 4 (q .cursor) ++ (flagged (λ i. i) (q .tip) ++ (be 8 (q .counter) ++ be 4 (length (q .recs))))))))))
+    ++ (since (hasCallers k) (sharesBytes (q .limits .shares))
+    ++ (be 8 (q .revision) ++ (be 4 (q .cursor) ++ (flagged (λ i. i) (q .tip) ++ (be 8 (q .counter) ++ be 4 (length (q .recs)))))))))))
 
 abbrev pub headBytes : Queue → Bytes
 headBytes q = headUnder newest q
@@ -74,9 +89,9 @@ over bs d = bs ++ drop (length bs) d
 abbrev pub line : Bytes → Bytes
 line frame = textOf frame ++ (10 ∷ [])
 
--- "Header .. Then records by id", under a header kind; a record's frame is the same under 01 and 03
+-- "Header .. Then records by id", under a header kind
 unfoldable pub imageUnder : ℕ → Queue → Bytes
-imageUnder k q = line (headUnder k q) ++ concat (map (λ r. line (recBytes r)) (q .recs))
+imageUnder k q = line (headUnder k q) ++ concat (map (λ r. line (recUnder k r)) (q .recs))
 
 -- the image that is written
 abbrev pub imageBytes : Queue → Bytes

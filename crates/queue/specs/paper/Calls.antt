@@ -16,7 +16,7 @@ use Rattle.queue.specs.Areas.{readArea}
 use Rattle.queue.specs.paper.Records.{Bytes, Id, Limits, Terms, Held, Rec, Queue}
 use Rattle.queue.specs.paper.Lists.{isSome, maybe, one, find, map, concat}
 use Rattle.queue.specs.paper.Ids.{rise?}
-use Rattle.queue.specs.paper.Sound.{inRange, need, inputs}
+use Rattle.queue.specs.paper.Sound.{inRange, sharesRight?, need, inputs, callerRight?}
 use Rattle.queue.specs.paper.Area.{flagged, termsBytes, placeBytes, headBytes, recBytes, areaBytes, beVal, over}
 use Rattle.queue.specs.paper.Changing.{Out, refused, done, named?, moved, Admission, admit, cancel, expire, Applied, Reconciling, reconcile, reopen, setCursor}
 use Rattle.queue.specs.paper.Reading.{selectionAt}
@@ -83,9 +83,10 @@ counted f l = be 4 (length l) ++ concat (map f l)
 unfoldable pub entryBytes : Rec → Bytes
 entryBytes r =
     r .id
+    ++ (be 1 (r .caller)
     ++ (be 1 (r .state)
     ++ (be 1 (r .reason)
-    ++ (termsBytes (r .terms) ++ (placeBytes (r .place) ++ (be 2 (length (inputs (r .body))) ++ concat (inputs (r .body)))))))
+    ++ (termsBytes (r .terms) ++ (placeBytes (r .place) ++ (be 2 (length (inputs (r .body))) ++ concat (inputs (r .body))))))))
 
 unfoldable pub idsBytes : List Id → Bytes
 idsBytes l = be 4 (length l) ++ concat l
@@ -110,6 +111,7 @@ cursorBytes q = be 4 (q .cursor) ++ flagged (λ i. i) (q .tip)
 
 pub record AdmitArgs : Type 0 where
   pub id : Bytes
+  pub caller : ℕ
   pub inputs : Bytes
   pub outputs : Bytes
   pub bytes : Bytes
@@ -128,12 +130,13 @@ pub record AdmitArgs : Type 0 where
   pub tip : Bytes
 
 -- in the order of docs/CALLS.md
-abbrev pub admitArgs : Bytes → Bytes → Bytes → Bytes → ℕ → ℕ → ℕ → ℕ → ℕ → ℕ → ℕ → Bytes → ℕ → ℕ → ℕ → ℕ → Bytes → AdmitArgs
-admitArgs id inputs outputs bytes now timeFlag time heightFlag height priority labelFlag label fee cost tipHeight tipFlag tip = record { id = id; inputs = inputs; outputs = outputs; bytes = bytes; now = now; timeFlag = timeFlag; time = time; heightFlag = heightFlag; height = height; priority = priority; labelFlag = labelFlag; label = label; fee = fee; cost = cost; tipHeight = tipHeight; tipFlag = tipFlag; tip = tip }
+abbrev pub admitArgs : Bytes → ℕ → Bytes → Bytes → Bytes → ℕ → ℕ → ℕ → ℕ → ℕ → ℕ → ℕ → Bytes → ℕ → ℕ → ℕ → ℕ → Bytes → AdmitArgs
+admitArgs id caller inputs outputs bytes now timeFlag time heightFlag height priority labelFlag label fee cost tipHeight tipFlag tip = record { id = id; caller = caller; inputs = inputs; outputs = outputs; bytes = bytes; now = now; timeFlag = timeFlag; time = time; heightFlag = heightFlag; height = height; priority = priority; labelFlag = labelFlag; label = label; fee = fee; cost = cost; tipHeight = tipHeight; tipFlag = tipFlag; tip = tip }
 
 abbrev pub admission : AdmitArgs → Admission
 admission a = record {
   id = a .id;
+  caller = a .caller;
   now = a .now;
   due = given (a .timeFlag) (a .time);
   dueHeight = given (a .heightFlag) (a .height);
@@ -173,10 +176,11 @@ pub data Call : Type 0 where
   reopening : Bytes → Call
   settingCursor : ℕ → ℕ → Bytes → Call
 
--- 5: "id not 32 bytes; list not whole; applied, available or reopening ids not strictly rising; flag .. not listed"
+-- 5: "id not 32 bytes; list not whole; applied, available or reopening ids not strictly rising; flag .. not listed". Document 02, P8:
+-- "a caller number over 15 is 5"
 abbrev pub shape? : Call → Bool
 shape? (admitting a) =
-    (id? (a .id) && (whole? 32 (a .inputs) && whole? 32 (a .outputs)))
+    ((id? (a .id) && callerRight? (a .caller)) && (whole? 32 (a .inputs) && whole? 32 (a .outputs)))
     && ((flag? (a .timeFlag) && flag? (a .heightFlag)) && (flag? (a .labelFlag) && givenId? (a .tipFlag) (a .tip)))
 shape? (cancelling i) = id? i
 shape? (expiring now height) = true
@@ -236,12 +240,25 @@ callOf c cur next out = maybe (Refused 3, (next, out)) (λ q. onLent next out (w
 abbrev pub putQueue : Answer → Queue → Bytes → Answer × Bytes
 putQueue a q area = cond (ltb (length area) (need (q .limits))) (Refused 2, area) (a, over (areaBytes q) area)
 
+-- Limits and shares as they are lent: "sixteen shares", 4 bytes each, one list
+abbrev pub numbers : Bytes → List ℕ
+numbers s = map beVal (items 4 s)
+
+abbrev pub limitsOf : ℕ → ℕ → ℕ → ℕ → Bytes → Limits
+limitsOf p b t k shares = record { P = p; B = b; T = t; K = k; shares = numbers shares }
+
 -- "A fresh queue has persisted 0."
 abbrev pub fresh : Limits → Queue
 fresh m = record { persisted = 0; limits = m; revision = 0; cursor = 0; tip = none; counter = 0; recs = [] }
 
-unfoldable pub freshOf : Limits → Bytes → Answer × Bytes
-freshOf m area = cond (inRange m) (putQueue (Done Nothing) (fresh m) area) (Refused 1, area)
+-- 1: a limit out of range, or "a share over P"; 2; 5: shares that are "not whole", which are not looked at then
+unfoldable pub freshOf : ℕ → ℕ → ℕ → ℕ → Bytes → Bytes → Answer × Bytes
+freshOf p b t k shares area =
+    let m = limitsOf p b t k shares in
+    let whole = eqb (length shares) 64 in
+    cond (inRange m && (not whole || sharesRight? m))
+    (cond (ltb (length area) (need m)) (Refused 2, area) (cond whole (Done Nothing, over (areaBytes (fresh m)) area) (Refused 5, area)))
+    (Refused 1, area)
 
 unfoldable pub soundOf : Bytes → Answer
 soundOf area = cond (isSome (readArea area)) (Done Nothing) (Refused 3)

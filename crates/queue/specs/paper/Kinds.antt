@@ -1,17 +1,21 @@
--- Document 02, P4: the header kinds of an image, and what each of them can say. A kind can say all that the kinds before it can.
-use mathlib.Core.Bool.{Bool, not, _||_}
+-- Document 02, P4 and P8: the header kinds of an image, and what each of them can say. A kind can say all that the kinds before it
+-- can.
+use mathlib.Core.Bool.{Bool, not, _&&_, _||_}
+use mathlib.Core.List.{List, _∷_}
 use Prim.Native.Nat.{ℕ}
 use lib.Dec.{leb, eqb}
-use Rattle.queue.specs.paper.Records.{Queue}
+use lib.ListN.{replicate}
+use Rattle.queue.specs.paper.Records.{Limits, Rec, Queue}
 use Rattle.queue.specs.paper.Lists.{all?}
+use Rattle.queue.specs.paper.Ids.{same?}
 
--- "Images get header kind 03": the kind that is written. An area has it, too.
+-- "the header kind becomes 04": the kind that is written. An area has it, too.
 abbrev pub newest : ℕ
-newest = 3
+newest = 4
 
--- "and those of kind 01 open": the kinds that are read
+-- "Images with kinds 01 and 03 open": the kinds that are read
 abbrev pub kind? : ℕ → Bool
-kind? k = eqb k 1 || eqb k 3
+kind? k = eqb k 1 || (eqb k 3 || eqb k 4)
 
 -- 03 brought the withdrawn mark 3
 abbrev pub hasMark3 : ℕ → Bool
@@ -21,6 +25,24 @@ hasMark3 k = leb 3 k
 abbrev pub markSaid? : ℕ → ℕ → Bool
 markSaid? k mark = hasMark3 k || not (eqb mark 3)
 
--- what a kind can say of a queue
+-- 04 brought the caller, and the shares
+abbrev pub hasCallers : ℕ → Bool
+hasCallers k = leb 4 k
+
+-- "Images with kinds 01 and 03 open with caller 0 throughout"
+abbrev pub callerSaid? : ℕ → ℕ → Bool
+callerSaid? k caller = hasCallers k || eqb caller 0
+
+-- "share 0 being P and the others 0"
+abbrev pub firstShare : ℕ → List ℕ
+firstShare P = P ∷ replicate 15 0
+
+abbrev pub sharesSaid? : ℕ → Limits → Bool
+sharesSaid? k m = hasCallers k || same? (m .shares) (firstShare (m .P))
+
+-- what a kind can say of a record, and of a queue
+abbrev pub recSaid? : ℕ → Rec → Bool
+recSaid? k r = markSaid? k (r .mark) && callerSaid? k (r .caller)
+
 unfoldable pub says? : ℕ → Queue → Bool
-says? k q = all? (λ r. markSaid? k (r .mark)) (q .recs)
+says? k q = sharesSaid? k (q .limits) && all? (recSaid? k) (q .recs)

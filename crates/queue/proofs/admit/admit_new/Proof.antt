@@ -1,14 +1,17 @@
 -- Filled from its answers by tools/proofkit.py: change those, and fill it again.
-use Rattle.queue.proofs.AdmissionLaws.{few-bytes, few-ids, free-of, ids-lent, new-12, new-room, no-refusal}
+use Rattle.queue.proofs.AdmissionLaws.{few-bytes, few-callers, few-ids, free-of, ids-lent, new-12, new-room, no-refusal}
 use Rattle.queue.proofs.AdmitLaws.{tally-asks}
 use borrow.Author.Needs.{needs}
 use Rattle.queue.proofs.admit.admit_new.Statement.{statement}
 use Rattle.queue.proofs.admit.admit_new.Tie as tie
 use Rattle.queue.proofs.admit.admit_new.Reads as reads
 use Rattle.queue.proofs.admit.admit_new.Lts as lts
+use Rattle.queue.proofs.admit.admit_free.Reads as admit-free-reads
+use Rattle.queue.proofs.admit.room_for.Reads as room-for-reads
+use Rattle.queue.proofs.clash.ids_clash.Reads as ids-clash-reads
 
 room-for-requires : tie.Need-room-for-requires
-room-for-requires c κs = c .before .before .before .before .before .before .before .before .pre .0
+room-for-requires c κs = (c .before .before .before .before .before .before .before .before .pre .0, few-callers (c .before .before .before .before .before .before .before .before .pre .0) (c .before .before .before .before .before .before .before .before .pre .1))
 
 returns : tie.Need-returns
 returns c = new-room (c .before .before .before .before .before .before .before .before .before .before .pre .0) (c .before .before .before .before .before .before .before .before .before .before .pre .1) _ _ (c .before .room-for .ensures) (c .if1 .taken)
@@ -17,10 +20,10 @@ ids-clash-requires : tie.Need-ids-clash-requires
 ids-clash-requires c κs = (ids-lent (c .before .before .before .before .before .before .before .before .before .before .before .before .pre .0) (c .before .before .before .before .before .before .before .before .before .before .before .before .pre .1), tally-asks (c .before .before .before .before .before .before .before .before .before .before .before .before .pre .0) .0, tally-asks (c .before .before .before .before .before .before .before .before .before .before .before .before .pre .0) .1, few-ids (c .before .before .before .before .before .before .before .before .before .before .before .before .pre .0) (c .before .before .before .before .before .before .before .before .before .before .before .before .pre .1) .0, few-bytes (c .before .before .before .before .before .before .before .before .before .before .before .before .pre .0) (c .before .before .before .before .before .before .before .before .before .before .before .before .pre .1))
 
 returns-2 : tie.Need-returns-2
-returns-2 c = new-12 (c .before .before .before .before .before .before .before .before .before .before .before .before .before .before .pre .0) (c .before .before .before .before .before .before .before .before .before .before .before .before .before .before .pre .1) (no-refusal (c .before .before .before .before .before .before .before .before .before .before .before .before .before .before .args .cur .now) _ (c .before .before .before .before .before .room-for .ensures) (c .before .before .before .before .if1 .left)) _ _ (c .before .ids-clash .ensures) (c .if2 .taken)
+returns-2 c = new-12 (c .before .before .before .before .before .before .before .before .before .before .before .before .before .before .pre .0) (c .before .before .before .before .before .before .before .before .before .before .before .before .before .before .pre .1) (no-refusal (c .before .before .before .before .before .before .before .before .before .before .before .before .before .before .args .cur .now) (c .before .before .before .before .before .before .before .before .before .before .before .before .before .before .args .x .caller) _ (c .before .before .before .before .before .room-for .ensures) (c .before .before .before .before .if1 .left)) _ _ (c .before .ids-clash .ensures) (c .if2 .taken)
 
 admit-free-requires : tie.Need-admit-free-requires
-admit-free-requires c κs = (c .before .before .before .before .before .before .before .before .before .before .before .before .before .before .before .before .pre .0, c .before .before .before .before .before .before .before .before .before .before .before .before .before .before .before .before .pre .1, (no-refusal (c .before .before .before .before .before .before .before .before .before .before .before .before .before .before .before .before .args .cur .now) _ (c .before .before .before .before .before .before .before .room-for .ensures) (c .before .before .before .before .before .before .if1 .left), free-of (c .before .before .before .before .before .before .before .before .before .before .before .before .before .before .before .before .pre .0) (c .before .before .before .before .before .before .before .before .before .before .before .before .before .before .before .before .pre .1) (c .before .before .before .ids-clash .ensures) (c .before .before .if2 .left)), c .before .before .before .before .before .before .before .before .before .before .before .before .before .before .before .before .pre .2)
+admit-free-requires c κs = (c .before .before .before .before .before .before .before .before .before .before .before .before .before .before .before .before .pre .0, c .before .before .before .before .before .before .before .before .before .before .before .before .before .before .before .before .pre .1, (no-refusal (c .before .before .before .before .before .before .before .before .before .before .before .before .before .before .before .before .args .cur .now) (c .before .before .before .before .before .before .before .before .before .before .before .before .before .before .before .before .args .x .caller) _ (c .before .before .before .before .before .before .before .room-for .ensures) (c .before .before .before .before .before .before .if1 .left), free-of (c .before .before .before .before .before .before .before .before .before .before .before .before .before .before .before .before .pre .0) (c .before .before .before .before .before .before .before .before .before .before .before .before .before .before .before .before .pre .1) (c .before .before .before .ids-clash .ensures) (c .before .before .if2 .left)), c .before .before .before .before .before .before .before .before .before .before .before .before .before .before .before .before .pre .2)
 
 same-length : tie.Need-same-length
 same-length c = search needs

@@ -23,10 +23,20 @@ both-requires c κs = search needs
 both-requires-2 : tie.Need-both-requires-2
 both-requires-2 c κs = search needs
 
+both-requires-3 : tie.Need-both-requires-3
+both-requires-3 c κs = search needs
+
 returns : tie.Need-returns
-returns c = lists-are (c .before .before .before .before .before .before .before .before .args .id .now) (c .before .before .before .before .before .before .before .before .args .inputs .now) (c .before .before .before .before .before .before .before .before .args .outputs .now) (c .both2 .ensures) (c .before .both .ensures) (c .before .before .before .before .size .ensures .0) (c .before .before .before .before .size .ensures .2) (c .before .before .before .size2 .ensures .0) (c .before .before .before .size2 .ensures .2) (c .before .before .size3 .ensures .0) (c .before .before .size3 .ensures .2)
+returns c = lists-are (c .before .before .before .before .before .before .before .before .before .args .id .now) (c .before .before .before .before .before .before .before .before .before .args .inputs .now) (c .before .before .before .before .before .before .before .before .before .args .outputs .now) (c .before .before .before .before .before .before .before .before .before .args .caller) (c .both3 .ensures) (c .before .before .both .ensures) (c .before .both2 .ensures) (c .before .before .before .before .before .size .ensures .0) (c .before .before .before .before .before .size .ensures .2) (c .before .before .before .before .size2 .ensures .0) (c .before .before .before .before .size2 .ensures .2) (c .before .before .before .size3 .ensures .0) (c .before .before .before .size3 .ensures .2)
 
 pub lists-whole-spec : {M : Type 1} → statement M
 lists-whole-spec =
     tie.close
-    (tie.spec size-requires size-requires-2 size-requires-3 both-requires both-requires-2 returns)
+    (tie.spec
+    size-requires
+    size-requires-2
+    size-requires-3
+    both-requires
+    both-requires-2
+    both-requires-3
+    returns)

@@ -19,23 +19,26 @@ put-id-requires c κs = search needs
 put-be-requires : tie.Need-put-be-requires
 put-be-requires c κs = omega (arith, c .before .before .before .before .before .before .before .before .before .before .pre .2, c .before .before .before .put-id .ensures .next, kept (c .before .before .before .put-id .ensures))
 
+put-be-requires-2 : tie.Need-put-be-requires-2
+put-be-requires-2 c κs = omega (arith, c .before .before .before .before .before .before .before .before .before .before .before .before .before .before .pre .2, c .before .before .before .before .before .before .before .put-id .ensures .next, kept (c .before .before .before .before .before .before .before .put-id .ensures), c .before .before .before .put-be .ensures .next, kept (c .before .before .before .put-be .ensures))
+
 put-terms-requires : tie.Need-put-terms-requires
-put-terms-requires c κs = (c .before .before .before .before .before .before .before .before .before .before .before .before .before .before .pre .0, omega (arith, c .before .before .before .before .before .before .before .before .before .before .before .before .before .before .pre .2, c .before .before .before .before .before .before .before .put-id .ensures .next, kept (c .before .before .before .before .before .before .before .put-id .ensures), c .before .before .before .put-be .ensures .next, kept (c .before .before .before .put-be .ensures)))
+put-terms-requires c κs = (c .before .before .before .before .before .before .before .before .before .before .before .before .before .before .before .before .before .before .pre .0, omega (arith, c .before .before .before .before .before .before .before .before .before .before .before .before .before .before .before .before .before .before .pre .2, c .before .before .before .before .before .before .before .before .before .before .before .put-id .ensures .next, kept (c .before .before .before .before .before .before .before .before .before .before .before .put-id .ensures), c .before .before .before .before .before .before .before .put-be .ensures .next, kept (c .before .before .before .before .before .before .before .put-be .ensures), c .before .before .before .put-be2 .ensures .next, kept (c .before .before .before .put-be2 .ensures)))
 
 put-u8-requires : tie.Need-put-u8-requires
-put-u8-requires c κs = omega (arith, c .before .before .before .before .before .before .before .before .before .before .before .before .before .before .before .before .before .before .pre .2, c .before .before .before .before .before .before .before .before .before .before .before .put-id .ensures .next, kept (c .before .before .before .before .before .before .before .before .before .before .before .put-id .ensures), c .before .before .before .before .before .before .before .put-be .ensures .next, kept (c .before .before .before .before .before .before .before .put-be .ensures), c .before .before .before .put-terms .ensures .next, kept (c .before .before .before .put-terms .ensures))
+put-u8-requires c κs = omega (arith, c .before .before .before .before .before .before .before .before .before .before .before .before .before .before .before .before .before .before .before .before .before .before .pre .2, c .before .before .before .before .before .before .before .before .before .before .before .before .before .before .before .put-id .ensures .next, kept (c .before .before .before .before .before .before .before .before .before .before .before .before .before .before .before .put-id .ensures), c .before .before .before .before .before .before .before .before .before .before .before .put-be .ensures .next, kept (c .before .before .before .before .before .before .before .before .before .before .before .put-be .ensures), c .before .before .before .before .before .before .before .put-be2 .ensures .next, kept (c .before .before .before .before .before .before .before .put-be2 .ensures), c .before .before .before .put-terms .ensures .next, kept (c .before .before .before .put-terms .ensures))
 
-put-be-requires-2 : tie.Need-put-be-requires-2
-put-be-requires-2 c κs = omega (arith, c .before .before .before .before .before .before .before .before .before .before .before .before .before .before .before .before .before .before .before .before .before .before .pre .2, c .before .before .before .before .before .before .before .before .before .before .before .before .before .before .before .put-id .ensures .next, kept (c .before .before .before .before .before .before .before .before .before .before .before .before .before .before .before .put-id .ensures), c .before .before .before .before .before .before .before .before .before .before .before .put-be .ensures .next, kept (c .before .before .before .before .before .before .before .before .before .before .before .put-be .ensures), c .before .before .before .before .before .before .before .put-terms .ensures .next, kept (c .before .before .before .before .before .before .before .put-terms .ensures), c .before .before .before .put-u8 .ensures .next, kept (c .before .before .before .put-u8 .ensures))
+put-be-requires-3 : tie.Need-put-be-requires-3
+put-be-requires-3 c κs = omega (arith, c .before .before .before .before .before .before .before .before .before .before .before .before .before .before .before .before .before .before .before .before .before .before .before .before .before .before .pre .2, c .before .before .before .before .before .before .before .before .before .before .before .before .before .before .before .before .before .before .before .put-id .ensures .next, kept (c .before .before .before .before .before .before .before .before .before .before .before .before .before .before .before .before .before .before .before .put-id .ensures), c .before .before .before .before .before .before .before .before .before .before .before .before .before .before .before .put-be .ensures .next, kept (c .before .before .before .before .before .before .before .before .before .before .before .before .before .before .before .put-be .ensures), c .before .before .before .before .before .before .before .before .before .before .before .put-be2 .ensures .next, kept (c .before .before .before .before .before .before .before .before .before .before .before .put-be2 .ensures), c .before .before .before .before .before .before .before .put-terms .ensures .next, kept (c .before .before .before .before .before .before .before .put-terms .ensures), c .before .before .before .put-u8 .ensures .next, kept (c .before .before .before .put-u8 .ensures))
 
 copy-part-requires : tie.Need-copy-part-requires
-copy-part-requires c κs = (omega arith, omega (arith, c .before .before .before .before .before .before .before .before .before .before .before .before .before .before .before .before .before .before .before .before .before .before .before .before .before .before .pre .2, c .before .before .before .before .before .before .before .before .before .before .before .before .before .before .before .before .before .before .before .put-id .ensures .next, kept (c .before .before .before .before .before .before .before .before .before .before .before .before .before .before .before .before .before .before .before .put-id .ensures), c .before .before .before .before .before .before .before .before .before .before .before .before .before .before .before .put-be .ensures .next, kept (c .before .before .before .before .before .before .before .before .before .before .before .before .before .before .before .put-be .ensures), c .before .before .before .before .before .before .before .before .before .before .before .put-terms .ensures .next, kept (c .before .before .before .before .before .before .before .before .before .before .before .put-terms .ensures), c .before .before .before .before .before .before .before .put-u8 .ensures .next, kept (c .before .before .before .before .before .before .before .put-u8 .ensures), c .before .before .before .put-be2 .ensures .next, kept (c .before .before .before .put-be2 .ensures)))
+copy-part-requires c κs = (omega arith, omega (arith, c .before .before .before .before .before .before .before .before .before .before .before .before .before .before .before .before .before .before .before .before .before .before .before .before .before .before .before .before .before .before .pre .2, c .before .before .before .before .before .before .before .before .before .before .before .before .before .before .before .before .before .before .before .before .before .before .before .put-id .ensures .next, kept (c .before .before .before .before .before .before .before .before .before .before .before .before .before .before .before .before .before .before .before .before .before .before .before .put-id .ensures), c .before .before .before .before .before .before .before .before .before .before .before .before .before .before .before .before .before .before .before .put-be .ensures .next, kept (c .before .before .before .before .before .before .before .before .before .before .before .before .before .before .before .before .before .before .before .put-be .ensures), c .before .before .before .before .before .before .before .before .before .before .before .before .before .before .before .put-be2 .ensures .next, kept (c .before .before .before .before .before .before .before .before .before .before .before .before .before .before .before .put-be2 .ensures), c .before .before .before .before .before .before .before .before .before .before .before .put-terms .ensures .next, kept (c .before .before .before .before .before .before .before .before .before .before .before .put-terms .ensures), c .before .before .before .before .before .before .before .put-u8 .ensures .next, kept (c .before .before .before .before .before .before .before .put-u8 .ensures), c .before .before .before .put-be3 .ensures .next, kept (c .before .before .before .put-be3 .ensures)))
 
 same-length : tie.Need-same-length
 same-length c = search needs
 
 returns : tie.Need-returns
-returns c = entry-put (c .before .before .before .before .before .before .before .before .before .before .before .before .before .before .before .before .before .before .before .before .before .before .before .before .before .before .before .before .before .args .x) (c .before .before .before .before .before .before .before .before .before .before .before .before .before .before .before .before .before .before .before .before .before .before .before .before .before .before .before .before .before .args .id) (c .before .before .before .before .before .before .before .before .before .before .before .before .before .before .before .before .before .before .before .before .before .before .before .before .before .before .before .before .before .args .inputs .now) (c .before .before .before .before .before .before .before .before .before .before .before .before .before .before .before .before .before .before .before .before .before .before .before .before .before .before .before .before .before .args .outputs .now) (c .before .before .before .before .before .before .before .before .before .before .before .before .before .before .before .before .before .before .before .before .before .before .before .before .before .before .before .before .before .args .bytes .now) (c .before .before .before .before .before .before .before .before .before .before .before .before .before .before .before .before .before .before .before .before .before .before .before .before .before .before .before .before .before .args .label .now) (c .before .before .before .before .before .before .before .before .before .before .before .before .before .before .before .before .before .before .before .before .before .before .before .before .before .before .before .before .before .pre .1) (c .before .before .before .before .before .before .before .before .before .before .before .before .before .before .before .before .before .before .before .before .before .before .put-id .ensures) (c .before .before .before .before .before .before .before .before .before .before .before .before .before .before .before .before .before .before .put-be .ensures) (c .before .before .before .before .before .before .before .before .before .before .before .before .before .before .put-terms .ensures) (c .before .before .before .before .before .before .before .before .before .before .put-u8 .ensures) (c .before .before .before .before .before .before .put-be2 .ensures) (c .before .before .copy-part .ensures)
+returns c = entry-put (c .before .before .before .before .before .before .before .before .before .before .before .before .before .before .before .before .before .before .before .before .before .before .before .before .before .before .before .before .before .before .before .before .before .args .x) (c .before .before .before .before .before .before .before .before .before .before .before .before .before .before .before .before .before .before .before .before .before .before .before .before .before .before .before .before .before .before .before .before .before .args .id) (c .before .before .before .before .before .before .before .before .before .before .before .before .before .before .before .before .before .before .before .before .before .before .before .before .before .before .before .before .before .before .before .before .before .args .inputs .now) (c .before .before .before .before .before .before .before .before .before .before .before .before .before .before .before .before .before .before .before .before .before .before .before .before .before .before .before .before .before .before .before .before .before .args .outputs .now) (c .before .before .before .before .before .before .before .before .before .before .before .before .before .before .before .before .before .before .before .before .before .before .before .before .before .before .before .before .before .before .before .before .before .args .bytes .now) (c .before .before .before .before .before .before .before .before .before .before .before .before .before .before .before .before .before .before .before .before .before .before .before .before .before .before .before .before .before .before .before .before .before .args .label .now) (c .before .before .before .before .before .before .before .before .before .before .before .before .before .before .before .before .before .before .before .before .before .before .before .before .before .before .before .before .before .before .before .before .before .pre .0 .caller) (c .before .before .before .before .before .before .before .before .before .before .before .before .before .before .before .before .before .before .before .before .before .before .before .before .before .before .before .before .before .before .before .before .before .pre .1) (c .before .before .before .before .before .before .before .before .before .before .before .before .before .before .before .before .before .before .before .before .before .before .before .before .before .before .put-id .ensures) (c .before .before .before .before .before .before .before .before .before .before .before .before .before .before .before .before .before .before .before .before .before .before .put-be .ensures) (c .before .before .before .before .before .before .before .before .before .before .before .before .before .before .before .before .before .before .put-be2 .ensures) (c .before .before .before .before .before .before .before .before .before .before .before .before .before .before .put-terms .ensures) (c .before .before .before .before .before .before .before .before .before .before .put-u8 .ensures) (c .before .before .before .before .before .before .put-be3 .ensures) (c .before .before .copy-part .ensures)
 
 pub put-told-spec : {M : Type 1} → statement M
 put-told-spec =
@@ -43,9 +46,10 @@ put-told-spec =
     (tie.spec
     put-id-requires
     put-be-requires
+    put-be-requires-2
     put-terms-requires
     put-u8-requires
-    put-be-requires-2
+    put-be-requires-3
     copy-part-requires
     same-length
     returns)

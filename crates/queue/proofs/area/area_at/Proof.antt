@@ -25,7 +25,7 @@ returns-2 : tie.Need-returns-2
 returns-2 c = area-bad (c .before .before .before .before .before .num .ensures .0) (not-false _ (c .before .before .before .if1 .left)) (c .before .before .store-at .ensures) (not-true _ (c .if2 .taken)) refl
 
 filled-requires : tie.Need-filled-requires
-filled-requires c κs = let w = store-facts (c .before .before .before .before .before .num .ensures .0) (not-false _ (c .before .before .before .if1 .left)) (c .before .before .store-at .ensures) (not-false _ (c .if2 .left)) .1 in (omega (arith, w .up, w .ends), w .all, w .sums, w .ends)
+filled-requires c κs = let w = store-facts (c .before .before .before .before .before .num .ensures .0) (not-false _ (c .before .before .before .if1 .left)) (c .before .before .store-at .ensures) (not-false _ (c .if2 .left)) .1 in (omega (arith, w .up, w .ends), w .head .fit .long, w .all, w .sums, w .ends)
 
 returns-3 : tie.Need-returns-3
 returns-3 c = area-good (c .before .before .before .before .before .before .num .ensures .0) (not-false _ (c .before .before .before .before .if1 .left)) (c .before .before .before .store-at .ensures) (not-false _ (c .before .if2 .left)) (c .filled .ensures) refl refl refl refl

@@ -34,10 +34,10 @@ after-in-requires : tie.Need-after-in-requires
 after-in-requires c κs = head-within (c .before .before .before .before .before .before .args .form) (c .before .before .before .before .before .before .args .s .now) (c .before .before .before .before .before .before .pre) (c .before .before .before .before .head-at .ensures) (not-false _ (c .before .before .if1 .left))
 
 frames-requires : tie.Need-frames-requires
-frames-requires c κs = (head-start (c .before .before .before .before .before .before .before .before .args .form) (c .before .before .before .before .before .before .before .before .args .s .now) (c .before .before .before .before .before .before .before .before .pre) (c .before .before .before .before .before .before .head-at .ensures) (not-false _ (c .before .before .before .before .if1 .left)) (c .before .before .before .ends-line .ensures) (not-false _ (c .before .before .if2 .left)) (c .before .after-in .ensures), head-count (c .before .before .before .before .before .before .before .before .args .form) (c .before .before .before .before .before .before .before .before .args .s .now) (c .before .before .before .before .before .before .before .before .pre) (c .before .before .before .before .before .before .head-at .ensures) (not-false _ (c .before .before .before .before .if1 .left)))
+frames-requires c κs = (head-start (c .before .before .before .before .before .before .before .before .before .args .form) (c .before .before .before .before .before .before .before .before .before .args .s .now) (c .before .before .before .before .before .before .before .before .before .pre) (c .before .before .before .before .before .before .before .head-at .ensures) (not-false _ (c .before .before .before .before .before .if1 .left)) (c .before .before .before .before .ends-line .ensures) (not-false _ (c .before .before .before .if2 .left)) (c .before .before .after-in .ensures), head-count (c .before .before .before .before .before .before .before .before .before .args .form) (c .before .before .before .before .before .before .before .before .before .args .s .now) (c .before .before .before .before .before .before .before .before .before .pre) (c .before .before .before .before .before .before .before .head-at .ensures) (not-false _ (c .before .before .before .before .before .if1 .left)))
 
 returns-3 : tie.Need-returns-3
-returns-3 c = store-good (c .before .before .before .before .before .before .before .before .before .before .args .form) (c .before .before .before .before .before .before .before .before .before .before .args .s .now) (c .before .before .before .before .before .before .before .before .before .before .pre) (c .before .before .before .before .before .before .before .before .head-at .ensures) (not-false _ (c .before .before .before .before .before .before .if1 .left)) (c .before .before .before .before .before .ends-line .ensures) (not-false _ (c .before .before .before .before .if2 .left)) (c .before .before .before .after-in .ensures) (c .before .frames .ensures .many) (c .before .frames .ensures .sums)
+returns-3 c = store-good (c .before .before .before .before .before .before .before .before .before .before .before .args .form) (c .before .before .before .before .before .before .before .before .before .before .before .args .s .now) (c .before .before .before .before .before .before .before .before .before .before .before .pre) (c .before .before .before .before .before .before .before .before .before .head-at .ensures) (not-false _ (c .before .before .before .before .before .before .before .if1 .left)) (c .before .before .before .before .before .before .ends-line .ensures) (not-false _ (c .before .before .before .before .before .if2 .left)) (c .before .before .before .before .after-in .ensures) (c .before .frames .ensures .many) (c .before .frames .ensures .sums)
 
 pub store-at-spec : {M : Type 1} → statement M
 store-at-spec =

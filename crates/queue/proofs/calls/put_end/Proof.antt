@@ -16,6 +16,9 @@ use Rattle.queue.proofs.put.put_u8.Reads as put-u8-reads
 put-id-requires : tie.Need-put-id-requires
 put-id-requires c κs = search needs
 
+put-be-requires : tie.Need-put-be-requires
+put-be-requires c κs = search needs
+
 put-u8-requires : tie.Need-put-u8-requires
 put-u8-requires c κs = search needs
 
@@ -31,26 +34,27 @@ sub-copy-part c = search needs
 copy-part-requires : tie.Need-copy-part-requires
 copy-part-requires c κs = search needs
 
-put-be-requires : tie.Need-put-be-requires
-put-be-requires c κs = search needs
+put-be-requires-2 : tie.Need-put-be-requires-2
+put-be-requires-2 c κs = search needs
 
 same-length : tie.Need-same-length
 same-length c = search needs
 
 returns : tie.Need-returns
 unfolding endBytes
-returns c = recast (then (then (then (then (c .before .before .before .before .before .before .before .before .before .before .before .before .before .before .before .before .before .before .put-id .ensures) (c .before .before .before .before .before .before .before .before .before .before .before .before .before .before .put-u8 .ensures)) (c .before .before .before .before .before .before .before .before .before .before .put-u82 .ensures)) (c .before .before .before .before .before .before .copy-part .ensures)) (c .before .before .put-be .ensures)) refl (omega (arith, c .before .before .before .before .before .before .before .before .before .before .before .before .before .before .before .before .before .before .before .before .before .before .before .pre .0)) refl
+returns c = recast (then (then (then (then (then (c .before .before .before .before .before .before .before .before .before .before .before .before .before .before .before .before .before .before .before .before .before .before .put-id .ensures) (c .before .before .before .before .before .before .before .before .before .before .before .before .before .before .before .before .before .before .put-be .ensures)) (c .before .before .before .before .before .before .before .before .before .before .before .before .before .before .put-u8 .ensures)) (c .before .before .before .before .before .before .before .before .before .before .put-u82 .ensures)) (c .before .before .before .before .before .before .copy-part .ensures)) (c .before .before .put-be2 .ensures)) refl (omega (arith, c .before .before .before .before .before .before .before .before .before .before .before .before .before .before .before .before .before .before .before .before .before .before .before .before .before .before .before .before .pre .0)) refl
 
 pub put-end-spec : {M : Type 1} → statement M
 put-end-spec =
     tie.close
     (tie.spec
     put-id-requires
+    put-be-requires
     put-u8-requires
     put-u8-requires-2
     add-copy-part
     sub-copy-part
     copy-part-requires
-    put-be-requires
+    put-be-requires-2
     same-length
     returns)

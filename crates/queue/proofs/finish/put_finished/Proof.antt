@@ -1,5 +1,5 @@
 -- Filled from its answers by tools/proofkit.py: change those, and fill it again.
-use Rattle.queue.proofs.PutLaws.{recast, then}
+use Rattle.queue.proofs.PutLaws.{kept, recast, then}
 use Rattle.queue.specs.Finishing.{finBytes}
 use borrow.Author.Needs.{needs}
 use mathlib.Core.Path.{refl}
@@ -19,6 +19,9 @@ put-u8-requires c κs = search needs
 put-id-requires : tie.Need-put-id-requires
 put-id-requires c κs = search needs
 
+put-be-requires : tie.Need-put-be-requires
+put-be-requires c κs = search needs
+
 put-u8-requires-2 : tie.Need-put-u8-requires-2
 put-u8-requires-2 c κs = search needs
 
@@ -37,18 +40,18 @@ sub-copy-part c = search needs
 copy-part-requires : tie.Need-copy-part-requires
 copy-part-requires c κs = search needs
 
-put-be-requires : tie.Need-put-be-requires
-put-be-requires c κs = search needs
+put-be-requires-2 : tie.Need-put-be-requires-2
+put-be-requires-2 c κs = search needs
 
 put-u8-requires-4 : tie.Need-put-u8-requires-4
-put-u8-requires-4 c κs = search needs
+put-u8-requires-4 c κs = omega (arith, c .before .before .before .before .before .before .before .before .before .before .before .before .before .before .before .before .before .before .before .before .before .before .before .before .before .before .before .before .before .before .before .before .before .pre .0, c .before .before .before .before .before .before .before .before .before .before .before .before .before .before .before .before .before .before .before .before .before .before .before .before .before .before .before .before .before .before .before .before .before .pre .2, c .before .before .before .before .before .before .before .before .before .before .before .before .before .before .before .before .before .before .before .before .before .before .before .before .before .before .before .put-u8 .ensures .next, kept (c .before .before .before .before .before .before .before .before .before .before .before .before .before .before .before .before .before .before .before .before .before .before .before .before .before .before .before .put-u8 .ensures), c .before .before .before .before .before .before .before .before .before .before .before .before .before .before .before .before .before .before .before .before .before .before .before .put-id .ensures .next, kept (c .before .before .before .before .before .before .before .before .before .before .before .before .before .before .before .before .before .before .before .before .before .before .before .put-id .ensures), c .before .before .before .before .before .before .before .before .before .before .before .before .before .before .before .before .before .before .before .put-be .ensures .next, kept (c .before .before .before .before .before .before .before .before .before .before .before .before .before .before .before .before .before .before .before .put-be .ensures), c .before .before .before .before .before .before .before .before .before .before .before .before .before .before .before .put-u82 .ensures .next, kept (c .before .before .before .before .before .before .before .before .before .before .before .before .before .before .before .put-u82 .ensures), c .before .before .before .before .before .before .before .before .before .before .before .put-u83 .ensures .next, kept (c .before .before .before .before .before .before .before .before .before .before .before .put-u83 .ensures), c .before .before .before .before .before .before .before .copy-part .ensures .next, kept (c .before .before .before .before .before .before .before .copy-part .ensures), c .before .before .before .put-be2 .ensures .next, kept (c .before .before .before .put-be2 .ensures))
 
 same-length : tie.Need-same-length
 same-length c = search needs
 
 returns : tie.Need-returns
 unfolding finBytes
-returns c = recast (then (then (then (then (then (then (c .before .before .before .before .before .before .before .before .before .before .before .before .before .before .before .before .before .before .before .before .before .before .before .before .before .before .put-u8 .ensures) (c .before .before .before .before .before .before .before .before .before .before .before .before .before .before .before .before .before .before .before .before .before .before .put-id .ensures)) (c .before .before .before .before .before .before .before .before .before .before .before .before .before .before .before .before .before .before .put-u82 .ensures)) (c .before .before .before .before .before .before .before .before .before .before .before .before .before .before .put-u83 .ensures)) (c .before .before .before .before .before .before .before .before .before .before .copy-part .ensures)) (c .before .before .before .before .before .before .put-be .ensures)) (c .before .before .put-u84 .ensures)) refl (omega (arith, c .before .before .before .before .before .before .before .before .before .before .before .before .before .before .before .before .before .before .before .before .before .before .before .before .before .before .before .before .before .before .before .pre .0)) refl
+returns c = recast (then (then (then (then (then (then (then (c .before .before .before .before .before .before .before .before .before .before .before .before .before .before .before .before .before .before .before .before .before .before .before .before .before .before .before .before .before .before .put-u8 .ensures) (c .before .before .before .before .before .before .before .before .before .before .before .before .before .before .before .before .before .before .before .before .before .before .before .before .before .before .put-id .ensures)) (c .before .before .before .before .before .before .before .before .before .before .before .before .before .before .before .before .before .before .before .before .before .before .put-be .ensures)) (c .before .before .before .before .before .before .before .before .before .before .before .before .before .before .before .before .before .before .put-u82 .ensures)) (c .before .before .before .before .before .before .before .before .before .before .before .before .before .before .put-u83 .ensures)) (c .before .before .before .before .before .before .before .before .before .before .copy-part .ensures)) (c .before .before .before .before .before .before .put-be2 .ensures)) (c .before .before .put-u84 .ensures)) refl (omega (arith, c .before .before .before .before .before .before .before .before .before .before .before .before .before .before .before .before .before .before .before .before .before .before .before .before .before .before .before .before .before .before .before .before .before .before .before .before .pre .0)) refl
 
 pub put-finished-spec : {M : Type 1} → statement M
 put-finished-spec =
@@ -56,13 +59,14 @@ put-finished-spec =
     (tie.spec
     put-u8-requires
     put-id-requires
+    put-be-requires
     put-u8-requires-2
     put-u8-requires-3
     add-copy-part
     add-copy-part-2
     sub-copy-part
     copy-part-requires
-    put-be-requires
+    put-be-requires-2
     put-u8-requires-4
     same-length
     returns)

@@ -6,7 +6,7 @@ use Rattle.queue.proofs.frame.head_at.Statement.{statement}
 use Rattle.queue.proofs.frame.head_at.Tie as tie
 use Rattle.queue.proofs.frame.head_at.Reads as reads
 use Rattle.queue.proofs.frame.head_at.Lts as lts
-use Rattle.queue.proofs.frame.limits_at.Reads as limits-at-reads
+use Rattle.queue.proofs.frame.limits_in.Reads as limits-in-reads
 use Rattle.queue.proofs.frame.num.Reads as num-reads
 use Rattle.queue.proofs.frame.opt_span.Reads as opt-span-reads
 use Rattle.queue.proofs.frame.tag_at.Reads as tag-at-reads
@@ -15,8 +15,8 @@ use Rattle.queue.proofs.logic.all4.Reads as all4-reads
 tag-at-requires : tie.Need-tag-at-requires
 tag-at-requires c κs = search needs
 
-limits-at-requires : tie.Need-limits-at-requires
-limits-at-requires c κs = search needs
+limits-in-requires : tie.Need-limits-in-requires
+limits-in-requires c κs = search needs
 
 num-requires : tie.Need-num-requires
 num-requires c κs = search needs
@@ -40,14 +40,14 @@ all4-requires-2 : tie.Need-all4-requires-2
 all4-requires-2 c κs = search needs
 
 returns : tie.Need-returns
-returns c = head-read (c .before .before .before .before .before .before .before .before .before .before .args .form .kind) _ _ (c .before .before .before .before .before .before .before .before .tag-at .ensures) (c .before .before .before .before .before .before .before .limits-at .ensures) (c .before .before .before .before .before .before .num .ensures) (c .before .before .before .before .before .num2 .ensures) (c .before .before .before .before .opt-span .ensures) (c .before .before .before .num3 .ensures) (c .before .before .num4 .ensures) (c .all42 .ensures ∙ rw (c .before .all4 .ensures)) refl refl refl refl refl refl refl
+returns c = head-read (c .before .before .before .before .before .before .before .before .before .before .before .args .form .kind) (c .before .before .before .before .before .before .before .before .limits-in .result) _ (c .before .before .before .before .before .before .before .before .before .tag-at .ensures) (c .before .before .before .before .before .before .before .before .limits-in .ensures) (c .before .before .before .before .before .before .before .num .ensures) (c .before .before .before .before .before .before .num2 .ensures) (c .before .before .before .before .before .opt-span .ensures) (c .before .before .before .before .num3 .ensures) (c .before .before .before .num4 .ensures) (c .before .all42 .ensures ∙ rw (c .before .before .all4 .ensures)) refl refl refl refl
 
 pub head-at-spec : {M : Type 1} → statement M
 head-at-spec =
     tie.close
     (tie.spec
     tag-at-requires
-    limits-at-requires
+    limits-in-requires
     num-requires
     num-requires-2
     opt-span-requires

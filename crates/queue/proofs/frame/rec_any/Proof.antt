@@ -6,6 +6,7 @@ use Rattle.queue.proofs.frame.rec_any.Statement.{statement}
 use Rattle.queue.proofs.frame.rec_any.Tie as tie
 use Rattle.queue.proofs.frame.rec_any.Reads as reads
 use Rattle.queue.proofs.frame.rec_any.Lts as lts
+use Rattle.queue.proofs.frame.caller_at.Reads as caller-at-reads
 use Rattle.queue.proofs.frame.id_read.Reads as id-read-reads
 use Rattle.queue.proofs.frame.num.Reads as num-reads
 use Rattle.queue.proofs.frame.rest_at.Reads as rest-at-reads
@@ -18,6 +19,9 @@ tag-at-requires c κs = search needs
 
 id-read-requires : tie.Need-id-read-requires
 id-read-requires c κs = search needs
+
+caller-at-requires : tie.Need-caller-at-requires
+caller-at-requires c κs = search needs
 
 num-requires : tie.Need-num-requires
 num-requires c κs = search needs
@@ -38,7 +42,7 @@ all4-requires-2 : tie.Need-all4-requires-2
 all4-requires-2 c κs = search needs
 
 returns : tie.Need-returns
-returns c = rec-read (c .before .before .before .before .before .before .before .before .before .before .before .before .before .before .before .before .args .form .kind) _ _ _ (c .before .before .before .before .before .before .before .before .before .before .before .before .before .before .tag-at .ensures) (c .before .before .before .before .before .before .before .before .before .before .before .before .before .id-read .ensures) (c .before .before .before .before .before .before .before .before .before .before .before .before .num .ensures) (c .before .before .before .before .before .before .before .before .before .before .before .num2 .ensures) (c .before .before .before .before .before .before .before .before .before .before .terms-at .ensures) (c .before .before .before .before .before .before .before .before .before .rest-at .ensures) (c .before .all42 .ensures ∙ rw (c .before .before .all4 .ensures)) refl refl refl refl refl refl refl refl refl refl
+returns c = rec-read (c .before .before .before .before .before .before .before .before .before .before .before .before .before .before .before .before .before .args .form .kind) _ _ _ (c .before .before .before .before .before .before .before .before .before .before .before .before .before .before .before .tag-at .ensures) (c .before .before .before .before .before .before .before .before .before .before .before .before .before .before .id-read .ensures) (c .before .before .before .before .before .before .before .before .before .before .before .before .before .caller-at .ensures) (c .before .before .before .before .before .before .before .before .before .before .before .before .num .ensures) (c .before .before .before .before .before .before .before .before .before .before .before .num2 .ensures) (c .before .before .before .before .before .before .before .before .before .before .terms-at .ensures) (c .before .before .before .before .before .before .before .before .before .rest-at .ensures) (c .before .all42 .ensures ∙ rw (c .before .before .all4 .ensures)) refl refl refl refl refl refl refl refl refl refl
 
 pub rec-any-spec : {M : Type 1} → statement M
 rec-any-spec =
@@ -46,6 +50,7 @@ rec-any-spec =
     (tie.spec
     tag-at-requires
     id-read-requires
+    caller-at-requires
     num-requires
     num-requires-2
     terms-at-requires

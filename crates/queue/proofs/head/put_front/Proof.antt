@@ -18,7 +18,7 @@ same-length : tie.Need-same-length
 same-length c = search needs
 
 returns : tie.Need-returns
-returns c = front-put _ (c .before .before .before .before .before .before .before .before .before .before .args .m) (c .before .before .before .before .before .before .before .before .before .before .args .tip) (c .before .before .before .before .before .before .before .before .before .before .pre .5) (c .before .before .before .before .before .before .put-start .ensures) (c .before .before .put-marks .ensures)
+returns c = front-put _ (c .before .before .before .before .before .before .before .before .before .before .args .m) (c .before .before .before .before .before .before .before .before .before .before .args .tip) (c .before .before .before .before .before .before .before .before .before .before .pre .2) (c .before .before .before .before .before .before .put-start .ensures) (c .before .before .put-marks .ensures)
 
 pub put-front-spec : {M : Type 1} → statement M
 put-front-spec = tie.close (tie.spec put-start-requires put-marks-requires same-length returns)

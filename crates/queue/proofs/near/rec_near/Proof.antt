@@ -1,5 +1,5 @@
 -- Filled from its answers by tools/proofkit.py: change those, and fill it again.
-use Rattle.queue.proofs.FrameLaws.{id-good, rec-read, tag-good}
+use Rattle.queue.proofs.FrameLaws.{caller-yes, id-good, rec-read, tag-good}
 use Rattle.queue.proofs.NearLaws.{span-near}
 use Rattle.queue.specs.paper.Kinds.{newest}
 use borrow.Author.Needs.{needs}
@@ -24,11 +24,14 @@ num-near-requires c κs = (omega arith, (omega arith, omega (arith, c .before .b
 num-near-requires-2 : tie.Need-num-near-requires-2
 num-near-requires-2 c κs = (omega arith, (omega (arith, c .num-near .ensures .1), omega (arith, c .num-near .ensures .1, c .before .before .before .pre .0 .1), c .before .before .before .pre .0 .2))
 
+num-near-requires-3 : tie.Need-num-near-requires-3
+num-near-requires-3 c κs = (omega arith, (omega (arith, c .before .num-near .ensures .1, c .num-near2 .ensures .1), omega (arith, c .before .num-near .ensures .1, c .num-near2 .ensures .1, c .before .before .before .before .pre .0 .1), c .before .before .before .before .pre .0 .2))
+
 terms-near-requires : tie.Need-terms-near-requires
-terms-near-requires c κs = (omega (arith, c .before .num-near .ensures .1, c .num-near2 .ensures .1), omega (arith, c .before .num-near .ensures .1, c .num-near2 .ensures .1, c .before .before .before .before .pre .0 .1), c .before .before .before .before .pre .0 .2)
+terms-near-requires c κs = (omega (arith, c .before .before .num-near .ensures .1, c .before .num-near2 .ensures .1, c .num-near3 .ensures .1), omega (arith, c .before .before .num-near .ensures .1, c .before .num-near2 .ensures .1, c .num-near3 .ensures .1, c .before .before .before .before .before .pre .0 .1), c .before .before .before .before .before .pre .0 .2)
 
 rest-near-requires : tie.Need-rest-near-requires
-rest-near-requires c κs = (omega (arith, c .before .before .num-near .ensures .1, c .before .num-near2 .ensures .1, c .terms-near .ensures .1), omega (arith, c .before .before .num-near .ensures .1, c .before .num-near2 .ensures .1, c .terms-near .ensures .1, c .before .before .before .before .before .pre .0 .1), c .before .before .before .before .before .pre .0 .2)
+rest-near-requires c κs = (omega (arith, c .before .before .before .num-near .ensures .1, c .before .before .num-near2 .ensures .1, c .before .num-near3 .ensures .1, c .terms-near .ensures .1), omega (arith, c .before .before .before .num-near .ensures .1, c .before .before .num-near2 .ensures .1, c .before .num-near3 .ensures .1, c .terms-near .ensures .1, c .before .before .before .before .before .before .pre .0 .1), c .before .before .before .before .before .before .pre .0 .2)
 
 all4-requires : tie.Need-all4-requires
 all4-requires c κs = search needs
@@ -37,7 +40,7 @@ all4-requires-2 : tie.Need-all4-requires-2
 all4-requires-2 c κs = search needs
 
 returns : tie.Need-returns
-returns c = rec-read newest _ _ _ (tag-good 2 (omega (arith, c .before .before .before .before .before .before .before .before .before .before .before .before .before .before .pre .0 .1)) (c .before .before .before .before .before .before .before .before .before .before .before .before .before .before .pre .0 .2 _ (omega (arith, c .before .before .before .before .before .before .before .before .before .before .before .before .before .before .pre .0 .1))) refl (c .before .before .before .before .before .before .before .before .before .before .before .before .before .before .pre .1)) (id-good (span-near (omega (arith, c .before .before .before .before .before .before .before .before .before .before .before .before .before .before .pre .0 .1)) (c .before .before .before .before .before .before .before .before .before .before .before .before .before .before .pre .0 .2)) refl (c .before .before .before .before .before .before .before .before .before .before .before .before .id-at .ensures)) (c .before .before .before .before .before .before .before .before .before .before .before .num-near .ensures .0) (c .before .before .before .before .before .before .before .before .before .before .num-near2 .ensures .0) (c .before .before .before .before .before .before .before .before .before .terms-near .ensures .0) (c .before .before .before .before .before .before .before .before .rest-near .ensures) (c .all42 .ensures ∙ rw (c .before .all4 .ensures)) refl refl refl refl refl refl refl refl refl refl
+returns c = rec-read newest _ _ _ (tag-good 2 (omega (arith, c .before .before .before .before .before .before .before .before .before .before .before .before .before .before .before .pre .0 .1)) (c .before .before .before .before .before .before .before .before .before .before .before .before .before .before .before .pre .0 .2 _ (omega (arith, c .before .before .before .before .before .before .before .before .before .before .before .before .before .before .before .pre .0 .1))) refl (c .before .before .before .before .before .before .before .before .before .before .before .before .before .before .before .pre .1)) (id-good (span-near (omega (arith, c .before .before .before .before .before .before .before .before .before .before .before .before .before .before .before .pre .0 .1)) (c .before .before .before .before .before .before .before .before .before .before .before .before .before .before .before .pre .0 .2)) refl (c .before .before .before .before .before .before .before .before .before .before .before .before .before .id-at .ensures)) (caller-yes newest refl (c .before .before .before .before .before .before .before .before .before .before .before .before .num-near .ensures .0)) (c .before .before .before .before .before .before .before .before .before .before .before .num-near2 .ensures .0) (c .before .before .before .before .before .before .before .before .before .before .num-near3 .ensures .0) (c .before .before .before .before .before .before .before .before .before .terms-near .ensures .0) (c .before .before .before .before .before .before .before .before .rest-near .ensures) (c .all42 .ensures ∙ rw (c .before .all4 .ensures)) refl refl refl refl refl refl refl refl refl refl
 
 pub rec-near-spec : {M : Type 1} → statement M
 rec-near-spec =
@@ -46,6 +49,7 @@ rec-near-spec =
     id-at-requires
     num-near-requires
     num-near-requires-2
+    num-near-requires-3
     terms-near-requires
     rest-near-requires
     all4-requires

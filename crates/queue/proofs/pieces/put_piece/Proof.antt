@@ -7,6 +7,7 @@ use Rattle.queue.proofs.pieces.put_piece.Tie as tie
 use Rattle.queue.proofs.pieces.put_piece.Reads as reads
 use Rattle.queue.proofs.pieces.put_piece.Lts as lts
 use Rattle.queue.proofs.pieces.put_confirmed.Reads as put-confirmed-reads
+use Rattle.queue.proofs.pieces.put_due.Reads as put-due-reads
 use Rattle.queue.proofs.put.copy_part.Reads as copy-part-reads
 use Rattle.queue.proofs.reading.put_entry.Reads as put-entry-reads
 
@@ -33,12 +34,9 @@ copy-part-requires-2 c κs = let h = rw (c .before .enum-told2 .given .1) at (c 
 enum-told-3 : tie.Need-enum-told-3
 enum-told-3 c = search needs
 
-add-copy-part-3 : tie.Need-add-copy-part-3
-add-copy-part-3 c = search needs
-
-copy-part-requires-3 : tie.Need-copy-part-requires-3
+put-due-requires : tie.Need-put-due-requires
 unfolding pieceLen
-copy-part-requires-3 c κs = let h = rw (c .before .enum-told3 .given .1) at (c .before .before .before .before .before .pre .1) in (omega (arith, c .before .before .before .before .before .pre .0 .id), omega arith)
+put-due-requires c κs = let h = rw (c .before .enum-told3 .given .1) at (c .before .before .before .before .before .pre .1) in (omega (arith, c .before .before .before .before .before .pre .0 .id), omega arith)
 
 enum-told-4 : tie.Need-enum-told-4
 enum-told-4 c = search needs
@@ -72,7 +70,7 @@ same-length-3 c = search needs
 
 returns-3 : tie.Need-returns-3
 unfolding pieceAt pieceLen
-returns-3 c = rw (c .before .before .before .before .enum-told3 .given .1) (c .before .before .copy-part3 .ensures)
+returns-3 c = rw (c .before .before .before .before .enum-told3 .given .1) (c .before .before .put-due .ensures)
 
 same-length-4 : tie.Need-same-length-4
 same-length-4 c = search needs
@@ -98,8 +96,7 @@ put-piece-spec =
     add-copy-part-2
     copy-part-requires-2
     enum-told-3
-    add-copy-part-3
-    copy-part-requires-3
+    put-due-requires
     enum-told-4
     put-confirmed-requires
     enum-told-5

@@ -12,10 +12,10 @@ returns : tie.Need-returns
 returns c = floor-none (c .before .before .args .s .now) (c .before .before .args .a) (c .before .before .args .g) (c .if1 .taken)
 
 floor-requires : tie.Need-floor-requires
-floor-requires c κs = floor-needs (c .before .before .before .before .before .pre .0 .read) (c .before .before .before .before .before .args .g) (c .before .before .before .before .before .pre .1) (c .before .before .before .before .before .pre .2)
+floor-requires c κs = floor-needs (c .before .before .before .before .before .before .pre .0 .read) (c .before .before .before .before .before .before .args .g) (c .before .before .before .before .before .before .pre .1) (c .before .before .before .before .before .before .pre .2)
 
 returns-2 : tie.Need-returns-2
-returns-2 c = floor-some (c .before .before .before .before .before .before .args .s .now) (c .before .before .before .before .before .before .args .a) (c .before .before .before .before .before .before .args .g) (c .before .before .before .before .if1 .left) (c .floor .ensures)
+returns-2 c = floor-some (c .before .before .before .before .before .before .before .args .s .now) (c .before .before .before .before .before .before .before .args .a) (c .before .before .before .before .before .before .before .args .g) (c .before .before .before .before .before .if1 .left) (c .floor .ensures)
 
 pub floor-for-spec : {M : Type 1} → statement M
 floor-for-spec = tie.close (tie.spec returns floor-requires returns-2)

@@ -24,12 +24,15 @@ put-be-requires c κs = search needs
 put-be-requires-2 : tie.Need-put-be-requires-2
 put-be-requires-2 c κs = search needs
 
+put-be-requires-3 : tie.Need-put-be-requires-3
+put-be-requires-3 c κs = search needs
+
 same-length : tie.Need-same-length
 same-length c = search needs
 
 returns : tie.Need-returns
 unfolding leadBytes
-returns c = recast (then (then (then (c .before .before .before .before .before .before .before .before .before .before .before .before .before .before .put-u8 .ensures) (c .before .before .before .before .before .before .before .before .before .before .put-id .ensures)) (c .before .before .before .before .before .before .put-be .ensures)) (c .before .before .put-be2 .ensures)) refl (omega arith) refl
+returns c = recast (then (then (then (then (c .before .before .before .before .before .before .before .before .before .before .before .before .before .before .before .before .before .before .put-u8 .ensures) (c .before .before .before .before .before .before .before .before .before .before .before .before .before .before .put-id .ensures)) (c .before .before .before .before .before .before .before .before .before .before .put-be .ensures)) (c .before .before .before .before .before .before .put-be2 .ensures)) (c .before .before .put-be3 .ensures)) refl (omega arith) refl
 
 pub put-lead-spec : {M : Type 1} → statement M
 put-lead-spec =
@@ -39,5 +42,6 @@ put-lead-spec =
     put-id-requires
     put-be-requires
     put-be-requires-2
+    put-be-requires-3
     same-length
     returns)

@@ -3,6 +3,7 @@ use Prim.Native.Nat.{_+_, ℕ}
 use Rattle.queue.proofs.PutLaws.{kept}
 use Rattle.queue.proofs.ReopenLaws.{opened-done, opened-room, records-asks}
 use Rattle.queue.proofs.WriteLaws.{head-in, long-need}
+use Rattle.queue.specs.Fronts.{frontLen}
 use borrow.Author.Needs.{needs}
 use mathlib.Core.Path.{ap, refl}
 use native.Mathlib.Nat.{mod-lt}
@@ -34,16 +35,16 @@ wrapping-add-u64-requires : tie.Need-wrapping-add-u64-requires
 wrapping-add-u64-requires c κs = search needs
 
 put-front-requires : tie.Need-put-front-requires
-put-front-requires c κs = let w = c .before .before .before .before .before .before .before .before .before .before .before .before .before .before .before .pre .0 in let h = w .read .store .head in (omega (arith, long-need (w .read), c .before .before .before .before .before .before .tip-len .ensures .0, c .before .before .before .before .before .before .tip-len .ensures .1, kept (c .before .before .before .before .put-records .ensures), c .before .before .before .before .before .before .before .before .before .before .before .before .before .before .before .pre .2), h .pSmall, h .bSmall, h .tSmall, h .kSmall, record { persisted = h .cursorSmall; revision = rw (c .before .wrapping-add-u64 .ensures) (mod-lt _ (omega arith)); cursor = h .cursorSmall; counter = h .counterSmall; count = h .countSmall })
+put-front-requires c κs = let w = c .before .before .before .before .before .before .before .before .before .before .before .before .before .before .before .before .pre .0 in let h = w .read .store .head in (omega (arith, long-need (w .read), c .before .before .before .before .before .before .before .tip-len .ensures .0, c .before .before .before .before .before .before .before .tip-len .ensures .1, kept (c .before .before .before .before .before .put-records .ensures), c .before .before .before .before .before .before .before .before .before .before .before .before .before .before .before .before .pre .2), h .fit, record { persisted = h .cursorSmall; revision = rw (c .before .before .wrapping-add-u64 .ensures) (mod-lt _ (omega arith)); cursor = h .cursorSmall; counter = h .counterSmall; count = h .countSmall })
 
 fill-zero-requires : tie.Need-fill-zero-requires
-fill-zero-requires c κs = let w = c .before .before .before .before .before .before .before .before .before .before .before .before .before .before .before .before .before .before .before .pre .0 in let r = opened-room w (c .before .before .before .before .before .before .before .before .before .before .before .tip-at .result) refl (c .before .before .before .before .before .before .before .before .before .before .before .tip-at .ensures) (omega arith) in (omega (arith, r, c .before .before .before .before .before .before .before .before .before .before .tip-len .ensures .0, c .before .before .before .before .before .before .before .before .put-records .ensures .next), omega (arith, kept (c .before .before .before .before .before .before .before .before .put-records .ensures), kept (c .before .before .before .put-front .ensures), c .before .before .before .before .before .before .before .before .before .before .before .before .before .before .before .before .before .before .before .pre .2))
+fill-zero-requires c κs = let w = c .before .before .before .before .before .before .before .before .before .before .before .before .before .before .before .before .before .before .before .before .pre .0 in let r = opened-room w (c .before .before .before .before .before .before .before .before .before .before .before .before .tip-at .result) refl (c .before .before .before .before .before .before .before .before .before .before .before .before .tip-at .ensures) (omega arith) in (omega (arith, r, c .before .before .before .before .before .before .before .before .before .before .before .tip-len .ensures .0, c .before .before .before .before .before .before .before .before .before .put-records .ensures .next), omega (arith, kept (c .before .before .before .before .before .before .before .before .before .put-records .ensures), kept (c .before .before .before .put-front .ensures), c .before .before .before .before .before .before .before .before .before .before .before .before .before .before .before .before .before .before .before .before .pre .2))
 
 same-length : tie.Need-same-length
 same-length c = search needs
 
 returns : tie.Need-returns
-returns c = let w = c .before .before .before .before .before .before .before .before .before .before .before .before .before .before .before .before .before .before .before .before .before .before .pre .0 in λ q e. opened-done w (c .before .before .before .before .before .before .before .before .before .before .before .before .before .before .tip-at .result) (c .before .before .before .before .before .before .before .before .wrapping-add-u64 .ensures) (c .before .before .before .before .before .before .before .before .before .before .before .before .before .before .tip-at .ensures) (omega arith) e (c .before .before .before .before .before .before .before .before .before .before .before .before .before .before .before .before .before .before .before .before .before .before .pre .2) (ap (λ (k : ℕ). 45 + k) (c .before .before .before .before .before .before .before .before .before .before .before .before .before .tip-len .ensures .0)) (c .before .before .before .before .before .before .before .before .before .before .before .put-records .ensures) (c .before .before .before .before .before .before .put-front .ensures) (c .before .before .fill-zero .ensures)
+returns c = let w = c .before .before .before .before .before .before .before .before .before .before .before .before .before .before .before .before .before .before .before .before .before .before .before .pre .0 in λ q e. opened-done w (c .before .before .before .before .before .before .before .before .before .before .before .before .before .before .before .tip-at .result) (c .before .before .before .before .before .before .before .before .before .wrapping-add-u64 .ensures) (c .before .before .before .before .before .before .before .before .before .before .before .before .before .before .before .tip-at .ensures) (omega arith) e (c .before .before .before .before .before .before .before .before .before .before .before .before .before .before .before .before .before .before .before .before .before .before .before .pre .2) (ap (λ (k : ℕ). frontLen + k) (c .before .before .before .before .before .before .before .before .before .before .before .before .before .before .tip-len .ensures .0)) (c .before .before .before .before .before .before .before .before .before .before .before .before .put-records .ensures) (c .before .before .before .before .before .before .put-front .ensures) (c .before .before .fill-zero .ensures)
 
 pub put-opened-spec : {M : Type 1} → statement M
 put-opened-spec =

@@ -35,11 +35,11 @@ both-requires-2 c κs = search needs
 finish-right-requires : tie.Need-finish-right-requires
 finish-right-requires c κs = search needs
 
-sizes-right-requires : tie.Need-sizes-right-requires
-sizes-right-requires c κs = search needs
-
 both-requires-3 : tie.Need-both-requires-3
 both-requires-3 c κs = search needs
+
+sizes-right-requires : tie.Need-sizes-right-requires
+sizes-right-requires c κs = search needs
 
 both-requires-4 : tie.Need-both-requires-4
 both-requires-4 c κs = search needs
@@ -47,9 +47,12 @@ both-requires-4 c κs = search needs
 both-requires-5 : tie.Need-both-requires-5
 both-requires-5 c κs = search needs
 
+both-requires-6 : tie.Need-both-requires-6
+both-requires-6 c κs = search needs
+
 returns : tie.Need-returns
 unfolding rightF
-returns c = c .both5 .ensures ∙ simp (c .before .both4 .ensures, c .before .before .both3 .ensures, c .before .before .before .before .before .both2 .ensures, c .before .before .before .before .before .before .before .before .both .ensures, c .before .before .before .before .before .before .before .before .before .before .held-right .ensures, c .before .before .before .before .before .before .before .before .before .reason-right .ensures, c .before .before .before .before .before .before .before .place-right .ensures, c .before .before .before .before .before .before .mark-right .ensures, c .before .before .before .before .finish-right .ensures, c .before .before .before .sizes-right .ensures)
+returns c = c .both6 .ensures ∙ simp (c .before .both5 .ensures, c .before .before .both4 .ensures, c .before .before .before .before .both3 .ensures, c .before .before .before .before .before .before .before .both2 .ensures, c .before .before .before .before .before .before .before .before .before .before .both .ensures, c .before .before .before .before .before .before .before .before .before .before .before .before .held-right .ensures, c .before .before .before .before .before .before .before .before .before .before .before .reason-right .ensures, c .before .before .before .before .before .before .before .before .before .place-right .ensures, c .before .before .before .before .before .before .before .before .mark-right .ensures, c .before .before .before .before .before .finish-right .ensures, c .before .before .before .sizes-right .ensures)
 
 pub right-spec : {M : Type 1} → statement M
 right-spec =
@@ -62,8 +65,9 @@ right-spec =
     mark-right-requires
     both-requires-2
     finish-right-requires
-    sizes-right-requires
     both-requires-3
+    sizes-right-requires
     both-requires-4
     both-requires-5
+    both-requires-6
     returns)

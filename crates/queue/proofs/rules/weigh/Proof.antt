@@ -9,6 +9,10 @@ use Rattle.queue.proofs.rules.weigh.Statement.{statement}
 use Rattle.queue.proofs.rules.weigh.Tie as tie
 use Rattle.queue.proofs.rules.weigh.Reads as reads
 use Rattle.queue.proofs.rules.weigh.Lts as lts
+use Rattle.queue.proofs.logic.both.Reads as both-reads
+use Rattle.queue.proofs.logic.one_if.Reads as one-if-reads
+use Rattle.queue.proofs.rules.due.Reads as due-reads
+use Rattle.queue.proofs.rules.pending.Reads as pending-reads
 
 enum-told : tie.Need-enum-told
 enum-told c = search needs
@@ -46,6 +50,18 @@ due-requires c κs = search needs
 one-if-requires-4 : tie.Need-one-if-requires-4
 one-if-requires-4 c κs = search needs
 
+enum-known-q-2 : tie.Need-enum-known-q-2
+enum-known-q-2 c = search needs
+
+pending-requires : tie.Need-pending-requires
+pending-requires c κs = search needs
+
+both-requires-2 : tie.Need-both-requires-2
+both-requires-2 c κs = search needs
+
+one-if-requires-5 : tie.Need-one-if-requires-5
+one-if-requires-5 c κs = search needs
+
 returns : tie.Need-returns
 unfolding weight
 returns c = (rw (c .before .enum-told .given .1) (c .one-if .ensures .0), omega arith)
@@ -74,6 +90,10 @@ returns-7 : tie.Need-returns-7
 unfolding weight
 returns-7 c = (rw (c .before .before .before .q .given .1) (c .one-if4 .ensures .0 ∙ ap one (c .before .due .ensures)), omega arith)
 
+returns-8 : tie.Need-returns-8
+unfolding weight
+returns-8 c = (rw (c .before .before .before .before .before .q2 .given .1) (c .one-if5 .ensures .0 ∙ simp (c .before .both2 .ensures, c .before .before .before .pending .ensures)), omega arith)
+
 pub weigh-spec : {M : Type 1} → statement M
 weigh-spec =
     tie.close
@@ -90,10 +110,15 @@ weigh-spec =
     enum-known-q
     due-requires
     one-if-requires-4
+    enum-known-q-2
+    pending-requires
+    both-requires-2
+    one-if-requires-5
     returns
     returns-2
     returns-3
     returns-4
     returns-5
     returns-6
-    returns-7)
+    returns-7
+    returns-8)

@@ -31,7 +31,7 @@ both-requires-7 c κs = search needs
 
 returns : tie.Need-returns
 unfolding inRange
-returns c = c .both7 .ensures ∙ simp (c .before .both6 .ensures, c .before .before .both5 .ensures, c .before .before .before .both4 .ensures, c .before .before .before .before .both3 .ensures, c .before .before .before .before .before .both2 .ensures, c .before .before .before .before .before .before .both .ensures)
+returns c = c .both7 .ensures ∙ simp (c .before .both6 .ensures, c .before .before .both5 .ensures, c .before .before .before .before .before .both4 .ensures, c .before .before .before .before .before .before .before .before .both3 .ensures, c .before .before .before .before .before .before .before .before .before .both2 .ensures, c .before .before .before .before .before .before .before .before .before .before .before .before .both .ensures)
 
 pub check-spec : {M : Type 1} → statement M
 check-spec =
