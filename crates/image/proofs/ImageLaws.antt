@@ -2,48 +2,52 @@
 use mathlib.Core.Path.{_≡_, refl, ap, sym, _∙_}
 use mathlib.Core.Bool.{Bool, true, false}
 use mathlib.Core.Option.{some}
-use mathlib.Core.List.{List, [], _∷_, _++_}
+use mathlib.Core.List.{List, [], _∷_, _++_, append-assoc}
 use Prim.Native.Nat.{ℕ, zero, suc, _+_, _-_, _*_, _≤_, _<_}
 use native.Mathlib.Omega.{arith}
 use native.Mathlib.Nat.{zero-add}
-use lib.ListN.{length, drop, take, getD, replicate, length-append, length-drop}
+use lib.ListN.{length, drop, take, getD, replicate, length-append, length-drop, take-append-drop}
+use lib.Seq.{take-at, drop-at, take-all, length-take-le}
 use borrow.Author.Tests.{lt-ltb, le-ltb, eq-eqb, ne-eqb}
 use Rattle.queue.specs.declared.Kind.the-variants.{Nothing}
 use Rattle.queue.specs.declared.Answer.the-variants.{Refused, Done}
 use Rattle.queue.specs.declared.frame.Form.{Form}
+use Rattle.queue.specs.declared.frame.HeadR.{HeadR}
 use Rattle.queue.specs.declared.frame.Seen.{Seen}
 use Rattle.queue.specs.declared.area.Open.{Open}
 use Rattle.queue.specs.declared.area.Area.{Area}
 use Rattle.queue.specs.Codec as codec
-use Rattle.queue.specs.Codec.{Got, fail, got, Codec, beC, pairC, mapC, encs, decs, vec-bwd}
-use Rattle.queue.specs.Frames.{Head, headK, headC, recK, recC}
+use Rattle.queue.specs.Codec.{Got, fail, got, Codec, beC, pairC, mapC, optC, encs, decs, vec-bwd}
+use Rattle.queue.specs.Choice.{fixC, sinceC}
+use Rattle.queue.specs.Frames.{Head, idC, limitsC, headK, headC, recK, recC}
 use Rattle.queue.specs.Reads.{Reads, whole, listAt, behind, isGot, valOf, restOf}
-use Rattle.queue.specs.ReadLaws.{false-true, Turn, none-left}
+use Rattle.queue.specs.ReadLaws.{false-true, Turn, none-left, spans-be, spans-id}
 use Rattle.queue.specs.View.{view, view-raw}
 use Rattle.queue.specs.Hex.{text-length}
 use Rattle.queue.specs.Splice.{splice, be, Put}
 use Rattle.queue.specs.Forms.{formC, lineEnc, afterIn, Framed, turn-in, Store, headFor, headIn, recIn, storeIn, areaForm, textForm, framesC, framesEnc, store-length, storeOf, queueWith, queueC, form-raw, ok-queue}
-use Rattle.queue.specs.Kinds.{rec-enc, headTail, head-first}
+use Rattle.queue.specs.Facts.{limitsIn, limitsLen, HeadUnder}
+use Rattle.queue.specs.Kinds.{rec-enc, recTail, headTail, head-first}
 use Rattle.queue.specs.Areas.{kindOf, readImage, layout, image, image-found, image-none, image-unknown}
 use Rattle.queue.specs.Opens.{needMost, limits, StoreAs, soundL, sound-list, AreaAs, AreaIs}
 use Rattle.queue.specs.Plain.{area-plain, image-plain}
 use Rattle.queue.specs.Bound.{fits-need, area-size, reads-image}
 use Rattle.queue.specs.paper.Records.{Bytes, Limits, Rec, Queue}
-use Rattle.queue.specs.paper.Kinds.{newest, kind?}
+use Rattle.queue.specs.paper.Kinds.{newest, kind?, hasCallers}
 use Rattle.queue.specs.paper.Sound.{need, inRange, sound?}
-use Rattle.queue.specs.paper.Area.{areaBytes, line, imageBytes, over}
+use Rattle.queue.specs.paper.Area.{areaBytes, sharesBytes, line, imageBytes, over}
+use Rattle.queue.specs.paper.Calls.{limitsOf}
 use Rattle.queue.specs.Checked.{written}
 use Rattle.queue.proofs.PutLaws.{splice-is, then, kept, recast, sized, Left, begun, onward, done}
-use Rattle.queue.proofs.ByteLaws.{be-same}
+use Rattle.queue.proofs.ByteLaws.{be-same, between}
+use Rattle.queue.proofs.ShareLaws.{sixteen, shares-bytes}
+use Rattle.queue.proofs.WriteLaws.{limits-long}
 use Rattle.queue.proofs.Turns.{SeenForm, ReadsForm}
 use Rattle.image.specs.declared.text.Text.{Text}
 use Rattle.image.specs.Texts.{TextAs, TextIs, StoreRoom, StorePut, AreaHeld, ImageLen, AreaRoom, AreaPut}
 use Rattle.image.specs.paper.Image.{imageOf, openOf, Five, needOf, imageLimitsOf}
 
 -- ---- a text
-same-limits : (m : Limits) {p b t k : ℕ} → m .P ≡ p → m .B ≡ b → m .T ≡ t → m .K ≡ k → m ≡ limits p b t k
-same-limits m e f g h = rw (← e, ← f, ← g, ← h)
-
 pub kind-is : {k : ℕ} (s : Bytes) → k ≡ getD (view true s 0) 0 0 → k ≡ kindOf s
 unfolding kindOf
 kind-is s e = e
@@ -53,7 +57,7 @@ text-other {s} k i g e = record { good = λ z. false-true (sym e ∙ z); bad = �
 
 module _ {s : Bytes} (k : ℕ) (i : k ≡ kindOf s) (kn : kind? k ≡ true) {y : Open} (r : Reads (storeIn (textForm k)) s 0 (y .ok) (y .next) (StoreAs (textForm k) s 0 y)) where
   abbrev lim : Limits
-  lim = limits (y .head .p) (y .head .b) (y .head .t) (y .head .k)
+  lim = limitsIn (y .head .limits)
 
   abbrev rules : Bool
   rules = soundL lim (y .head .counter .0) (listAt (recIn (textForm k)) (y .head .count) s (y .start))
@@ -62,7 +66,7 @@ module _ {s : Bytes} (k : ℕ) (i : k ≡ kindOf s) (kn : kind? k ≡ true) {y :
   text-facts f = let u = r .good (omega arith) f in (u .0, u .4)
 
   the-limits : (st : Store) → StoreAs (textForm k) s 0 y st → st .limits ≡ lim
-  the-limits st w = let h = w .head in same-limits (st .limits) (h .P) (h .B) (h .T) (h .K)
+  the-limits st w = sym (w .head .lim)
 
   the-rules : (st : Store) → StoreAs (textForm k) s 0 y st → sound? (queueWith (st .cursor) st) ≡ rules
   the-rules st w =
@@ -120,30 +124,94 @@ line-size {𝓐 = 𝓐} {a = a} f = line-long (𝓐 .enc a) ∙ rw (f .size)
 pub frame-in : {A : Type 0} {𝓐 : Codec A} {s : Bytes} {i m : ℕ} {ok : Bool} {a : A} → i ≤ length s → Framed 𝓐 false s i ok m a → i + m ≤ length s
 frame-in {s = s} {i = i} h f = omega (arith, f .within, view-raw false s i refl)
 
--- a record's frame under the newest kind: the same bytes
+-- a record's frame under the newest kind
+parted : (v a b : Bytes) (n k : ℕ) → take n v ≡ a ++ b → length a ≡ k → n ≤ length v → (take k v ≡ a) × (take (n - k) (drop k v) ≡ b) × (k ≤ n)
+parted v a b n k e l h =
+    let f : take n v ++ drop n v ≡ v = take-append-drop n v in
+    let g : v ≡ a ++ (b ++ drop n v) = sym f ∙ ap (λ (x : Bytes). x ++ drop n v) e ∙ append-assoc a b (drop n v) in
+    let m : length a + length b ≡ n = sym (length-append a b) ∙ ap length (sym e) ∙ length-take-le n v h in
+    let d : drop k v ≡ b ++ drop n v = ap (drop k) g ∙ drop-at a (b ++ drop n v) k l in
+    let o : n - k ≡ length b = omega arith in
+    (ap (take k) g ∙ take-at a (b ++ drop n v) k l, ap (take (n - k)) d ∙ take-at b (drop n v) (n - k) (sym o), omega arith)
+
 module _ (form : Form) {s : Bytes} {base n : ℕ} {ok : Bool} {r : Rec} (f : Framed (recK (form .kind)) (form .hex) s base ok n r) where
-  pub rec-bytes : recIn areaForm .enc r ≡ take n (view (form .hex) s base)
-  unfolding formC
-  rec-bytes = sym (f .bytes ∙ rec-enc (form .kind) r)
+  abbrev front : Bytes
+  front = 2 ∷ idC .enc (r .id)
 
-  pub rec-long : length (recIn areaForm .enc r) ≡ n
+  -- a kind that has callers has the same bytes
+  pub rec-same : hasCallers (form .kind) ≡ true → recIn areaForm .enc r ≡ take n (view (form .hex) s base)
   unfolding formC
-  rec-long = ap length (sym (rec-enc (form .kind) r)) ∙ f .size
+  rec-same t = rec-enc newest r ∙ sym (f .bytes ∙ rec-enc (form .kind) r ∙ ap (λ (b : Bool). front ++ (sinceC b (beC 1) 0 .enc (r .caller) ++ recTail r)) t)
 
--- a header's: another first byte
-second-on : (v : Bytes) (n k : ℕ) (t : Bytes) → take n v ≡ k ∷ t → take (n - 1) (drop 1 v) ≡ t
-second-on v zero k t e = let z : _≡_ {A = ℕ} 0 1 = cc in absurd (omega arith)
-second-on [] (suc n) k t e = let z : _≡_ {A = ℕ} 0 1 = cc in absurd (omega arith)
-second-on (b ∷ v) (suc n) k t e = let f : take n v ≡ t = cc in let m : suc n - 1 ≡ n = omega arith in rw m f
-
-module _ (form : Form) {s : Bytes} {base n : ℕ} {ok : Bool} {h : Head} (f : Framed (headK (form .kind)) (form .hex) s base ok n h) where
-  pub head-bytes : headIn areaForm .enc h ≡ (newest ∷ []) ++ take (n - 1) (drop 1 (view (form .hex) s base))
+  pub same-long : hasCallers (form .kind) ≡ true → length (recIn areaForm .enc r) ≡ n
   unfolding formC
-  head-bytes = head-first newest h ∙ ap (λ (t : Bytes). newest ∷ t) (sym (second-on (view (form .hex) s base) n (form .kind) (headTail h) (f .bytes ∙ head-first (form .kind) h)))
+  same-long t = ap length (rec-enc newest r ∙ sym (rec-enc (form .kind) r ∙ ap (λ (b : Bool). front ++ (sinceC b (beC 1) 0 .enc (r .caller) ++ recTail r)) t)) ∙ f .size
 
-  pub head-long : length (headIn areaForm .enc h) ≡ n
+  module _ (t : hasCallers (form .kind) ≡ false) where
+    older-bytes : recK (form .kind) .enc r ≡ front ++ recTail r
+    unfolding fixC
+    older-bytes = rec-enc (form .kind) r ∙ ap (λ (b : Bool). front ++ (sinceC b (beC 1) 0 .enc (r .caller) ++ recTail r)) t
+
+    front-long : length front ≡ 33
+    unfolding recK mapC pairC
+    front-long = let i = spans-id .size (r .id) (f .fine .1 .0) in omega arith
+
+    no-caller : r .caller ≡ 0
+    unfolding recK mapC pairC fixC
+    no-caller = let c = f .fine .1 .1 .0 in let d : sinceC false (beC 1) 0 .ok (r .caller) = rw t at c in d
+
+    older-parts : (take 33 (view (form .hex) s base) ≡ front) × (take (n - 33) (drop 33 (view (form .hex) s base)) ≡ recTail r) × (33 ≤ n)
+    older-parts = parted (view (form .hex) s base) front (recTail r) n 33 (f .bytes ∙ older-bytes) front-long (f .within)
+
+    pub older-enough : 33 ≤ n
+    older-enough = older-parts .2
+
+    pub rec-older : recIn areaForm .enc r ≡ (take 33 (drop 0 (view (form .hex) s base)) ++ (0 ∷ [])) ++ take (n - 33) (drop 33 (view (form .hex) s base))
+    unfolding formC beC
+    rec-older =
+        rec-enc newest r ∙ ap (λ (c : ℕ). front ++ (codec.be 1 c ++ recTail r)) no-caller
+        ∙ sym (two (ap (λ (x : Bytes). x ++ (0 ∷ [])) (older-parts .0)) (older-parts .1) ∙ append-assoc front (0 ∷ []) (recTail r))
+      where
+        two : {a a′ b b′ : Bytes} → a ≡ a′ → b ≡ b′ → a ++ b ≡ a′ ++ b′
+        two p q = rw (p, q)
+
+    pub older-long : length (recIn areaForm .enc r) ≡ n + 1
+    unfolding formC beC
+    older-long =
+        let a = ap length older-bytes ∙ length-append front (recTail r) in
+        let b = f .size in
+        let c = codec.be-length 1 (r .caller) in
+        ap length (rec-enc newest r) ∙ length-append front (codec.be 1 (r .caller) ++ recTail r)
+        ∙ ap (λ (k : ℕ). length front + k) (length-append (codec.be 1 (r .caller)) (recTail r)) ∙ omega arith
+
+-- a header's: its kind, its limits, and what stands behind them
+module _ (form : Form) {s : Bytes} {base : ℕ} {x : HeadR} {h : Head} (w : HeadUnder (form .kind) (view (form .hex) s base) x h) (f : Framed (headK (form .kind)) (form .hex) s base (x .ok) (x .size) h) where
+  tail-here : drop (x .marks - 8) (view (form .hex) s base) ≡ headTail h ++ drop (x .size) (view (form .hex) s base)
+  unfolding headTail
+  tail-here =
+      let v = view (form .hex) s base in
+      let n = limitsLen (form .kind) in
+      let e : x .marks - 8 ≡ 1 + n = omega (arith, w .marksAt) in
+      let m : drop (9 + n) v ≡ (beC 4 .enc (h .cursor) ++ optC idC .enc (h .tip)) ++ drop (x .after) v = ap (λ (j : ℕ). drop j v) (sym (w .marksAt)) ∙ w .marks in
+      ap (λ (j : ℕ). drop j v) e ∙ w .revisionAt ∙ ap (λ (y : Bytes). beC 8 .enc (h .revision) ++ y) (m ∙ ap (λ (y : Bytes). (beC 4 .enc (h .cursor) ++ optC idC .enc (h .tip)) ++ y) (w .counterAt)) ∙ simp append-assoc
+
+  tail-parts : (take (x .size - (x .marks - 8)) (drop (x .marks - 8) (view (form .hex) s base)) ≡ headTail h) × (length (headTail h) ≡ x .size - (x .marks - 8))
+  tail-parts = between (view (form .hex) s base) (headTail h) (x .marks - 8) (x .size) tail-here (omega (arith, w .marksAt, w .up, w .sizeAt)) (w .end)
+
+  pub head-bytes : headIn areaForm .enc h ≡ ((newest ∷ []) ++ limitsC .enc (limitsIn (x .limits))) ++ take (x .size - (x .marks - 8)) (drop (x .marks - 8) (view (form .hex) s base))
   unfolding formC
-  head-long = ap length (head-first newest h) ∙ ap length (sym (head-first (form .kind) h)) ∙ f .size
+  head-bytes =
+      head-first newest h ∙ ap (λ (m : Limits). newest ∷ (limitsC .enc m ++ headTail h)) (sym (w .lim))
+      ∙ ap (λ (t : Bytes). newest ∷ (limitsC .enc (limitsIn (x .limits)) ++ t)) (sym (tail-parts .0))
+
+  pub head-long : length (headIn areaForm .enc h) ≡ 81 + (x .size - (x .marks - 8))
+  unfolding formC
+  head-long =
+      ap length (head-first newest h ∙ ap (λ (m : Limits). newest ∷ (limitsC .enc m ++ headTail h)) (sym (w .lim)))
+      ∙ ap suc (length-append (limitsC .enc (limitsIn (x .limits))) (headTail h)) ∙ omega (arith, limits-long (limitsIn (x .limits)) (sixteen (x .limits .shares) (w .fit .long)), tail-parts .1)
+
+  pub head-in : (8 ≤ x .marks) × (x .marks - 8 ≤ x .size) × (x .size ≤ length (view (form .hex) s base))
+  head-in = (omega (arith, w .marksAt), omega (arith, w .marksAt, w .up, w .sizeAt), w .end)
 
 -- ---- the loops over the record frames: read in a form, written by a codec
 module _ (form : Form) (𝓞 : Codec Rec) (s : Bytes) (n at : ℕ) (d₀ : Bytes) (to : ℕ) where
@@ -344,11 +412,27 @@ pub need-100 : (m : Limits) (old : ℕ) {n : ℕ} → inRange m ≡ true → n �
 unfolding needOf
 need-100 m old e f = rw (e, f)
 
-module _ {s : Bytes} {t : Text} (w : TextIs s t) (old : Five) where
-  pub limits-16 : t .ok ≡ false → (Refused 16, old) ≡ imageLimitsOf s old
+-- the shares have no part in it
+pub need-alone : (p b t k : ℕ) (s : Bytes) → (inRange (limitsOf p b t k s) ≡ inRange (limits p b t k)) × (need (limitsOf p b t k s) ≡ need (limits p b t k))
+unfolding inRange need
+need-alone p b t k s = (refl, refl)
+
+module _ {s : Bytes} {t : Text} (w : TextIs s t) (old : Five) (shares : Bytes) where
+  pub limits-16 : t .ok ≡ false → (Refused 16, (old, shares)) ≡ imageLimitsOf s old shares
   unfolding imageLimitsOf
   limits-16 e = rw (w .bad e)
 
-  pub limits-100 : t .ok ≡ true → (Done Nothing, (t .open .head .p, (t .open .head .b, (t .open .head .t, (t .open .head .k, t .need))))) ≡ imageLimitsOf s old
+  pub limits-4 : t .ok ≡ true → length shares < 64 → (Refused 4, (old, shares)) ≡ imageLimitsOf s old shares
   unfolding imageLimitsOf
-  limits-100 e = let u = w .good e in let h = u .2 .store .head in rw (u .1, ← (u .2 .need), h .P, h .B, h .T, h .K)
+  limits-4 e h = let u = w .good e in rw (u .1, lt-ltb (length shares) 64 h)
+
+  pub limits-100 : {d : Bytes} {r : ℕ} → t .ok ≡ true → 64 ≤ length shares → Put shares 0 (take 64 (drop 0 (t .open .head .limits .shares))) 64 r d
+      → (Done Nothing, ((t .open .head .limits .p, (t .open .head .limits .b, (t .open .head .limits .t, (t .open .head .limits .k, t .need)))), d)) ≡ imageLimitsOf s old shares
+  unfolding imageLimitsOf
+  limits-100 {d} e h p =
+      let u = w .good e in
+      let g = u .2 .store .head in
+      let v = t .open .head .limits .shares in
+      let b : take 64 (drop 0 v) ≡ sharesBytes (u .0 .limits .shares) = take-all 64 v (omega (arith, g .fit .long)) ∙ sym (shares-bytes v (g .fit .long) (g .fit .small)) ∙ ap (λ (m : Limits). sharesBytes (m .shares)) (g .lim) in
+      let o : d ≡ over (sharesBytes (u .0 .limits .shares)) shares = put-over p (omega (arith, p .size)) ∙ ap (λ (y : Bytes). over y shares) b in
+      rw (u .1, le-ltb (length shares) 64 h, ← (u .2 .need), ← o, ← (g .lim))

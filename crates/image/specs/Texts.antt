@@ -6,7 +6,7 @@ use Prim.Native.Nat.{ℕ, _+_, _≤_}
 use lib.ListN.{length}
 use Rattle.queue.specs.Frames.{Head, headK, recK}
 use Rattle.queue.specs.Forms.{Framed, Store, headIn, recIn, storeIn, areaForm, storeOf, queueC}
-use Rattle.queue.specs.Facts.{SeenAs, HeadAs}
+use Rattle.queue.specs.Facts.{SeenUnder, HeadUnder}
 use Rattle.queue.specs.View.{view}
 use Rattle.queue.specs.Areas.{readImage}
 use Rattle.queue.specs.Opens.{needMost, StoreAs, AreaAs}
@@ -38,24 +38,24 @@ pub record TextIs (s : Bytes) (x : Text) : Type 0 where
 -- d′ is d with it at `at`
 pub record HeadRoom (form : Form) (s : Bytes) (base : ℕ) (x : HeadR) (at m : ℕ) : Type 0 where
   pub head : Head
-  pub is : HeadAs (view (form .hex) s base) x head
+  pub is : HeadUnder (form .kind) (view (form .hex) s base) x head
   pub frame : Framed (headK (form .kind)) (form .hex) s base (x .ok) (x .size) head
   pub room : at + length (headIn areaForm .enc head) ≤ m
 
 abbrev pub HeadPut : Form → Bytes → ℕ → HeadR → Bytes → ℕ → ℕ → Bytes → Type 0
 HeadPut form s base x d at r d′ =
-    (h : Head) → HeadAs (view (form .hex) s base) x h → Framed (headK (form .kind)) (form .hex) s base (x .ok) (x .size) h
+    (h : Head) → HeadUnder (form .kind) (view (form .hex) s base) x h → Framed (headK (form .kind)) (form .hex) s base (x .ok) (x .size) h
     → Put d at (headIn areaForm .enc h) (length (headIn areaForm .enc h)) r d′
 
 pub record RecRoom (form : Form) (s : Bytes) (base : ℕ) (x : Seen) (at m : ℕ) : Type 0 where
   pub rec : Rec
-  pub is : SeenAs (view (form .hex) s base) x rec
+  pub is : SeenUnder (form .kind) (view (form .hex) s base) x rec
   pub frame : Framed (recK (form .kind)) (form .hex) s base (x .ok) (x .size) rec
   pub room : at + length (recIn areaForm .enc rec) ≤ m
 
 abbrev pub RecPut : Form → Bytes → ℕ → Seen → Bytes → ℕ → ℕ → Bytes → Type 0
 RecPut form s base x d at r d′ =
-    (y : Rec) → SeenAs (view (form .hex) s base) x y → Framed (recK (form .kind)) (form .hex) s base (x .ok) (x .size) y
+    (y : Rec) → SeenUnder (form .kind) (view (form .hex) s base) x y → Framed (recK (form .kind)) (form .hex) s base (x .ok) (x .size) y
     → Put d at (recIn areaForm .enc y) (length (recIn areaForm .enc y)) r d′
 
 -- read in one form, written in another

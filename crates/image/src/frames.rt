@@ -1,12 +1,14 @@
 // The frames of a queue in the other form: those of an area as lines of text, those of a text, under whatever kind, as an area's.
 use queue::area::Open;
 use queue::forms::after_in;
+use queue::frame::CALLERS;
 use queue::frame::Form;
 use queue::frame::HeadR;
 use queue::frame::NEWEST;
 use queue::frame::Seen;
 use queue::frame::rec_at;
 use queue::frame::rec_in;
+use queue::head::put_limits;
 use queue::put::copy_view;
 use queue::put::put_text;
 use queue::put::put_u8;
@@ -63,16 +65,24 @@ fn put_head(s: &[u8], form: Form, base: usize, h: HeadR, dst: &mut [u8], at: usi
     requires { ⌜ HeadRoom form (now s) base h at (length (now dst)) ⌝ }
     ensures { λ r. ⌜ HeadPut form (now (s .entry)) base h (now (dst .entry)) at r (now (dst .exit)) ⌝ }
 {
+    let l = h.limits;
+    let from = h.marks - 8;
     let a = put_u8(dst, at, NEWEST);
-    copy_view(s, form.hex, base, 1, h.size - 1, dst, a)
+    let b = put_limits(l, dst, a);
+    copy_view(s, form.hex, base, from, h.size - from, dst, b)
 }
 
-// The record that was read at base, under the newest kind: it has the same bytes under all.
+// The record that was read at base, under the newest kind: the older ones have no caller, which is 0.
 fn put_rec(s: &[u8], form: Form, base: usize, x: Seen, dst: &mut [u8], at: usize) -> usize
     requires { ⌜ RecRoom form (now s) base x at (length (now dst)) ⌝ }
     ensures { λ r. ⌜ RecPut form (now (s .entry)) base x (now (dst .entry)) at r (now (dst .exit)) ⌝ }
 {
-    copy_view(s, form.hex, base, 0, x.size, dst, at)
+    if CALLERS <= form.kind {
+        return copy_view(s, form.hex, base, 0, x.size, dst, at);
+    }
+    let a = copy_view(s, form.hex, base, 0, 33, dst, at);
+    let b = put_u8(dst, a, 0);
+    copy_view(s, form.hex, base, 33, x.size - 33, dst, b)
 }
 
 // The n records at `at` under the newest kind.

@@ -6,6 +6,7 @@ use queue::Kind;
 use queue::area::Area;
 use queue::area::area_at;
 use queue::limits::Limits;
+use queue::put::copy_part;
 use queue::put::fill_zero;
 use queue::put::put_be;
 use text::Text;
@@ -80,35 +81,49 @@ pub fn open(text: &[u8], area: &mut [u8]) -> Answer
 pub fn area_need(p: u64, b: u64, t: u64, k: u64, value: &mut u64) -> Answer
     ensures { λ r. ⌜ (r, now (value .exit)) ≡ needOf (limits p b t k) (now (value .entry)) ⌝ }
 {
-    if !Limits::check(p, b, t, k) {
+    let l = Limits {
+        p: p,
+        b: b,
+        t: t,
+        k: k,
+        shares: [0u8; 64],
+    };
+    if !Limits::check(l) {
         return Answer::Refused(1);
     }
-    let n = Limits::need(p, b, t, k);
+    let n = Limits::need(l);
     *value = n as u64;
     Answer::Done(Kind::Nothing)
 }
 
-// The limits of the queue whose image the text is, and how many bytes an area needs under them. Refusal 16, as opening.
+// The limits and shares of the queue whose image the text is, and how many bytes an area needs under them. Refusals 16, as opening, 4.
 pub fn image_limits(
     text: &[u8],
     p: &mut u64,
     b: &mut u64,
     t: &mut u64,
     k: &mut u64,
+    shares: &mut [u8],
     need: &mut u64,
 ) -> Answer
-    ensures { λ r. ⌜ (r, (now (p .exit), (now (b .exit), (now (t .exit), (now (k .exit), now (need .exit)))))) ≡ imageLimitsOf (now (text .entry)) (now (p .entry), (now (b .entry), (now (t .entry), (now (k .entry), now (need .entry))))) ⌝ }
+    ensures { λ r. ⌜ (r, ((now (p .exit), (now (b .exit), (now (t .exit), (now (k .exit), now (need .exit))))), now (shares .exit))) ≡ imageLimitsOf (now (text .entry)) (now (p .entry), (now (b .entry), (now (t .entry), (now (k .entry), now (need .entry))))) (now (shares .entry)) ⌝ }
 {
     let x = text_at(text);
     if !x.ok {
         return Answer::Refused(16);
     }
+    if shares.len() < 64 {
+        return Answer::Refused(4);
+    }
     let o = x.open;
     let h = o.head;
-    *p = h.p;
-    *b = h.b;
-    *t = h.t;
-    *k = h.k;
+    let l = h.limits;
+    let v = l.shares;
+    *p = l.p;
+    *b = l.b;
+    *t = l.t;
+    *k = l.k;
+    copy_part(&v, 0, 64, shares, 0);
     *need = x.need as u64;
     Answer::Done(Kind::Nothing)
 }

@@ -59,7 +59,8 @@ pub fn text_at(s: &[u8]) -> Text
             need: 0,
         };
     }
-    let m = Limits::need(h.p, h.b, h.t, h.k);
+    let l = h.limits;
+    let m = Limits::need(l);
     Text {
         ok: true,
         form: form,

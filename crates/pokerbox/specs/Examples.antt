@@ -11,7 +11,8 @@ use Rattle.queue.specs.Codec.{All}
 use Rattle.queue.specs.paper.Records.{Bytes, Limits}
 use Rattle.queue.specs.paper.Lists.{map}
 use Rattle.queue.specs.paper.Ids.{cmpL, rise?}
-use Rattle.queue.specs.paper.Sound.{inRange, need, used?, clash?}
+use Rattle.queue.specs.paper.Kinds.{firstShare}
+use Rattle.queue.specs.paper.Sound.{inRange, sharesRight?, limitsRight?, need, used?, clash?}
 use Rattle.queue.specs.paper.Area.{termsBytes, placeBytes}
 use Rattle.queue.specs.paper.Changing.{committed, moved, newRec, admit, finished, finishThose, forget, cancel, reconcile, touch, releases, touchedRecs, toRelease}
 use Rattle.queue.specs.paper.Calls.{number, items, entryBytes, idsBytes, releasedBytes, Call, admitting, cancelling, reconciling, work}
@@ -21,7 +22,7 @@ use Rattle.pokerbox.specs.Runs.{imageCursor}
 use Rattle.pokerbox.specs.Theorem.{the-claim, imageRoom, RoomyOk, roomy, world}
 
 abbrev m : Limits
-m = record { P = 1; B = 4; T = 1; K = 1 }
+m = record { P = 1; B = 4; T = 1; K = 1; shares = firstShare 1 }
 
 -- enough of each
 abbrev lent : Lent
@@ -37,6 +38,7 @@ id n = replicate 32 n
 abbrev enters : ℕ → Call
 enters n = admitting (record {
   id = id n;
+  caller = 0;
   inputs = id 9;
   outputs = [];
   bytes = 1 ∷ 2 ∷ 3 ∷ [];
@@ -144,8 +146,8 @@ steps-ok =
 abbrev began : World
 began = world m (replicate 2184 0) none
 
-range : inRange m ≡ true
-unfolding inRange
+range : limitsRight? m ≡ true
+unfolding inRange sharesRight?
 range = refl
 
 pub holds : Holds m none Image steps (run (worldStep m) began steps) (run (plainStep m) start steps)

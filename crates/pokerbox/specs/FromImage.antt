@@ -15,7 +15,7 @@ use Rattle.queue.specs.Areas.{readImage}
 use Rattle.queue.specs.Sounds.{Fit, of-range}
 use Rattle.queue.specs.Bound.{fit-image, opens-fit, reads-image}
 use Rattle.queue.specs.paper.Records.{Bytes, Limits, Queue}
-use Rattle.queue.specs.paper.Sound.{inRange}
+use Rattle.queue.specs.paper.Sound.{limitsRight?}
 use Rattle.queue.specs.paper.Area.{areaBytes, imageBytes, over}
 use Rattle.queue.specs.paper.Calls.{callOf, settleOf}
 use Rattle.image.specs.paper.Image.{openOf}
@@ -120,7 +120,7 @@ unfolding FromImage over starts
 from-image m text q first second xs read lim room ok =
     let fit = opens-fit text q read in
     let lev = reads-image text q read .1 .1 .0 in
-    let range : inRange m ≡ true = ap inRange (sym lim) ∙ of-range (q .limits) (fit .sound .range) in
+    let range : limitsRight? m ≡ true = ap limitsRight? (sym lim) ∙ of-range (q .limits) (fit .sound .range) in
     let st : StoredOk m (some q) = (fit, (lev, lim)) in
     let t′ = imageBytes q in
     let sam = open-same text t′ (read ∙ sym (fit-image q fit lev)) in

@@ -19,13 +19,13 @@ use Rattle.queue.specs.Areas.{readArea, readImage}
 use Rattle.queue.specs.Reconciles.{reconcileTo}
 use Rattle.queue.specs.paper.Records.{Bytes, Id, Limits, Held, Rec, Queue}
 use Rattle.queue.specs.paper.Lists.{isSome, maybe, any?, total, count, find, isEmpty?}
-use Rattle.queue.specs.paper.Sound.{inRange, need, holder?, pending?, mined?, labelLen, clash?}
+use Rattle.queue.specs.paper.Sound.{inRange, sharesRight?, need, holder?, pending?, mined?, labelLen, clash?}
 use Rattle.queue.specs.paper.Area.{imageBytes, over}
-use Rattle.queue.specs.paper.Changing.{Out, refused, done, top, topHeight, named?, reached?, Admission, pendings, pendingBytes, admitNew, admit, cancel, due?, expire, Reconciling, touch, reconcile, listed?, reopen, setCursor, ownOf, touchedRecs, toRelease}
-use Rattle.queue.specs.paper.Calls.{id?, entryBytes, idsBytes, releasedBytes, nothingBytes, items, given, Call, admitting, cancelling, expiring, reconciling, reopening, settingCursor, AdmitArgs, admission, ReconcileArgs, reconciliation, shape?, overK?, Worked, worked, rules, work, nextArea, onLent, callOf, freshOf, soundOf, settleShape?, settleOf, readOf, numberOf, lookUp, entryOf, signedPart, signedBytesOf}
+use Rattle.queue.specs.paper.Changing.{Out, refused, done, top, topHeight, named?, reached?, Admission, pendings, pendingBytes, pendingsOf, shareOf, admitNew, admit, cancel, due?, expire, Reconciling, touch, reconcile, listed?, reopen, setCursor, ownOf, touchedRecs, toRelease}
+use Rattle.queue.specs.paper.Calls.{id?, entryBytes, idsBytes, releasedBytes, nothingBytes, items, given, Call, admitting, cancelling, expiring, reconciling, reopening, settingCursor, AdmitArgs, admission, ReconcileArgs, reconciliation, shape?, overK?, Worked, worked, rules, work, nextArea, onLent, callOf, limitsOf, freshOf, soundOf, settleShape?, settleOf, readOf, numberOf, lookUp, entryOf, signedPart, signedBytesOf}
 use Rattle.queue.specs.paper.Fees.{bestFees, candidates, sizeOf, feeOf, bestBytes, searchOf, budget?, bestFeesOf}
 use Rattle.image.specs.paper.Image.{imageOf, openOf, Five, needOf, imageLimitsOf}
-use Rattle.pokerbox.specs.paper.Refusals.{Checks, firstOf, refusal, Answers, unsound?, on, answer, known?, ruleChecks, callChecks, settleChecks, feesChecks, Demand1}
+use Rattle.pokerbox.specs.paper.Refusals.{Checks, firstOf, refusal, Answers, unsound?, on, answer, known?, ruleChecks, callChecks, settleChecks, freshChecks, feesChecks, Demand1}
 
 refused-17 : {n : ℕ} → Refused 17 ≡ Refused n → n ≡ 17
 refused-17 {n} e = let z : _≡_ {A = ℕ} 17 n = cc in sym z
@@ -68,9 +68,10 @@ module _ (a : AdmitArgs) (q : Queue) (room : ℕ) where
   abbrev x : Admission
   x = admission a
 
-  -- 10, 11, 12, then 4
+  -- 10, 18, 11, 12, then 4
   abbrev late : Checks
   late = (10, leb (q .limits .P) (pendings (q .recs)))
+      ∷ (18, leb (shareOf (x .caller) (q .limits)) (pendingsOf (x .caller) (q .recs)))
       ∷ (11, ltb (q .limits .B) (pendingBytes (q .recs) + length (x .held .bytes)))
       ∷ (12, clash? (x .held .ins) (q .recs))
       ∷ (4, ltb room (length (answer entryBytes (admitNew x q)))) ∷ []
@@ -78,11 +79,13 @@ module _ (a : AdmitArgs) (q : Queue) (room : ℕ) where
   new-right : Right (worked entryBytes q room (admitNew x q)) late
   new-right = cases (leb (q .limits .P) (pendings (q .recs)))
       (λ t. rw t (first 10 entryBytes q room _ refl))
-      (λ t. cases (ltb (q .limits .B) (pendingBytes (q .recs) + length (x .held .bytes)))
-      (λ u. rw (t, u) (first 11 entryBytes q room _ refl))
+      (λ t. cases (leb (shareOf (x .caller) (q .limits)) (pendingsOf (x .caller) (q .recs)))
+      (λ w. rw (t, w) (first 18 entryBytes q room _ refl))
+      (λ w. cases (ltb (q .limits .B) (pendingBytes (q .recs) + length (x .held .bytes)))
+      (λ u. rw (t, w, u) (first 11 entryBytes q room _ refl))
       (λ u. cases (clash? (x .held .ins) (q .recs))
-      (λ v. rw (t, u, v) (first 12 entryBytes q room _ refl))
-      (λ v. rw (t, u, v) (recheck (last entryBytes q _ room Whole _) refl))))
+      (λ v. rw (t, w, u, v) (first 12 entryBytes q room _ refl))
+      (λ v. rw (t, w, u, v) (recheck (last entryBytes q _ room Whole _) refl)))))
 
   admit-right : Right (rules (admitting a) q room) (ruleChecks (admitting a) q room)
   unfolding admit
@@ -205,11 +208,17 @@ settle-answers cur next kind outcome = go (readArea cur) refl
         (λ t. rw (e, b, t, s, k .1) (record { number = refl; kept = λ n h k. absurd (k (refused-17 h)) })))
         (λ b. next-go q e b (readArea next) refl)
 
-fresh-answers : (m : Limits) (area : Bytes) → Answers (freshOf m area) area ((1, not (inRange m)) ∷ (2, ltb (length area) (need m)) ∷ [])
+fresh-answers : (p b t k : ℕ) (shares area : Bytes) → Answers (freshOf p b t k shares area) area (freshChecks (limitsOf p b t k shares) (length shares) (length area))
 unfolding freshOf
-fresh-answers m area = cases (inRange m)
-    (λ t. cases (ltb (length area) (need m)) (λ u. rw (t, u) (no 2 area _ refl)) (λ u. rw (t, u) (yes Nothing _ area _ refl)))
-    (λ t. rw t (no 1 area _ refl))
+fresh-answers p b t k shares area =
+    let m = limitsOf p b t k shares in
+    cases (inRange m)
+    (λ r. cases (eqb (length shares) 64)
+    (λ w. cases (sharesRight? m)
+    (λ s. cases (ltb (length area) (need m)) (λ u. rw (r, w, s, u) (no 2 area _ refl)) (λ u. rw (r, w, s, u) (yes Nothing _ area _ refl)))
+    (λ s. rw (r, w, s) (no 1 area _ refl)))
+    (λ w. cases (ltb (length area) (need m)) (λ u. rw (r, w, u) (no 2 area _ refl)) (λ u. rw (r, w, u) (no 5 area _ refl))))
+    (λ r. rw r (no 1 area _ refl))
 
 sound-answers : (area : Bytes) → refusal (soundOf area) ≡ firstOf ((3, unsound? area) ∷ [])
 unfolding soundOf
@@ -237,13 +246,14 @@ need-answers : (m : Limits) (old : ℕ) → Answers (needOf m old) old ((1, not 
 unfolding needOf
 need-answers m old = cases (inRange m) (λ t. rw t (yes Nothing _ old _ refl)) (λ t. rw t (no 1 old _ refl))
 
-limits-answers : (text : Bytes) (old : Five) → Answers (imageLimitsOf text old) old ((16, not (isSome (readImage text))) ∷ [])
+limits-answers : (text : Bytes) (old : Five) (shares : Bytes)
+    → Answers (imageLimitsOf text old shares) (old, shares) ((16, not (isSome (readImage text))) ∷ maybe [] (λ q. (4, ltb (length shares) 64) ∷ []) (readImage text))
 unfolding imageLimitsOf
-limits-answers text old = go (readImage text) refl
+limits-answers text old shares = go (readImage text) refl
   where
-    go : (o : Option Queue) → readImage text ≡ o → Answers (imageLimitsOf text old) old ((16, not (isSome (readImage text))) ∷ [])
-    go none e = rw e (no 16 old _ refl)
-    go (some q) e = rw e (yes Nothing _ old _ refl)
+    go : (o : Option Queue) → readImage text ≡ o → Answers (imageLimitsOf text old shares) (old, shares) ((16, not (isSome (readImage text))) ∷ maybe [] (λ q. (4, ltb (length shares) 64) ∷ []) (readImage text))
+    go none e = rw e (no 16 (old, shares) _ refl)
+    go (some q) e = cases (ltb (length shares) 64) (λ t. rw (e, t) (no 4 (old, shares) _ refl)) (λ t. rw (e, t) (yes Nothing _ (old, shares) _ refl))
 
 read-answers : (f : Queue → Bytes) (area out : Bytes) → Answers (readOf f area out) out (on area λ q. (4, ltb (length out) (length (f q))) ∷ [])
 unfolding readOf

@@ -19,15 +19,17 @@ use Rattle.queue.specs.Plain.{image-plain}
 use Rattle.queue.specs.Sounds.{Fit, fit-sound, fit-ok}
 use Rattle.queue.specs.Bound.{fits-need, reads-size, fit-stands, fit-over, fit-image}
 use Rattle.queue.specs.Keeps.{fresh-fit, settled-fit}
+use Rattle.queue.specs.Lists.{and-true}
+use Rattle.queue.specs.Shares.{shares-whole, limits-again}
 use Rattle.queue.specs.paper.Lists.{maybe}
 use Rattle.queue.specs.paper.Records.{Bytes, Limits, Queue}
-use Rattle.queue.specs.paper.Sound.{inRange, need}
+use Rattle.queue.specs.paper.Sound.{inRange, sharesRight?, limitsRight?, need}
 use Rattle.queue.specs.paper.Area.{areaBytes, imageBytes, over}
 use Rattle.queue.specs.paper.Kinds.{newest}
 use Rattle.queue.specs.paper.Changing.{moved}
 use Rattle.queue.specs.paper.Calls.{Call, Worked, work, nextArea, fresh, freshOf, settleOf, byKind}
 use Rattle.image.specs.paper.Image.{imageOf, openOf}
-use Rattle.pokerbox.specs.paper.Machine.{Fate, kept, failed, cutBefore, cutAfter, Lent, Step, call, cut, run, Plain, restart, settling, plainStep, World, imageText, starts, restarted, settledIn, settlingBytes, worldStep, tells}
+use Rattle.pokerbox.specs.paper.Machine.{Fate, kept, failed, cutBefore, cutAfter, Lent, Step, call, cut, run, Plain, restart, settling, plainStep, World, imageText, freshUnder, starts, restarted, settledIn, settlingBytes, worldStep, tells}
 use Rattle.pokerbox.specs.paper.Claim.{byAnswer, mover, movedBy, movedLast, StepOk, StepsOk, CallOk}
 use Rattle.pokerbox.specs.Answers.{Good, call-is, work-good}
 
@@ -67,9 +69,13 @@ abbrev pub StoredOk : Limits → Option Queue → Type 0
 StoredOk m none = Unit {0}
 StoredOk m (some q) = Fit q × ((q .persisted ≡ q .cursor) × (q .limits ≡ m))
 
-pub fresh-is : (m : Limits) (other : Bytes) → inRange m ≡ true → need m ≤ length other → freshOf m other ≡ (Done Nothing, over (areaBytes (fresh m)) other)
-unfolding freshOf
-fresh-is m other r h = rw (r, le-ltb (length other) (need m) h)
+pub fresh-is : (m : Limits) (other : Bytes) → limitsRight? m ≡ true → need m ≤ length other → freshUnder m other ≡ (Done Nothing, over (areaBytes (fresh m)) other)
+unfolding freshUnder freshOf
+fresh-is m other r h =
+    let l = shares-whole m r in
+    let e = limits-again m r in
+    let z = and-true (inRange m) (sharesRight? m) r in
+    rw (l, e, z .0, z .1, le-ltb (length other) (need m) h)
 
 open-is : (q : Queue) (other : Bytes) → Fit q → q .persisted ≡ q .cursor → need (q .limits) ≤ length other → openOf (imageBytes q) other ≡ (Done Nothing, over (areaBytes q) other)
 unfolding openOf
@@ -80,7 +86,7 @@ level : (q : Queue) → q .persisted ≡ q .cursor → moved (q .cursor) (q .cur
 unfolding moved
 level q e = ap (λ (n : ℕ). moved n (q .cursor) (q .tip) q) (sym e)
 
-pub starts-is : (m : Limits) (o : Option Queue) (other : Bytes) → inRange m ≡ true → StoredOk m o → need m ≤ length other
+pub starts-is : (m : Limits) (o : Option Queue) (other : Bytes) → limitsRight? m ≡ true → StoredOk m o → need m ≤ length other
     → starts m (images o) other ≡ (Done Nothing, over (areaBytes (restart m o .queue)) other)
 unfolding starts
 starts-is m none other r s h = fresh-is m other r h
@@ -128,7 +134,7 @@ pub record Same {A : Type 0} (m : Limits) (near : Bool) (u : A × Plain) (v : A 
   pub inv : Inv m near (u .1)
   pub rep : Rep (u .1) (v .1)
 
-pub restart-inv : (m : Limits) (near : Bool) (o : Option Queue) → inRange m ≡ true → StoredOk m o → Inv m near (restart m o)
+pub restart-inv : (m : Limits) (near : Bool) (o : Option Queue) → limitsRight? m ≡ true → StoredOk m o → Inv m near (restart m o)
 unfolding moved
 restart-inv m near none r s = record { fit = fresh-fit m r; limits = refl; stored = tt; tied = refl; recs = refl; close = λ _. omega arith }
 restart-inv m near (some q) r s =
@@ -141,7 +147,7 @@ restart-stored m (some q) = refl
 
 -- ---- a step
 
-module _ (m : Limits) (range : inRange m ≡ true) (old : Bool) (p : Plain) (w : World) (l : Lent) (inv : Inv m old p) (rep : Rep p w) (room : need m ≤ length (l .other)) where
+module _ (m : Limits) (range : limitsRight? m ≡ true) (old : Bool) (p : Plain) (w : World) (l : Lent) (inv : Inv m old p) (rep : Rep p w) (room : need m ≤ length (l .other)) where
   cur-reads : readArea (w .area) ≡ some (p .queue)
   cur-reads = ap readArea (rep .area) ∙ fit-stands (p .queue) (inv .fit) (rep .later)
 
@@ -252,7 +258,7 @@ module _ (m : Limits) (range : inRange m ≡ true) (old : Bool) (p : Plain) (w :
           let s = settle-same (mover c (p .queue) old) (k .answer) (k .next) fate g t in
           record { told = ap (λ z. record { answer = k .answer; out = over (k .bytes) (l .out); settled = z }) (s .told); inv = s .inv; rep = s .rep }
 
-pub step-same : (m : Limits) → inRange m ≡ true → (old : Bool) (p : Plain) (w : World) (x : Step) → Inv m old p → Rep p w → StepOk m p x
+pub step-same : (m : Limits) → limitsRight? m ≡ true → (old : Bool) (p : Plain) (w : World) (x : Step) → Inv m old p → Rep p w → StepOk m p x
     → Same m (movedBy p old x) (plainStep m p x) (worldStep m w x)
 unfolding plainStep worldStep
 step-same m range old p w (call c l fate) inv rep o = call-same m range old p w l inv rep (o .1 .1) c fate (o .0) (o .1 .0)
@@ -260,7 +266,7 @@ step-same m range old p w (cut l) inv rep o = cut-same m range old p w l inv rep
 
 -- ---- every list
 
-pub run-same : (m : Limits) → inRange m ≡ true → (xs : List Step) (old : Bool) (p : Plain) (w : World) → Inv m old p → Rep p w → StepsOk m p xs
+pub run-same : (m : Limits) → limitsRight? m ≡ true → (xs : List Step) (old : Bool) (p : Plain) (w : World) → Inv m old p → Rep p w → StepsOk m p xs
     → Same m (movedLast m p old xs) (run (plainStep m) p xs) (run (worldStep m) w xs)
 run-same m range [] old p w inv rep o = record { told = refl; inv = inv; rep = rep }
 run-same m range (x ∷ xs) old p w inv rep o =

@@ -27,24 +27,24 @@ use Rattle.queue.specs.Reconciles.{Diff, diff-sym}
 use Rattle.queue.specs.Decided.{one-pass}
 use Rattle.queue.specs.paper.Records.{Bytes, Limits, Rec, Queue}
 use Rattle.queue.specs.paper.Lists.{filter, map}
-use Rattle.queue.specs.paper.Sound.{inRange, need, among?, different?}
+use Rattle.queue.specs.paper.Sound.{limitsRight?, need, among?, different?}
 use Rattle.queue.specs.paper.Area.{areaBytes, over}
 use Rattle.queue.specs.paper.Reading.{first?, selected?, selectedAt, selectionAt}
-use Rattle.queue.specs.paper.Calls.{work, fresh, readOf, selectionAtOf, freshOf}
+use Rattle.queue.specs.paper.Calls.{work, fresh, readOf, selectionAtOf}
 use Rattle.queue.specs.paper.Fees.{bestFees, candidates, sizeOf, feeOf, bestFeesOf}
 use Rattle.queue.specs.fees.Laws.{sub-take}
 use Rattle.queue.specs.fees.Claims.{set-sub}
 use Rattle.queue.specs.paper.Parents.{parentsFirstAt, parentsFirstOf, waitsFor?}
 use Rattle.queue.specs.parents.Laws.{inside-pairwise}
 use Rattle.queue.specs.parents.Claims.{selected-differ, selected-once, such, parents-first}
-use Rattle.pokerbox.specs.paper.Machine.{Step, call, cut, Told, run, Plain, restart, plainStep, World, worldStep, starts}
+use Rattle.pokerbox.specs.paper.Machine.{Step, call, cut, Told, run, Plain, restart, plainStep, World, worldStep, freshUnder, starts}
 use Rattle.pokerbox.specs.paper.Claim.{CallOk, StepOk, StepsOk, mover, movedBy, movedLast, Holds, Image, Claim, Template, Templates, BestSet, BestSets, Ordered, OrderedLists, OnePasses}
 use Rattle.pokerbox.specs.Answers.{Good, work-good}
 use Rattle.pokerbox.specs.Runs.{image-room, fresh-is, starts-is, Inv, Same, restart-inv, step-same, run-same, images, TextOk}
 
 -- What holds between steps is what is claimed; of a world w that stands beside w′, with the same area and a first file that opens
 -- alike.
-pub same-holds : (m : Limits) (o : Option Queue) (File : Option Bytes → Option Queue → Type 0) (xs : List Step) (told : List Told) (w w′ : World) (p : List Told × Plain) → inRange m ≡ true
+pub same-holds : (m : Limits) (o : Option Queue) (File : Option Bytes → Option Queue → Type 0) (xs : List Step) (told : List Told) (w w′ : World) (p : List Told × Plain) → limitsRight? m ≡ true
     → Same m (movedLast m (restart m o) false xs) p (told, w′) → w .area ≡ w′ .area → ((other : Bytes) → starts m (w .file) other ≡ starts m (w′ .file) other) → File (w .file) (p .1 .stored)
     → Holds m o File xs (told, w) p
 unfolding over
@@ -73,10 +73,10 @@ same-holds m o File xs told w w′ p range s same alike file =
 
 -- where the list begins
 abbrev pub world : Limits → Bytes → Option Bytes → World
-world m first second = record { area = freshOf m first .1; file = none; second = second }
+world m first second = record { area = freshUnder m first .1; file = none; second = second }
 
 -- after every list
-all-same : (m : Limits) (first : Bytes) (second : Option Bytes) (xs : List Step) → inRange m ≡ true → need m ≤ length first → StepsOk m (restart m none) xs
+all-same : (m : Limits) (first : Bytes) (second : Option Bytes) (xs : List Step) → limitsRight? m ≡ true → need m ≤ length first → StepsOk m (restart m none) xs
     → Same m (movedLast m (restart m none) false xs) (run (plainStep m) (restart m none) xs) (run (worldStep m) (world m first second) xs)
 unfolding over
 all-same m first second xs range room ok = run-same m range xs false (restart m none) (world m first second) (restart-inv m false none range tt)
@@ -138,7 +138,7 @@ ordered area q now height e f =
     }
 
 -- after every list of steps
-pub in-area : (m : Limits) (first : Bytes) (second : Option Bytes) (xs : List Step) → inRange m ≡ true → need m ≤ length first → StepsOk m (restart m none) xs
+pub in-area : (m : Limits) (first : Bytes) (second : Option Bytes) (xs : List Step) → limitsRight? m ≡ true → need m ≤ length first → StepsOk m (restart m none) xs
     → (readArea (run (worldStep m) (world m first second) xs .1 .area) ≡ some (run (plainStep m) (restart m none) xs .1 .queue)) × Fit (run (plainStep m) (restart m none) xs .1 .queue)
 in-area m first second xs range room ok =
     let s = all-same m first second xs range room ok in
@@ -191,12 +191,12 @@ roomy-step m old p (call c l fate) i h =
     (h .0, (text-ok m (mover c (p .queue) old) (p .queue) (k .answer) (k .next) (l .text) (i .limits) (h .1 .0) g, h .1 .1))
 roomy-step m old p (cut l) i h = h
 
-roomy-steps : (m : Limits) → inRange m ≡ true → (xs : List Step) (old : Bool) (p : Plain) → Inv m old p → All (RoomyOk m) xs → StepsOk m p xs
+roomy-steps : (m : Limits) → limitsRight? m ≡ true → (xs : List Step) (old : Bool) (p : Plain) → Inv m old p → All (RoomyOk m) xs → StepsOk m p xs
 roomy-steps m range [] old p i h = tt
 roomy-steps m range (x ∷ xs) old p i h =
     let o = roomy-step m old p x i (h .0) in
     let s = step-same m range old p (record { area = areaBytes (p .queue) ++ []; file = images (p .stored); second = none }) x i (record { later = []; area = refl; file = refl }) o in
     (o, roomy-steps m range xs (movedBy p old x) (plainStep m p x .1) (s .inv) (h .1))
 
-pub roomy : (m : Limits) (xs : List Step) → inRange m ≡ true → All (RoomyOk m) xs → StepsOk m (restart m none) xs
+pub roomy : (m : Limits) (xs : List Step) → limitsRight? m ≡ true → All (RoomyOk m) xs → StepsOk m (restart m none) xs
 roomy m xs range h = roomy-steps m range xs false (restart m none) (restart-inv m false none range tt) h

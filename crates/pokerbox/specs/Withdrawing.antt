@@ -22,7 +22,7 @@ use Rattle.queue.specs.NoHolder.{NoHolder, LeavesNoHolder, WritesNoHolder, admi
 use Rattle.queue.specs.paper.Records.{Bytes, Id, Limits, Rec, Queue}
 use Rattle.queue.specs.paper.Lists.{filter}
 use Rattle.queue.specs.paper.Ids.{same?}
-use Rattle.queue.specs.paper.Sound.{inRange, need, among?}
+use Rattle.queue.specs.paper.Sound.{limitsRight?, need, among?}
 use Rattle.queue.specs.paper.Area.{areaBytes}
 use Rattle.queue.specs.paper.Changing.{Out, refused, done, named?, moved, admit, cancel, expire, reconcile, reopen, setCursor}
 use Rattle.queue.specs.paper.Reading.{selectedAt, selectionAt}
@@ -126,18 +126,18 @@ module _ (m : Limits) (p : Plain) (h : History) (v : Covered m p h) where
       (work-good c (p .queue) (length (l .next)) (length (l .out)) old (o .0) (i .fit)) (work-written c (p .queue) (length (l .next)) (length (l .out)) (i .fit))
   step-covered old (cut l) i o = resumed-covered m (p .stored) (h .stored) (v .stored)
 
-step-inv : (m : Limits) → inRange m ≡ true → (old : Bool) (p : Plain) (x : Step) → Inv m old p → StepOk m p x → Inv m (movedBy p old x) (plainStep m p x .1)
+step-inv : (m : Limits) → limitsRight? m ≡ true → (old : Bool) (p : Plain) (x : Step) → Inv m old p → StepOk m p x → Inv m (movedBy p old x) (plainStep m p x .1)
 step-inv m range old p x i o =
     step-same m range old p (record { area = areaBytes (p .queue) ++ []; file = images (p .stored); second = none }) x i (record { later = []; area = refl; file = refl }) o .inv
 
-run-covered : (m : Limits) → inRange m ≡ true → (xs : List Step) (old : Bool) (p : Plain) (h : History) → Inv m old p → Covered m p h → StepsOk m p xs
+run-covered : (m : Limits) → limitsRight? m ≡ true → (xs : List Step) (old : Bool) (p : Plain) (h : History) → Inv m old p → Covered m p h → StepsOk m p xs
     → Covered m (run (plainStep m) p xs .1) (history m p h xs)
 run-covered m range [] old p h i v o = v
 run-covered m range (x ∷ xs) old p h i v o =
     run-covered m range xs (movedBy p old x) (plainStep m p x .1) (historyBy p h x) (step-inv m range old p x i (o .0)) (step-covered m p h v old x i (o .0)) (o .1)
 
 -- After every list: whoever is in the history is a tombstone or absent, in the queue and in what a restart would give.
-pub covered : (m : Limits) (xs : List Step) → inRange m ≡ true → StepsOk m (restart m none) xs → Covered m (after m xs) (history m (restart m none) (resumed none) xs)
+pub covered : (m : Limits) (xs : List Step) → limitsRight? m ≡ true → StepsOk m (restart m none) xs → Covered m (after m xs) (history m (restart m none) (resumed none) xs)
 covered m xs range ok = run-covered m range xs false (restart m none) (resumed none) (restart-inv m false none range tt) (resumed-covered m none none tt) ok
 
 -- ---- nobody of the history is selected

@@ -10,7 +10,8 @@ use Rattle.queue.specs.Codec.{All, all-append}
 use Rattle.queue.specs.paper.Records.{Bytes, Id, Limits}
 use Rattle.queue.specs.paper.Lists.{map}
 use Rattle.queue.specs.paper.Ids.{cmpL, rise?}
-use Rattle.queue.specs.paper.Sound.{inRange, need, used?, clash?}
+use Rattle.queue.specs.paper.Kinds.{firstShare}
+use Rattle.queue.specs.paper.Sound.{inRange, sharesRight?, limitsRight?, need, used?, clash?}
 use Rattle.queue.specs.paper.Area.{termsBytes, placeBytes, beVal}
 use Rattle.queue.specs.paper.Changing.{committed, moved, newRec, admit, finished, finishThose, forget, cancel, due?, expire, confirm, touch, touchedRecs, releases, toRelease, reconcile, reopened, reopen}
 use Rattle.queue.specs.paper.Reading.{selectionAt}
@@ -24,7 +25,7 @@ use Rattle.pokerbox.specs.Examples.{numbers, small}
 
 -- T is 1
 abbrev m : Limits
-m = record { P = 2; B = 8; T = 1; K = 1 }
+m = record { P = 2; B = 8; T = 1; K = 1; shares = firstShare 2 }
 
 -- enough of each
 abbrev lent : Lent
@@ -37,6 +38,7 @@ id n = replicate 32 n
 abbrev enters : ℕ → Call
 enters n = admitting (record {
   id = id n;
+  caller = 0;
   inputs = id (100 + n);
   outputs = [];
   bytes = 1 ∷ 2 ∷ 3 ∷ [];
@@ -149,8 +151,8 @@ text-room = let a = needs in let b = length-replicate {A = ℕ} 6694 0 in omega 
 other-room : need m ≤ length (lent .other)
 other-room = let a = needs in let b = length-replicate {A = ℕ} 3344 0 in omega arith
 
-range : inRange m ≡ true
-unfolding inRange
+range : limitsRight? m ≡ true
+unfolding inRange sharesRight?
 range = refl
 
 enters-ok : (n : ℕ) → n < 100 → CallOk (enters n)

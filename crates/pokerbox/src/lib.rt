@@ -73,12 +73,19 @@ fn sound(area: &[u8]) -> Answer
     Answer::Refused(3)
 }
 
-// A fresh queue into area: 1, 2.
+// A fresh queue into area: 1, 2, 5.
 #[no_mangle]
-pub extern "C" fn pokerbox_fresh(p: u64, b: u64, t: u64, k: u64, area: &mut [u8]) -> u64
-    ensures { λ r. ⌜ (r, now (area .exit)) ≡ gives (freshOf (limits p b t k) (now (area .entry))) ⌝ }
+pub extern "C" fn pokerbox_fresh(
+    p: u64,
+    b: u64,
+    t: u64,
+    k: u64,
+    shares: &[u8],
+    area: &mut [u8],
+) -> u64
+    ensures { λ r. ⌜ (r, now (area .exit)) ≡ gives (freshOf p b t k (now (shares .entry)) (now (area .entry))) ⌝ }
 {
-    number(Limits::fresh(p, b, t, k, area))
+    number(Limits::fresh(p, b, t, k, shares, area))
 }
 
 // Does the area hold a sound queue? 3 if not.
@@ -89,12 +96,13 @@ pub extern "C" fn pokerbox_sound(area: &[u8]) -> u64
     number(sound(area))
 }
 
-// Admission: the entry in out, old or new. 3, 2, 5, 6, 7, 8, 9, 10, 11, 12, 4.
+// Admission: the entry in out, old or new. 3, 2, 5, 6, 7, 8, 9, 10, 18, 11, 12, 4.
 #[no_mangle]
 pub extern "C" fn pokerbox_admit(
     cur: &[u8],
     next: &mut [u8],
     id: &[u8],
+    caller: u8,
     inputs: &[u8],
     outputs: &[u8],
     bytes: &[u8],
@@ -113,12 +121,13 @@ pub extern "C" fn pokerbox_admit(
     tip: &[u8],
     out: &mut [u8],
 ) -> u64
-    ensures { λ r. ⌜ (r, (now (next .exit), now (out .exit))) ≡ gives (callOf (admitting (admitArgs (now (id .entry)) (now (inputs .entry)) (now (outputs .entry)) (now (bytes .entry)) clock timeflag time heightflag height priority labelflag (now (label .entry)) fee cost tipheight tipflag (now (tip .entry)))) (now (cur .entry)) (now (next .entry)) (now (out .entry))) ⌝ }
+    ensures { λ r. ⌜ (r, (now (next .exit), now (out .exit))) ≡ gives (callOf (admitting (admitArgs (now (id .entry)) caller (now (inputs .entry)) (now (outputs .entry)) (now (bytes .entry)) clock timeflag time heightflag height priority labelflag (now (label .entry)) fee cost tipheight tipflag (now (tip .entry)))) (now (cur .entry)) (now (next .entry)) (now (out .entry))) ⌝ }
 {
     number(admit(
         cur,
         next,
         id,
+        caller,
         inputs,
         outputs,
         bytes,
@@ -243,7 +252,7 @@ pub extern "C" fn pokerbox_need(p: u64, b: u64, t: u64, k: u64, value: &mut u64)
     number(image::area_need(p, b, t, k, value))
 }
 
-// The limits of an image's queue, and how many bytes an area needs under them. 16.
+// The limits and shares of an image's queue, and how many bytes an area needs under them. 16, 4.
 #[no_mangle]
 pub extern "C" fn pokerbox_image_limits(
     text: &[u8],
@@ -251,11 +260,12 @@ pub extern "C" fn pokerbox_image_limits(
     b: &mut u64,
     t: &mut u64,
     k: &mut u64,
+    shares: &mut [u8],
     need: &mut u64,
 ) -> u64
-    ensures { λ r. ⌜ (r, (now (p .exit), (now (b .exit), (now (t .exit), (now (k .exit), now (need .exit)))))) ≡ gives (imageLimitsOf (now (text .entry)) (now (p .entry), (now (b .entry), (now (t .entry), (now (k .entry), now (need .entry)))))) ⌝ }
+    ensures { λ r. ⌜ (r, ((now (p .exit), (now (b .exit), (now (t .exit), (now (k .exit), now (need .exit))))), now (shares .exit))) ≡ gives (imageLimitsOf (now (text .entry)) (now (p .entry), (now (b .entry), (now (t .entry), (now (k .entry), now (need .entry))))) (now (shares .entry))) ⌝ }
 {
-    number(image::image_limits(text, p, b, t, k, need))
+    number(image::image_limits(text, p, b, t, k, shares, need))
 }
 
 // The entry of an id. 3, 5, 13, 4.

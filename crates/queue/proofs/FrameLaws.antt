@@ -18,6 +18,7 @@ use Rattle.queue.specs.Choice.{fixC, sinceC, guardDec, guardC, thenDec, 
 use Rattle.queue.specs.Kinds.{mark-enc, mark-up}
 use Rattle.queue.specs.Splice as written
 use Rattle.queue.specs.Ids.{part}
+use Rattle.queue.specs.Shares.{pos256}
 use Rattle.queue.specs.Lists.{and-true}
 use Rattle.queue.specs.Reads.{Reads, Span, flagDec, flagC, Counted, OptSpan, whole, listAt}
 use Rattle.queue.specs.ReadLaws.{drop-none, false-true, pair, mapped, weaken, OptW, opt-absent, opt-present, Small, beAt, be-here, Spans, short, spanned, spans-be, spans-byte, spans-pair, spans-vec, spans-id, counted, opt-span, none-left}
@@ -39,10 +40,6 @@ use Rattle.queue.proofs.ByteLaws.{be-same}
 
 pub few : (w size k : ℕ) → w ≤ 4 → size ≤ 32 → k < 256 ^ w → k * size ≤ 2 ^ 32 * 32
 few w size k hw hs hk = mul-le-mul (le-trans (le-of-lt hk) (pow-le-pow-right (lit< tt) hw)) hs
-
-pub pos256 : (n : ℕ) → 0 < 256 ^ n
-pos256 zero = omega arith
-pos256 (suc n) = let h = pos256 n in rw pow-suc (omega arith)
 
 pub ok-as : {A : Type 0} {𝓐 : Codec A} {s : Bytes} {at n : ℕ} {ok ok′ : Bool} {W : A → Type 0} → ok ≡ ok′ → Reads 𝓐 s at ok′ n W → Reads 𝓐 s at ok n W
 ok-as e x = rw e x

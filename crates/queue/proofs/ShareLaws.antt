@@ -19,7 +19,7 @@ use Rattle.queue.specs.Reads.{Reads, Span}
 use Rattle.queue.specs.ReadLaws.{false-true, Small, beAt, be-here, short, spans-be, spans-vec}
 use Rattle.queue.specs.Plain.{numbers-plain}
 use Rattle.queue.specs.Facts.{SharesAs, SharesAt}
-use Rattle.queue.specs.Shares.{LentShares}
+use Rattle.queue.specs.Shares.{LentShares, val-be}
 use Rattle.queue.specs.paper.Records.{Bytes}
 use Rattle.queue.specs.paper.Lists.{all?, map}
 use Rattle.queue.specs.paper.Kinds.{hasCallers, firstShare}
@@ -159,17 +159,6 @@ four-all : (p : ℕ) → p < 256 ^ 4 → All (λ b. b < 256) (codec.be 4 p)
 unfolding beC
 four-all p h = beC 4 .small p h
 
--- the number that 4 bytes are
-val-be : (p : ℕ) → p < 256 ^ 4 → beVal (codec.be 4 p) ≡ p
-unfolding beC
-val-be p h =
-    let s : Bytes = codec.be 4 p in
-    let l = be-length 4 p in
-    let e : beDec 4 s ≡ got p [] = ap (beDec 4) (sym (append-nil s)) ∙ beC 4 .fwd p [] h in
-    let g : beDec 4 s ≡ got (beAt 4 s 0) (drop (0 + 4) s) = be-here 4 s 0 (omega arith) (all-small s (four-all p h)) in
-    let k : beAt 4 s 0 ≡ p = cc in
-    sym (be-val 4 s 0 (omega arith) ∙ ap beVal (take-all 4 s (omega arith))) ∙ k
-
 -- P, and zeros behind it
 zero-numbers : map beVal (pieces 4 15 (replicate 60 0)) ≡ replicate 15 0
 unfolding beVal
@@ -190,7 +179,7 @@ shares-no k {p} {v} {at} {d′} t y h =
     let l = be-length 4 p in
     let e : d′ ≡ b ++ replicate 60 0 = sym (put-over y (omega arith)) ∙ ap (λ (x : Bytes). x ++ drop (length x) (replicate 64 0)) c ∙ ap (λ (j : ℕ). b ++ drop j (replicate 64 0)) l in
     let l′ : length d′ ≡ 64 = ap length e ∙ length-append b (replicate 60 0) ∙ omega arith in
-    let is : numbers d′ ≡ firstShare p = numbers-64 d′ l′ ∙ ap (λ (x : Bytes). map beVal (pieces 4 16 x)) e ∙ first-numbers p b l (val-be p h) in
+    let is : numbers d′ ≡ firstShare p = numbers-64 d′ l′ ∙ ap (λ (x : Bytes). map beVal (pieces 4 16 x)) e ∙ first-numbers p b l (val-be 4 p h) in
     let small : Small d′ = rw e (all-small (b ++ replicate 60 0) (all-append (λ b. b < 256) b (replicate 60 0) (four-all p h) (all-zeros 60))) in
     rw t (record { good = λ m _. (firstShare p, refl, omega arith, m, record { is = is; long = l′; small = small }); bad = λ m z. false-true (sym z) })
 

@@ -28,6 +28,7 @@ use Rattle.queue.specs.Sounds.{Fit, fit-of, Right}
 use Rattle.queue.specs.Fronts.{frontLen, tipOf, tipSize, headWith, Small, frontBytes, queueOf}
 use Rattle.queue.specs.Finishing.{picked, fateOf, stepL, one?, walkL, Floors, above}
 use Rattle.queue.specs.Rules.{sum}
+use Rattle.queue.specs.Shares.{shares-long}
 use Rattle.queue.specs.Writes.{HeadIn, TipIs, MovedFrom, ended, EndedFrom}
 use Rattle.queue.specs.Plain.{bytes-plain, limits-plain}
 use Rattle.queue.specs.paper.Records.{Bytes, Id, Limits, Rec, Queue}
@@ -142,12 +143,7 @@ tip-long false tip h = refl
 sizes : (a b c d e f g h : Bytes) → length (a ++ (b ++ (c ++ (d ++ (e ++ (f ++ (g ++ h))))))) ≡ length a + (length b + (length c + (length d + (length e + (length f + (length g + length h))))))
 sizes a b c d e f g h = simp length-append
 
-shares-long : (l : List ℕ) → length (sharesBytes l) ≡ 4 * length l
-unfolding sharesBytes
-shares-long [] = refl
-shares-long (n ∷ l) = let a = be-length 4 n in let i = shares-long l in length-append (codec.be 4 n) (sharesBytes l) ∙ omega arith
-
-limits-long : (l : Limits) → length (l .shares) ≡ 16 → length (limitsC .enc l) ≡ 80
+pub limits-long : (l : Limits) → length (l .shares) ≡ 16 → length (limitsC .enc l) ≡ 80
 limits-long l h =
     let b = be-length 4 (l .P) in let c = be-length 4 (l .B) in let d = be-length 4 (l .T) in let e = be-length 4 (l .K) in let f = shares-long (l .shares) in
     ap length (limits-plain newest l) ∙ simp length-append (omega arith)

@@ -1,5 +1,5 @@
 -- What admission leaves.
-use mathlib.Core.Path.{_≡_, refl, sym, _∙_}
+use mathlib.Core.Path.{_≡_, refl, ap, sym, _∙_}
 use mathlib.Core.Bool.{Bool, true, false, cond, not, _&&_, _||_}
 use mathlib.Core.Option.{Option, none, some}
 use mathlib.Core.List.{List, [], _∷_}
@@ -13,16 +13,17 @@ use Rattle.queue.specs.Frames.{idC, labelC, termsC, heldC, placeC, bodyC
 use Rattle.queue.specs.Lists.{all-map, total-split, sub-all, sub-pairwise, sub-total}
 use Rattle.queue.specs.ReadLaws.{false-true}
 use Rattle.queue.specs.Order.{below-trans, below-total, or-true}
-use Rattle.queue.specs.ListLaws.{and-false, all-every, filter-sub, filter-all, find-all, insert-all, insert-total, insert-apart, insert-rising}
+use Rattle.queue.specs.ListLaws.{one-le, and-false, all-every, filter-sub, filter-all, find-all, insert-all, insert-total, insert-apart, insert-rising}
 use Rattle.queue.specs.Sounds.{Right, Before, Distinct, distinct-sym, Apart, apart-sym, free-of, each-in, Sound, Fields, Fit}
 use Rattle.queue.specs.Forget.{core-sound}
 use Rattle.queue.specs.Keeps.{Leaves, Wholly, same-kept, committed-kept, pending-mined}
-use Rattle.queue.specs.declared.Kind.the-variants.{Nothing}
+use Rattle.queue.specs.declared.Kind.{Kind}
+use Rattle.queue.specs.declared.Kind.the-variants.{Nothing, Memory, Whole, Cursor}
 use Rattle.queue.specs.paper.Records.{Bytes, Held, Rec, Queue, queued, mined, conflicted, cancelled, expired}
 use Rattle.queue.specs.paper.Lists.{isSome, one, total, filter, find, isEmpty?, maybe}
 use Rattle.queue.specs.paper.Ids.{below?}
 use Rattle.queue.specs.paper.Sound.{holder?, pending?, mined?, inputs, content, labelLen, among?, clash?, heldRight?}
-use Rattle.queue.specs.paper.Changing.{named?, Admission, reached?, newRec, put, pendings, pendingBytes, pendingsOf, shareOf, admitNew, admit, done}
+use Rattle.queue.specs.paper.Changing.{named?, Admission, reached?, newRec, put, pendings, pendingBytes, pendingsOf, shareOf, admitNew, admit, Out, refused, done, committed, WithinShare}
 
 abbrev pub LabelBytes : Option Bytes → Type 0
 LabelBytes none = Unit {0}
@@ -72,6 +73,13 @@ weight-split s (some h) e = let z = held-split s true e in cases (pending? s)
     (λ u. rw (t, u) (omega arith))
     (λ u. let w = rw (t, u) at z in absurd (omega arith)))
 
+-- a weight grows by the new record's at most
+put-total : (r : Rec) (l : List Rec) (w : Rec → ℕ) → total w (put r l) ≤ w r + total w l
+put-total r l w =
+    let x = insert-total (λ x y. below? (x .id) (y .id)) w r (filter (λ x. not (named? (r .id) x)) l) in
+    let y = sub-total w (filter-sub (λ x. not (named? (r .id) x)) l) in
+    omega arith
+
 module _ (a : Admission) (q : Queue) (f : Fit q) (o : Admissible (q .limits .K) a) (r9 : ltb 200 (labelLen (a .label)) ≡ false) where
   abbrev lt : Rec → Rec → Bool
   lt x y = below? (x .id) (y .id)
@@ -113,13 +121,6 @@ module _ (a : Admission) (q : Queue) (f : Fit q) (o : Admissible (q .limits .K) 
         body = ((o .ins, omega arith), ((o .outs, omega arith), (o .bytes, omega arith)));
       }
 
-  -- a weight grows by the new record's at most
-  put-total : (w : Rec → ℕ) → total w (put (newRec a) (q .recs)) ≤ w (newRec a) + total w (q .recs)
-  put-total w =
-      let x = insert-total lt w (newRec a) rest in
-      let y = sub-total w (filter-sub (λ x. not (named? (newRec a .id) x)) (q .recs)) in
-      omega arith
-
   put-sound : pendings (q .recs) < q .limits .P → pendingBytes (q .recs) + length (a .held .bytes) ≤ q .limits .B → clash? (a .held .ins) (q .recs) ≡ false
       → Sound (q .limits) (q .counter) (put (newRec a) (q .recs))
   unfolding newRec
@@ -129,18 +130,18 @@ module _ (a : Admission) (q : Queue) (f : Fit q) (o : Admissible (q .limits .K) 
       core-sound (q .limits) (q .counter) (put (newRec a) (q .recs)) (record {
         range = s .range;
         fewHolders =
-            let x = put-total (λ r. one (holder? r)) in
+            let x = put-total (newRec a) (q .recs) (λ r. one (holder? r)) in
             let y = total-split (λ r. one (holder? r)) (λ r. one (pending? (r .state))) (λ r. one (mined? r && holder? r)) (q .recs) (all-map (q .recs) (λ r h. held-split (r .state) (holder? r) (h .held)) (s .right)) in
             let z = s .fewMined in
             omega arith;
         fewBytes =
-            let x = put-total (λ r. length (content (r .body))) in
+            let x = put-total (newRec a) (q .recs) (λ r. length (content (r .body))) in
             let y = total-split (λ r. length (content (r .body))) (λ r. cond (pending? (r .state)) (length (content (r .body))) 0) (λ r. cond (mined? r) (length (content (r .body))) 0) (q .recs)
             (all-map (q .recs) (λ r h. weight-split (r .state) (r .body) (h .held)) (s .right)) in
             let z = s .fewMinedBytes in
             omega arith;
-        fewMined = let x = put-total (λ r. one (mined? r && holder? r)) in let z = s .fewMined in omega arith;
-        fewMinedBytes = let x = put-total (λ r. cond (mined? r) (length (content (r .body))) 0) in let z = s .fewMinedBytes in omega arith;
+        fewMined = let x = put-total (newRec a) (q .recs) (λ r. one (mined? r && holder? r)) in let z = s .fewMined in omega arith;
+        fewMinedBytes = let x = put-total (newRec a) (q .recs) (λ r. cond (mined? r) (length (content (r .body))) 0) in let z = s .fewMinedBytes in omega arith;
         right = insert-all lt (Right (q .limits .K) (q .counter)) (newRec a) rest new-right (sub-all _ u (s .right));
         rising = insert-rising lt (λ x y z. below-trans (x .id) (y .id) (z .id)) (newRec a) rest
             (all-map rest (λ x h e. below-total (a .id) (x .id) e (not-true _ h)) (filter-all (λ x. not (named? (newRec a .id) x)) (q .recs)))
@@ -149,7 +150,7 @@ module _ (a : Admission) (q : Queue) (f : Fit q) (o : Admissible (q .limits .K) 
         apart = insert-apart lt Apart apart-sym (newRec a) rest
             (sub-all (Apart (newRec a)) u (each-in (λ i. among? i (a .held .ins) ≡ true) (λ i s. among? i (inputs (s .body)) ≡ false) (q .recs) (free-of (a .held .ins) (q .recs) r12)))
             (sub-pairwise Apart u (s .apart));
-      }) (let x = put-total (λ r. one (not (holder? r))) in let z = s .fewTombs in omega arith)
+      }) (let x = put-total (newRec a) (q .recs) (λ r. one (not (holder? r))) in let z = s .fewTombs in omega arith)
 
   cursor-ok : (l : List Rec) → (cond (isEmpty? l) (a .tipHeight) (q .cursor) < 256 ^ 4) × optC idC .ok (cond (isEmpty? l) (a .tip) (q .tip))
   cursor-ok [] = (o .tipHeight, o .tip)
@@ -207,3 +208,57 @@ admit-wholly a q = cases (reached? (a .due) (a .now))
     found : (x : Option Rec) → Wholly (maybe (admitNew a q) (λ r. cond (pending? (r .state) || mined? r) (done Nothing q r) (admitNew a q)) x)
     found none = free
     found (some r) = cases (pending? (r .state) || mined? r) (λ t. rw t tt) (λ t. rw t free)
+
+-- what a call leaves, and whether it writes
+abbrev entered : Out Rec → List Rec
+entered (refused n) = []
+entered (done k q a) = q .recs
+
+abbrev writes : Out Rec → ℕ
+writes (refused n) = 0
+writes (done k q a) = wholly k
+  where
+    wholly : Kind → ℕ
+    wholly Nothing = 0
+    wholly Memory = 0
+    wholly Whole = 1
+    wholly Cursor = 0
+
+-- an admission that enters leaves its caller within its share, and all within P
+pub within-share : WithinShare
+unfolding WithinShare admit committed newRec
+within-share a q x r e = cases (reached? (a .due) (a .now))
+    (λ t. no-entry (rw t at e))
+    (λ t. cases (reached? (a .dueHeight) (a .tipHeight))
+    (λ u. no-entry (rw (t, u) at e))
+    (λ u. cases (ltb 200 (labelLen (a .label)))
+    (λ v. no-entry (rw (t, u, v) at e))
+    (λ v. found (find (named? (a .id)) (q .recs)) (rw (t, u, v) at e))))
+  where
+    no-entry : {X : Type 0} {n : ℕ} → refused n ≡ done Whole x r → X
+    no-entry e = let z : _≡_ {A = ℕ} 0 1 = cc in absurd (omega arith)
+
+    new : admitNew a q ≡ done Whole x r → (pendingsOf (a .caller) (x .recs) ≤ shareOf (a .caller) (q .limits)) × (pendings (x .recs) ≤ q .limits .P)
+    new e = cases (leb (q .limits .P) (pendings (q .recs)))
+        (λ t. no-entry (rw t at e))
+        (λ t. cases (leb (shareOf (a .caller) (q .limits)) (pendingsOf (a .caller) (q .recs)))
+        (λ u. no-entry (rw (t, u) at e))
+        (λ u. cases (ltb (q .limits .B) (pendingBytes (q .recs) + length (a .held .bytes)))
+        (λ v. no-entry (rw (t, u, v) at e))
+        (λ v. cases (clash? (a .held .ins) (q .recs))
+        (λ w. no-entry (rw (t, u, v, w) at e))
+        (λ w.
+        let d = rw (t, u, v, w) at e in
+        let recs : put (newRec a) (q .recs) ≡ x .recs = ap entered d in
+        let i = leb-false (q .limits .P) (pendings (q .recs)) t in
+        let j = leb-false (shareOf (a .caller) (q .limits)) (pendingsOf (a .caller) (q .recs)) u in
+        let k = put-total (newRec a) (q .recs) (λ y. one (pending? (y .state))) in
+        let l = put-total (newRec a) (q .recs) (λ y. one (pending? (y .state) && eqb (y .caller) (a .caller))) in
+        let m = one-le (eqb (a .caller) (a .caller)) in
+        rw (← recs) (omega arith, omega arith)))))
+
+    found : (o : Option Rec) → maybe (admitNew a q) (λ y. cond (pending? (y .state) || mined? y) (done Nothing q y) (admitNew a q)) o ≡ done Whole x r → (pendingsOf (a .caller) (x .recs) ≤ shareOf (a .caller) (q .limits)) × (pendings (x .recs) ≤ q .limits .P)
+    found none e = new e
+    found (some y) e = cases (pending? (y .state) || mined? y)
+        (λ t. let d = rw t at e in let z : _≡_ {A = ℕ} 0 1 = ap writes d in absurd (omega arith))
+        (λ t. new (rw t at e))

@@ -93,13 +93,13 @@ impl Lent {
 
 // What has one length stands first, then the lengths of the rest, then these.
 fn admit(a: &[u8], cur: &[u8], next: &mut [u8], out: &mut [u8]) -> u64 {
-    let id = length_at(a, 48);
-    let inputs = length_at(a, 50);
-    let outputs = length_at(a, 52);
-    let signed = length_at(a, 54);
-    let label = length_at(a, 56);
-    let tip = length_at(a, 58);
-    let b = 60 + id;
+    let id = length_at(a, 49);
+    let inputs = length_at(a, 51);
+    let outputs = length_at(a, 53);
+    let signed = length_at(a, 55);
+    let label = length_at(a, 57);
+    let tip = length_at(a, 59);
+    let b = 61 + id;
     let c = b + inputs;
     let d = c + outputs;
     let e = d + signed;
@@ -107,7 +107,8 @@ fn admit(a: &[u8], cur: &[u8], next: &mut [u8], out: &mut [u8]) -> u64 {
     pokerbox_admit(
         cur,
         next,
-        part(a, 60, id),
+        part(a, 61, id),
+        number_8(a, 48),
         part(a, b, inputs),
         part(a, c, outputs),
         part(a, d, signed),
@@ -308,6 +309,7 @@ fn made(op: u8, a: &[u8], lent: Lent, cur: &mut [u8], stored: &[u8]) {
         number(a, 8, 8),
         number(a, 16, 8),
         number(a, 24, 8),
+        rest(a, 32),
         &mut cur[0..c],
     );
     say_line(op, r);

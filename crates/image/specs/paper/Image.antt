@@ -10,7 +10,7 @@ use Rattle.queue.specs.Areas.{readArea, readImage}
 use Rattle.queue.specs.paper.Records.{Bytes, Limits}
 use Rattle.queue.specs.paper.Lists.{maybe}
 use Rattle.queue.specs.paper.Sound.{inRange, need}
-use Rattle.queue.specs.paper.Area.{imageBytes, over}
+use Rattle.queue.specs.paper.Area.{sharesBytes, imageBytes, over}
 use Rattle.queue.specs.paper.Calls.{putQueue}
 
 -- the image into an output, its length behind a reference: 3, 4
@@ -29,13 +29,17 @@ openOf text area = maybe (Refused 16, area) (λ q. putQueue (Done Nothing) q are
 unfoldable pub needOf : Limits → ℕ → Answer × ℕ
 needOf m old = cond (inRange m) (Done Nothing, need m) (Refused 1, old)
 
--- P, B, T, K, and what an area needs under them
+-- P, B, T, K, and what an area needs under them; the shares have no part in it
 abbrev pub Five : Type 0
 Five = ℕ × (ℕ × (ℕ × (ℕ × ℕ)))
 
 abbrev pub limitsNeed : Limits → Five
 limitsNeed m = (m .P, (m .B, (m .T, (m .K, need m))))
 
--- The limits that opening takes from the header, and the need of the area to open into, behind five references: 16, as opening
-unfoldable pub imageLimitsOf : Bytes → Five → Answer × Five
-imageLimitsOf text old = maybe (Refused 16, old) (λ q. (Done Nothing, limitsNeed (q .limits))) (readImage text)
+-- The limits that opening takes from the header, and the need of the area to open into, behind five references, and the shares into
+-- an output: 16, as opening; 4
+unfoldable pub imageLimitsOf : Bytes → Five → Bytes → Answer × (Five × Bytes)
+imageLimitsOf text old shares =
+    maybe (Refused 16, (old, shares))
+    (λ q. cond (ltb (length shares) 64) (Refused 4, (old, shares)) (Done Nothing, (limitsNeed (q .limits), over (sharesBytes (q .limits .shares)) shares)))
+    (readImage text)

@@ -14,16 +14,16 @@ use Rattle.queue.specs.Lists.{Sub}
 use Rattle.queue.specs.Areas.{readImage}
 use Rattle.queue.specs.paper.Records.{Bytes, Limits, Queue}
 use Rattle.queue.specs.paper.Lists.{maybe, isEmpty?, map}
-use Rattle.queue.specs.paper.Sound.{inRange, need, holders, holderBytes, tombstones, apart?, different?}
+use Rattle.queue.specs.paper.Sound.{limitsRight?, need, holders, holderBytes, tombstones, apart?, different?}
 use Rattle.queue.specs.paper.Area.{areaBytes, imageBytes}
 use Rattle.queue.specs.paper.Changing.{Reconciling}
 use Rattle.queue.specs.paper.Decisions.{OnePass}
 use Rattle.queue.specs.paper.Reading.{selectedAt}
-use Rattle.queue.specs.paper.Calls.{idsBytes, Call, admitting, cancelling, expiring, reconciling, reopening, settingCursor, work, byKind, freshOf, toldOut, selectionAtOf}
+use Rattle.queue.specs.paper.Calls.{idsBytes, Call, admitting, cancelling, expiring, reconciling, reopening, settingCursor, work, byKind, toldOut, selectionAtOf}
 use Rattle.queue.specs.paper.Fees.{bestFees, candidates, sizeOf, feeOf, searchOf, budget?, bestFeesOf}
 use Rattle.queue.specs.paper.Parents.{parentsFirstAt, parentsFirstOf, ParentsFirst}
 use Rattle.image.specs.paper.Image.{openOf}
-use Rattle.pokerbox.specs.paper.Machine.{Fate, kept, failed, cutBefore, cutAfter, Step, call, cut, Told, run, Plain, restart, plainStep, World, worldStep, starts}
+use Rattle.pokerbox.specs.paper.Machine.{Fate, kept, failed, cutBefore, cutAfter, Step, call, cut, Told, run, Plain, restart, plainStep, World, worldStep, freshUnder, starts}
 
 -- ---- which lists: any, as far as numbers fit their widths and bytes are bytes (a caller can lend nothing else), and "all
 -- other areas, and the output lent to the image writer, are long enough"
@@ -109,11 +109,11 @@ pub record Holds (m : Limits) (o : Option Queue) (File : Option Bytes → Option
   pub tombstones : tombstones (p .1 .queue .recs) ≤ m .T
   pub cursor : movedLast m (restart m o) false xs ≡ true → p .1 .queue .cursor ≤ maybe 0 (λ q. q .cursor) (p .1 .stored) + 31
 
--- "The queue starts fresh, under any limits in range, with nothing stored": the area, and no first file; the second may hold
+-- "The queue starts fresh, under any limits in range" and any shares from 0 to P, "with nothing stored": the area, and no first file; the second may hold
 -- anything. "For every list .." (every list, so every first part of one: the claim holds after each call and each cut)
 abbrev pub Always : (Limits → List Step → List Told × World → List Told × Plain → Type 0) → Type 0
-Always C = (m : Limits) (first : Bytes) (second : Option Bytes) (xs : List Step) → inRange m ≡ true → need m ≤ length first → StepsOk m (restart m none) xs
-    → C m xs (run (worldStep m) (record { area = freshOf m first .1; file = none; second = second }) xs) (run (plainStep m) (restart m none) xs)
+Always C = (m : Limits) (first : Bytes) (second : Option Bytes) (xs : List Step) → limitsRight? m ≡ true → need m ≤ length first → StepsOk m (restart m none) xs
+    → C m xs (run (worldStep m) (record { area = freshUnder m first .1; file = none; second = second }) xs) (run (plainStep m) (restart m none) xs)
 
 -- The first file is "byte for byte the image of the machine's stored queue, or absent".
 abbrev pub Image : Option Bytes → Option Queue → Type 0

@@ -8,7 +8,7 @@ use Rattle.queue.specs.declared.Answer.{Answer}
 use Rattle.queue.specs.declared.Answer.the-variants.{Refused, Done}
 use Rattle.queue.specs.paper.Records.{Bytes, Limits, Queue}
 use Rattle.queue.specs.paper.Lists.{maybe}
-use Rattle.queue.specs.paper.Area.{over}
+use Rattle.queue.specs.paper.Area.{sharesBytes, over}
 use Rattle.queue.specs.paper.Changing.{moved}
 use Rattle.queue.specs.paper.Calls.{Call, work, byKind, callOf, fresh, freshOf, settleOf}
 use Rattle.image.specs.paper.Image.{imageOf, openOf}
@@ -89,9 +89,14 @@ pub record World : Type 0 where
 unfoldable pub imageText : Bytes → Bytes → Bytes
 imageText area text = let w = imageOf area text 0 .1 in take (w .1) (w .0)
 
--- "Opening reads the first file alone, all of it."
+-- a fresh queue under limits and shares, which are lent as a header has them
+unfoldable pub freshUnder : Limits → Bytes → Answer × Bytes
+freshUnder m other = freshOf (m .P) (m .B) (m .T) (m .K) (sharesBytes (m .shares)) other
+
+-- "Opening reads the first file alone, all of it." Document 02, P8: "after a cut with nothing stored, those" shares "that the list began
+-- with"
 unfoldable pub starts : Limits → Option Bytes → Bytes → Answer × Bytes
-starts m file other = maybe (freshOf m other) (λ text. openOf text other) file
+starts m file other = maybe (freshUnder m other) (λ text. openOf text other) file
 
 abbrev pub restarted : Limits → Bytes → Option Bytes → Option Bytes → World
 restarted m other file second = record { area = starts m file other .1; file = file; second = second }

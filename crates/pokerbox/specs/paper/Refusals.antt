@@ -11,10 +11,10 @@ use Rattle.queue.specs.declared.Answer.the-variants.{Refused, Done}
 use Rattle.queue.specs.Areas.{readArea, readImage}
 use Rattle.queue.specs.paper.Records.{Bytes, Id, Limits, Rec, Queue}
 use Rattle.queue.specs.paper.Lists.{isSome, maybe, any?, total, count, find}
-use Rattle.queue.specs.paper.Sound.{inRange, need, holder?, pending?, mined?, labelLen, clash?}
+use Rattle.queue.specs.paper.Sound.{inRange, sharesRight?, need, holder?, pending?, mined?, labelLen, clash?}
 use Rattle.queue.specs.paper.Area.{imageBytes}
-use Rattle.queue.specs.paper.Changing.{Out, refused, done, top, named?, reached?, pendings, pendingBytes, admit, cancel, due?, expire, toRelease, reconcile}
-use Rattle.queue.specs.paper.Calls.{id?, entryBytes, idsBytes, releasedBytes, Call, admitting, cancelling, expiring, reconciling, reopening, settingCursor, admission, reconciliation, shape?, overK?, callOf, freshOf, soundOf, settleShape?, settleOf, readOf, numberOf, entryOf, signedBytesOf}
+use Rattle.queue.specs.paper.Changing.{Out, refused, done, top, named?, reached?, pendings, pendingBytes, pendingsOf, shareOf, admit, cancel, due?, expire, toRelease, reconcile}
+use Rattle.queue.specs.paper.Calls.{id?, entryBytes, idsBytes, releasedBytes, Call, admitting, cancelling, expiring, reconciling, reopening, settingCursor, admission, reconciliation, shape?, overK?, callOf, limitsOf, freshOf, soundOf, settleShape?, settleOf, readOf, numberOf, entryOf, signedBytesOf}
 use Rattle.queue.specs.paper.Fees.{bestFees, candidates, sizeOf, feeOf, bestBytes, budget?, bestFeesOf}
 use Rattle.image.specs.paper.Image.{imageOf, openOf, Five, needOf, imageLimitsOf}
 
@@ -49,7 +49,7 @@ abbrev pub answer : {A : Type 0} → (A → Bytes) → Out A → Bytes
 answer bytes (refused n) = []
 answer bytes (done k q a) = bytes a
 
--- "a pending or Mined id then gives its old record": none of 10, 11, 12 is asked
+-- "a pending or Mined id then gives its old record": none of 10, 18, 11, 12 is asked
 abbrev pub known? : Id → Queue → Bool
 known? i q = maybe false (λ r. pending? (r .state) || mined? r) (find (named? i) (q .recs))
 
@@ -58,6 +58,7 @@ ruleChecks (admitting a) q room =
     let x = admission a in
     (6, overK? (q .limits .K) a) ∷ (7, reached? (x .due) (x .now)) ∷ (8, reached? (x .dueHeight) (x .tipHeight)) ∷ (9, ltb 200 (labelLen (x .label)))
     ∷ (10, not (known? (x .id) q) && leb (q .limits .P) (pendings (q .recs)))
+    ∷ (18, not (known? (x .id) q) && leb (shareOf (x .caller) (q .limits)) (pendingsOf (x .caller) (q .recs)))
     ∷ (11, not (known? (x .id) q) && ltb (q .limits .B) (pendingBytes (q .recs) + length (x .held .bytes)))
     ∷ (12, not (known? (x .id) q) && clash? (x .held .ins) (q .recs))
     ∷ (4, ltb room (length (answer entryBytes (admit x q)))) ∷ []
@@ -83,6 +84,10 @@ settleChecks cur next kind outcome =
     let back = eqb kind 2 && eqb outcome 1 in
     on cur λ q. (3, not back && unsound? next) ∷ (2, back && ltb (length next) (need (q .limits))) ∷ (5, not (settleShape? kind outcome)) ∷ (17, eqb outcome 1) ∷ []
 
+-- document 02, P8: "a share over P is 1"; of shares that are not whole none is read
+abbrev pub freshChecks : Limits → ℕ → ℕ → Checks
+freshChecks m shares area = (1, not (inRange m)) ∷ (1, eqb shares 64 && not (sharesRight? m)) ∷ (2, ltb area (need m)) ∷ (5, not (eqb shares 64)) ∷ []
+
 -- document 02, P12
 abbrev pub feesChecks : List Rec → ℕ → ℕ → ℕ → Checks
 feesChecks c limit budget room =
@@ -92,13 +97,14 @@ feesChecks c limit budget room =
 pub record Demand1 : Type 0 where
   pub changing : (c : Call) (cur next out : Bytes) → Answers (callOf c cur next out) (next, out) (callChecks c cur (length next) (length out))
   pub settling : (cur next : Bytes) (kind outcome : ℕ) → Answers (settleOf cur next kind outcome) next (settleChecks cur next kind outcome)
-  pub fresh : (m : Limits) (area : Bytes) → Answers (freshOf m area) area ((1, not (inRange m)) ∷ (2, ltb (length area) (need m)) ∷ [])
+  pub fresh : (p b t k : ℕ) (shares area : Bytes) → Answers (freshOf p b t k shares area) area (freshChecks (limitsOf p b t k shares) (length shares) (length area))
   pub sound : (area : Bytes) → refusal (soundOf area) ≡ firstOf ((3, unsound? area) ∷ [])
   pub image : (area out : Bytes) (old : ℕ) → Answers (imageOf area out old) (out, old) (on area λ q. (4, ltb (length out) (length (imageBytes q))) ∷ [])
   pub opening : (text area : Bytes)
       → Answers (openOf text area) area ((16, not (isSome (readImage text))) ∷ maybe [] (λ q. (2, ltb (length area) (need (q .limits))) ∷ []) (readImage text))
   pub need : (m : Limits) (old : ℕ) → Answers (needOf m old) old ((1, not (inRange m)) ∷ [])
-  pub limits : (text : Bytes) (old : Five) → Answers (imageLimitsOf text old) old ((16, not (isSome (readImage text))) ∷ [])
+  pub limits : (text : Bytes) (old : Five) (shares : Bytes)
+      → Answers (imageLimitsOf text old shares) (old, shares) ((16, not (isSome (readImage text))) ∷ maybe [] (λ q. (4, ltb (length shares) 64) ∷ []) (readImage text))
   pub reading : (f : Queue → Bytes) (area out : Bytes) → Answers (readOf f area out) out (on area λ q. (4, ltb (length out) (length (f q))) ∷ [])
   pub number : (f : Queue → ℕ) (area : Bytes) (old : ℕ) → Answers (numberOf f area old) old (on area λ q. [])
   pub entry : (area id out : Bytes)
