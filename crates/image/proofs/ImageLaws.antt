@@ -7,7 +7,7 @@ use Prim.Native.Nat.{ℕ, zero, suc, _+_, _-_, _*_, _≤_, _<_}
 use native.Mathlib.Omega.{arith}
 use native.Mathlib.Nat.{zero-add}
 use lib.ListN.{length, drop, take, getD, replicate, length-append, length-drop, take-append-drop}
-use lib.Seq.{take-at, drop-at, take-all, length-take-le}
+use lib.Seq.{take-at, drop-at, length-take-le}
 use borrow.Author.Tests.{lt-ltb, le-ltb, eq-eqb, ne-eqb}
 use Rattle.queue.specs.declared.Kind.the-variants.{Nothing}
 use Rattle.queue.specs.declared.Answer.the-variants.{Refused, Done}
@@ -426,13 +426,13 @@ module _ {s : Bytes} {t : Text} (w : TextIs s t) (old : Five) (shares : Bytes) w
   unfolding imageLimitsOf
   limits-4 e h = let u = w .good e in rw (u .1, lt-ltb (length shares) 64 h)
 
-  pub limits-100 : {d : Bytes} {r : ℕ} → t .ok ≡ true → 64 ≤ length shares → Put shares 0 (take 64 (drop 0 (t .open .head .limits .shares))) 64 r d
+  pub limits-100 : {d : Bytes} {r : ℕ} → t .ok ≡ true → 64 ≤ length shares → Put shares 0 (t .open .head .limits .shares) 64 r d
       → (Done Nothing, ((t .open .head .limits .p, (t .open .head .limits .b, (t .open .head .limits .t, (t .open .head .limits .k, t .need)))), d)) ≡ imageLimitsOf s old shares
   unfolding imageLimitsOf
   limits-100 {d} e h p =
       let u = w .good e in
       let g = u .2 .store .head in
       let v = t .open .head .limits .shares in
-      let b : take 64 (drop 0 v) ≡ sharesBytes (u .0 .limits .shares) = take-all 64 v (omega (arith, g .fit .long)) ∙ sym (shares-bytes v (g .fit .long) (g .fit .small)) ∙ ap (λ (m : Limits). sharesBytes (m .shares)) (g .lim) in
+      let b : v ≡ sharesBytes (u .0 .limits .shares) = sym (shares-bytes v (g .fit .long) (g .fit .small)) ∙ ap (λ (m : Limits). sharesBytes (m .shares)) (g .lim) in
       let o : d ≡ over (sharesBytes (u .0 .limits .shares)) shares = put-over p (omega (arith, p .size)) ∙ ap (λ (y : Bytes). over y shares) b in
       rw (u .1, le-ltb (length shares) 64 h, ← (u .2 .need), ← o, ← (g .lim))

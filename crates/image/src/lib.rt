@@ -12,7 +12,9 @@ use queue::put::put_be;
 use text::Text;
 use text::text_at;
 ghost use mathlib.Core.Path.{_≡_};
+ghost use Prim.Native.Nat.{_≤_};
 ghost use lib.ListN.{length};
+ghost use Rattle.queue.specs.Splice.{Put};
 ghost use Rattle.queue.specs.Checked.{written};
 ghost use Rattle.queue.specs.Opens.{limits};
 ghost use Rattle.image.specs.Texts.{AreaHeld, ImageLen, AreaRoom, AreaPut};
@@ -96,6 +98,14 @@ pub fn area_need(p: u64, b: u64, t: u64, k: u64, value: &mut u64) -> Answer
     Answer::Done(Kind::Nothing)
 }
 
+// The shares over the start of dst.
+fn put_shares(shares: [u8; 64], dst: &mut [u8]) -> usize
+    requires { ⌜ 64 ≤ length (now dst) ⌝ }
+    ensures { λ r. ⌜ Put (now (dst .entry)) 0 shares 64 r (now (dst .exit)) ⌝ }
+{
+    copy_part(&shares, 0, 64, dst, 0)
+}
+
 // The limits and shares of the queue whose image the text is, and how many bytes an area needs under them. Refusals 16, as opening, 4.
 pub fn image_limits(
     text: &[u8],
@@ -123,7 +133,7 @@ pub fn image_limits(
     *b = l.b;
     *t = l.t;
     *k = l.k;
-    copy_part(&v, 0, 64, shares, 0);
+    put_shares(v, shares);
     *need = x.need as u64;
     Answer::Done(Kind::Nothing)
 }

@@ -1,5 +1,5 @@
 -- Filled from its answers by tools/proofkit.py: change those, and fill it again.
-use Rattle.image.proofs.ImageLaws.{need-1, need-100}
+use Rattle.image.proofs.ImageLaws.{need-1, need-100, need-alone}
 use borrow.Author.Needs.{needs}
 use borrow.Author.Tests.{not-false, not-true}
 use mathlib.Core.Path.{_∙_, sym}
@@ -14,13 +14,13 @@ check-requires : tie.Need-check-requires
 check-requires c κs = search needs
 
 returns : tie.Need-returns
-returns c = need-1 _ _ (sym (c .before .check .ensures) ∙ not-true _ (c .if1 .taken))
+returns c = need-1 _ _ (sym (need-alone (c .before .before .args .p) (c .before .before .args .b) (c .before .before .args .t) (c .before .before .args .k) _ .0) ∙ sym (c .before .check .ensures) ∙ not-true _ (c .if1 .taken))
 
 need-requires : tie.Need-need-requires
 need-requires c κs = sym (c .before .check .ensures) ∙ not-false _ (c .if1 .left)
 
 returns-2 : tie.Need-returns-2
-returns-2 c = need-100 _ _ (sym (c .before .before .check .ensures) ∙ not-false _ (c .before .if1 .left)) (c .need .ensures .0)
+returns-2 c = need-100 _ _ (sym (need-alone (c .before .before .before .args .p) (c .before .before .before .args .b) (c .before .before .before .args .t) (c .before .before .before .args .k) _ .0) ∙ sym (c .before .before .check .ensures) ∙ not-false _ (c .before .if1 .left)) (c .need .ensures .0 ∙ need-alone (c .before .before .before .args .p) (c .before .before .before .args .b) (c .before .before .before .args .t) (c .before .before .before .args .k) _ .1)
 
 pub area-need-spec : {M : Type 1} → statement M
 area-need-spec = tie.close (tie.spec check-requires returns need-requires returns-2)

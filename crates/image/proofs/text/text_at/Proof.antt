@@ -38,16 +38,16 @@ returns-3 : tie.Need-returns-3
 returns-3 c = text-long _ (kind-is (c .before .before .before .before .before .before .before .before .before .args .s .now) (c .before .before .before .before .before .before .before .kind-at .ensures)) (sym (c .before .before .before .before .before .before .known .ensures) ∙ not-false _ (c .before .before .before .before .before .if1 .left)) (c .before .before .before .before .store-at .ensures) (not-false _ (c .before .before .if2 .left)) (c .if3 .taken) refl
 
 sound-at-requires : tie.Need-sound-at-requires
-sound-at-requires c κs = let w = text-facts _ (kind-is (c .before .before .before .before .before .before .before .before .before .before .args .s .now) (c .before .before .before .before .before .before .before .before .kind-at .ensures)) (sym (c .before .before .before .before .before .before .before .known .ensures) ∙ not-false _ (c .before .before .before .before .before .before .if1 .left)) (c .before .before .before .before .before .store-at .ensures) (not-false _ (c .before .before .before .if2 .left)) .1 in (omega (arith, w .up, w .ends), w .all, w .sums)
+sound-at-requires c κs = let w = text-facts _ (kind-is (c .before .before .before .before .before .before .before .before .before .before .args .s .now) (c .before .before .before .before .before .before .before .before .kind-at .ensures)) (sym (c .before .before .before .before .before .before .before .known .ensures) ∙ not-false _ (c .before .before .before .before .before .before .if1 .left)) (c .before .before .before .before .before .store-at .ensures) (not-false _ (c .before .before .before .if2 .left)) .1 in (omega (arith, w .up, w .ends), w .head .fit .long, w .all, w .sums)
 
 returns-4 : tie.Need-returns-4
 returns-4 c = text-unsound _ (kind-is (c .before .before .before .before .before .before .before .before .before .before .before .before .args .s .now) (c .before .before .before .before .before .before .before .before .before .before .kind-at .ensures)) (sym (c .before .before .before .before .before .before .before .before .before .known .ensures) ∙ not-false _ (c .before .before .before .before .before .before .before .before .if1 .left)) (c .before .before .before .before .before .before .before .store-at .ensures) (not-false _ (c .before .before .before .before .before .if2 .left)) (c .before .before .before .if3 .left) (c .before .sound-at .ensures) (not-true _ (c .if4 .taken)) refl
 
 need-requires : tie.Need-need-requires
-need-requires c κs = sound-range _ _ _ (sym (c .before .sound-at .ensures) ∙ not-false _ (c .if4 .left))
+need-requires c κs = sound-range _ _ _ (sym (c .before .before .sound-at .ensures) ∙ not-false _ (c .before .if4 .left))
 
 returns-5 : tie.Need-returns-5
-returns-5 c = text-good _ (kind-is (c .before .before .before .before .before .before .before .before .before .before .before .before .before .args .s .now) (c .before .before .before .before .before .before .before .before .before .before .before .kind-at .ensures)) (sym (c .before .before .before .before .before .before .before .before .before .before .known .ensures) ∙ not-false _ (c .before .before .before .before .before .before .before .before .before .if1 .left)) (c .before .before .before .before .before .before .before .before .store-at .ensures) (not-false _ (c .before .before .before .before .before .before .if2 .left)) (c .before .before .before .before .if3 .left) (c .before .before .sound-at .ensures) (not-false _ (c .before .if4 .left)) (c .need .ensures .0) (c .need .ensures .1) refl refl refl refl
+returns-5 c = text-good _ (kind-is (c .before .before .before .before .before .before .before .before .before .before .before .before .before .before .args .s .now) (c .before .before .before .before .before .before .before .before .before .before .before .before .kind-at .ensures)) (sym (c .before .before .before .before .before .before .before .before .before .before .before .known .ensures) ∙ not-false _ (c .before .before .before .before .before .before .before .before .before .before .if1 .left)) (c .before .before .before .before .before .before .before .before .before .store-at .ensures) (not-false _ (c .before .before .before .before .before .before .before .if2 .left)) (c .before .before .before .before .before .if3 .left) (c .before .before .before .sound-at .ensures) (not-false _ (c .before .before .if4 .left)) (c .need .ensures .0) (c .need .ensures .1) refl refl refl refl
 
 pub text-at-spec : {M : Type 1} → statement M
 text-at-spec =
