@@ -15,8 +15,12 @@ image-limits-requires c κs = search needs
 number-requires : tie.Need-number-requires
 number-requires c κs = search needs
 
+same-length : tie.Need-same-length
+same-length c = search needs
+
 returns : tie.Need-returns
-returns c = rw (c .number .ensures) (ap gives (c .before .image-limits .ensures))
+returns c = rw (c .number .ensures) (ap gives (c .before .before .before .image-limits .ensures))
 
 pub pokerbox-image-limits-spec : {M : Type 1} → statement M
-pokerbox-image-limits-spec = tie.close (tie.spec image-limits-requires number-requires returns)
+pokerbox-image-limits-spec =
+    tie.close (tie.spec image-limits-requires number-requires same-length returns)
