@@ -91,7 +91,7 @@ fn images_of_every_kind() {
         }) += 1;
     }
     let least = of_01.min(of_03).min(of_04);
-    assert!(least > 100, "{of_01}, {of_03}, {of_04}");
+    assert!(least > 50, "{of_01}, {of_03}, {of_04}");
 }
 
 /// Of every record, tombstones too: 0 to 15, and no other byte.
