@@ -73,8 +73,13 @@ impl<'a, S: Side> Two<'a, S> {
 
     /// Every byte of the areas and of what is stored, and every reading call.
     fn seen(&self, counts: &mut Counts) -> Result<(), Difference> {
-        self.same("the area", self.unit.area(), self.model.area())?;
-        self.same("the image", &self.unit.stored, &self.model.stored)?;
+        let text = |stored: &Option<Vec<u8>>| stored.as_deref().map(as_text);
+        self.same(
+            "the image",
+            text(&self.unit.stored),
+            text(&self.model.stored),
+        )?;
+        self.same_area("the area", self.unit.area(), self.model.area())?;
         let queue = self.queue()?;
         let entries = queue.records.iter().map(|of| entry_bytes(of).len());
         // Enough for every one of them: a snapshot has two lists.
@@ -113,7 +118,7 @@ impl<'a, S: Side> Two<'a, S> {
     fn refused(&self, queue: &Queue, counts: &mut Counts) -> Result<(), Difference> {
         let rng = &mut Rng::new(self.seed.wrapping_add(self.at as u64));
         let id = generate::record_id(rng, queue);
-        let caller = rng.pick(&[15, 16, 16, 17, 0x80, 0xff]);
+        let caller = rng.pick(&[16, 16, 17, 0x80, 0xff]);
         let answer = self.unit.admission_by(&Admission::plain(id), caller);
         let right = self.model.admission_by(&Admission::plain(id), caller);
         self.same("the caller of admit", (caller, answer), (caller, right))?;
@@ -132,7 +137,9 @@ impl<'a, S: Side> Two<'a, S> {
         counts.callers.over_p += u64::from(right.0 == 1);
         counts.callers.not_whole += u64::from(right.0 == 5);
         let answer = self.unit.fresh(limits, &shares);
-        self.same("the shares of fresh", (&shares, answer), (&shares, right))
+        let what = "the shares of fresh";
+        self.same(what, (&shares, answer.0), (&shares, right.0))?;
+        self.same_area(what, &answer.1, &right.1)
     }
 
     /// The area and the image with another caller, or another share.
@@ -158,7 +165,9 @@ impl<'a, S: Side> Two<'a, S> {
         counts.kind("areas with another caller or share", 4, right);
         let right = self.model.opened(&text);
         counts.kind("texts with another caller or share", 4, right.0);
-        self.same("the answer of open", self.unit.opened(&text), right)
+        let answer = self.unit.opened(&text);
+        self.same("the answer of open", answer.0, right.0)?;
+        self.same_area("the opened area", &answer.1, &right.1)
     }
 
     fn count_restart(&self, fresh: bool, counts: &mut Counts) {
@@ -209,6 +218,19 @@ impl<'a, S: Side> Two<'a, S> {
         differ(self.at, "a fault of the model", "-", fault)
     }
 
+    /// Areas are shown as the queues that they hold.
+    fn same_area(&self, what: &str, side: &[u8], model: &[u8]) -> Result<(), Difference> {
+        match side == model {
+            true => Ok(()),
+            false => Err(differ(
+                self.at,
+                what,
+                area::decode(side),
+                area::decode(model),
+            )),
+        }
+    }
+
     fn same<T: PartialEq + std::fmt::Debug>(
         &self,
         what: &str,
@@ -220,6 +242,10 @@ impl<'a, S: Side> Two<'a, S> {
             false => Err(differ(self.at, what, side, model)),
         }
     }
+}
+
+fn as_text(image: &[u8]) -> String {
+    String::from_utf8_lossy(image).into_owned()
 }
 
 fn differ(

@@ -61,8 +61,16 @@ pub fn parents_list(rng: &mut Rng) -> List {
 /// A list without events under limits with shares. Some begin with a queue that has records of other
 /// callers, and some with one of caller 0 alone, also in an older image.
 pub fn callers_list(rng: &mut Rng) -> List {
-    let limits = random::small_limits(rng);
-    let shares = random::shares(rng, &limits);
+    let small = random::small_limits(rng).numbers();
+    let limits = Limits::checked(small[0] + 1, small[1], small[2], small[3]);
+    let limits = limits.expect("limits in range");
+    let mut shares = random::shares(rng, &limits);
+    // Those that admit most have few, so that shares are used up before P.
+    for caller in FREQUENT {
+        if !rng.once_in(4) {
+            shares[usize::from(caller.0)] = 1 + rng.below(2) as u32;
+        }
+    }
     let (limits, start) = match rng.below(4) {
         0 => (limits, any_queue(rng, limits)),
         1 | 2 => (Limits { shares, ..limits }, Start::Fresh),
@@ -83,18 +91,32 @@ pub fn callers_list(rng: &mut Rng) -> List {
     }
 }
 
+/// The callers that admit most.
+const FREQUENT: [Caller; 3] = [Caller(0), Caller(1), Caller(15)];
+
 /// An event of such a list: an admission has any caller.
 pub fn callers_event(rng: &mut Rng, queue: &Queue) -> Event {
     let mut event = event(rng, queue);
     if let Event::Call(call, _) = &mut event {
-        if let Call::Admit(given) = &mut **call {
-            given.caller = random::caller(rng);
-            // Of one with a share mostly, so that it is used up.
-            if queue.limits.shares[usize::from(given.caller.0)] == 0 && !rng.once_in(4) {
-                given.caller = random::caller(rng);
+        // Confirmed with the signed bytes kept, and rolled back, more often than in other lists.
+        match &mut **call {
+            Call::Reconcile(given) if rng.once_in(2) => given.window = u32::MAX,
+            call @ (Call::Expire(..) | Call::SetCursor(..)) if rng.once_in(2) => {
+                *call = Call::Reopen(rolled_back(rng, queue));
             }
-            if rng.once_in(2) {
+            _ => {}
+        }
+        if let Call::Admit(given) = &mut **call {
+            given.caller = match rng.once_in(4) {
+                true => random::caller(rng),
+                false => rng.pick(&FREQUENT),
+            };
+            // With nothing but the share to refuse.
+            if !rng.once_in(3) {
                 given.signed.clear();
+                given.inputs.clear();
+                given.label = None;
+                (given.time_deadline, given.height_deadline) = (None, None);
             }
         }
     }
