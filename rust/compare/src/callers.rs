@@ -288,3 +288,58 @@ pub fn random_list<S: Side>(side: &S, rng: &mut Rng, counts: &mut Counts) -> Res
     }
     Ok(())
 }
+
+#[cfg(test)]
+mod tests {
+    use model::Limits;
+
+    use super::*;
+    use crate::list::{Start, Write};
+    use crate::oracle::Oracle;
+
+    const ID: [u8; 32] = [1; 32];
+
+    fn limits() -> Limits {
+        Limits::checked(2, 10, 1, 1).expect("limits in range")
+    }
+
+    /// What the oracle, in a folder of its own, makes of the start and of an admission by this caller.
+    fn given(name: &str, limits: Limits, start: Start, caller: u8) -> Result<u64, String> {
+        let name = format!("pokerbox-callers-{name}-{}", std::process::id());
+        let folder = std::env::temp_dir().join(name);
+        std::fs::create_dir_all(&folder).map_err(|error| error.to_string())?;
+        let done = Oracle::new(&folder, limits, &start).and_then(|mut oracle| {
+            let given = Admission {
+                caller: Caller(caller),
+                ..Admission::plain(ID)
+            };
+            oracle.call(&Call::Admit(given), Write::Kept)
+        });
+        std::fs::remove_dir_all(&folder).map_err(|error| error.to_string())?;
+        done.map(|done| done.number)
+    }
+
+    #[test]
+    fn the_oracle_is_given_nothing_but_caller_0_whose_share_is_p() {
+        assert_eq!(given("right", limits(), Start::Fresh, 0), Ok(100));
+        let other = given("caller", limits(), Start::Fresh, 1);
+        assert_eq!(other, Err("the oracle has no callers".into()));
+        for shares in [[0; 16], [2; 16]] {
+            let shared = limits().shared(shares).expect("shares in range");
+            let other = given("shares", shared, Start::Fresh, 0);
+            assert_eq!(other, Err("the oracle has no shares".into()));
+        }
+        let mut queue = Queue::fresh(limits());
+        let (state, reason) = (model::State::Cancelled, model::Reason::Cancelled);
+        queue.records.push(Record::tombstone(ID, state, reason));
+        queue.counter.0 = 1;
+        let start = |queue: &Queue| {
+            let kind = model::HeaderKind::NEWEST;
+            Start::Queue(Box::new(queue.clone()), kind)
+        };
+        assert_eq!(given("record", limits(), start(&queue), 0), Ok(100));
+        queue.records[0].caller = Caller(3);
+        let other = given("records", limits(), start(&queue), 0);
+        assert_eq!(other, Err("the oracle has no callers".into()));
+    }
+}
