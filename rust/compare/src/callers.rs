@@ -133,10 +133,11 @@ impl<'a, S: Side> Two<'a, S> {
             1 => shares.push(0),
             _ => {}
         }
-        let right = self.model.fresh(limits, &shares);
+        let short = rng.once_in(4);
+        let right = self.model.fresh(limits, &shares, short);
         counts.callers.over_p += u64::from(right.0 == 1);
         counts.callers.not_whole += u64::from(right.0 == 5);
-        let answer = self.unit.fresh(limits, &shares);
+        let answer = self.unit.fresh(limits, &shares, short);
         let what = "the shares of fresh";
         self.same(what, (&shares, answer.0), (&shares, right.0))?;
         self.same_area(what, &answer.1, &right.1)

@@ -200,12 +200,12 @@ impl fmt::Display for Callers {
     fn fmt(&self, f: &mut fmt::Formatter<'_>) -> fmt::Result {
         write!(
             f,
-            "callers and shares, by the model: {} events in {} lists; refused by 18: {} ({} of a caller \
+            "callers and shares, by the model: {} lists, {} events; refused by 18: {} ({} of a caller \
              with a share); {} admitted by callers 1 to 15, {} tombstones replaced by another caller's \
              record, {} callers lifted above their share, {} fresh queues after a cut; callers over 15: \
              {}, shares over P: {}, not 64 bytes: {}",
-            self.events,
             self.lists,
+            self.events,
             self.refused,
             self.used_up,
             self.admitted,

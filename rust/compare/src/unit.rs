@@ -239,9 +239,13 @@ impl<'s, S: Side> Unit<'s, S> {
         image_limits(self.side, text, length)
     }
 
-    /// The number that a fresh queue under these limits gives back, and the area as it is then.
-    pub fn fresh(&self, limits: [u64; 4], shares: &[u8]) -> (u64, Vec<u8>) {
+    /// The number that a fresh queue under these limits gives back, and the area as it is then: one
+    /// that is long enough, or a byte too short.
+    pub fn fresh(&self, limits: [u64; 4], shares: &[u8], short: bool) -> (u64, Vec<u8>) {
         let mut area = self.to_open();
+        if short {
+            area.truncate(self.need - 1);
+        }
         (self.side.fresh(limits, shares, &mut area), area)
     }
 
