@@ -151,6 +151,32 @@ fn what_counts() {
     }
 }
 
+/// The example of docs/CALLS.md, 'Callers and shares'.
+#[test]
+fn the_example_of_the_calls() {
+    let (a, b, c, d) = (1, 2, 3, 4);
+    let mut queue = Queue::fresh(limits());
+    let mut admitted_by = |n: u8, caller: u8| {
+        let change = admit(&queue, &given(n, caller))?;
+        queue = change.next;
+        Ok((change.kind, change.answer.caller.0))
+    };
+    assert_eq!(admitted_by(a, 0), Ok((Kind::Whole, 0)));
+    assert_eq!(admitted_by(b, 0), Err(SHARE));
+    assert_eq!(admitted_by(b, 2), Err(SHARE));
+    assert_eq!(admitted_by(a, 2), Ok((Kind::Nothing, 0)));
+    let mined = reconcile(&queue, &found(&[a], 5, 100)).expect("entered");
+    assert_eq!(mined.kind, Kind::Whole);
+    let second = admit(&mined.next, &given(b, 0)).expect("none is pending");
+    assert_eq!(second.kind, Kind::Whole);
+    let lifted = reopen(&second.next, &[[a; 32]]);
+    assert_eq!(lifted.kind, Kind::Whole);
+    assert_eq!(lifted.next.pending_of(Caller(0)).count(), 2);
+    let third = admit(&lifted.next, &given(c, 1)).expect("its share is free");
+    assert_eq!(third.kind, Kind::Whole);
+    assert_eq!(refusal(&third.next, &given(d, 0)), Some(FULL));
+}
+
 /// Reopening asks for no share.
 #[test]
 fn a_rollback_lifts_a_caller_above_its_share() {
