@@ -340,8 +340,10 @@ impl<'a, S: Side> Pair<'a, S> {
     /// stored one, and of that one with a byte that is another.
     fn image_limits(&self, text: &[u8], counts: &mut Counts) -> Result<(), Difference> {
         let mut wrong = text.to_vec();
-        let at = self.at.wrapping_mul(7) % text.len();
-        wrong[at] = b"0f1\n8A"[self.at % 6];
+        // In each list one place and one byte, so that shorter lists show the same.
+        let mut rng = Rng::new(self.fees);
+        let at = rng.below(text.len());
+        wrong[at] = rng.pick(b"0f1\n8A");
         for (text, length) in [(text, 64), (&wrong, 66), (text, 63)] {
             let right = unit::image_limits(&Model, text, length);
             let answer = self.unit.image_limits(text, length);
