@@ -4,7 +4,7 @@
 use model::calls::entry_bytes;
 use model::random::Rng;
 use model::rules::Admission;
-use model::{area, image, Caller, Queue, Record};
+use model::{area, image, Caller, Height, Queue, Record, TimeMs};
 
 use crate::counts::Counts;
 use crate::generate;
@@ -15,6 +15,8 @@ use crate::unit::{Done, Fault, Unit};
 
 /// The most events of a list.
 const EVENTS: usize = 60;
+/// No answer of best fees is longer.
+const BEST_FEES: usize = 664;
 
 /// A side and the model, run together.
 struct Two<'a, S: Side> {
@@ -22,7 +24,7 @@ struct Two<'a, S: Side> {
     model: Unit<'a, Model>,
     /// Of what is put into texts and areas.
     seed: u64,
-    probe: (u64, u32),
+    probe: (TimeMs, Height),
     at: usize,
 }
 
@@ -38,7 +40,7 @@ impl<'a, S: Side> Two<'a, S> {
             unit,
             model,
             seed: list.fees,
-            probe: (list.probe.0 .0, list.probe.1 .0),
+            probe: list.probe,
             at: 0,
         })
     }
@@ -81,13 +83,23 @@ impl<'a, S: Side> Two<'a, S> {
         )?;
         self.same_area("the area", self.unit.area(), self.model.area())?;
         let queue = self.queue()?;
+        self.same("the queue", self.unit.queue(), Ok(queue.clone()))?;
         let entries = queue.records.iter().map(|of| entry_bytes(of).len());
         // Enough for every one of them: a snapshot has two lists.
         let length = 100 + 2 * entries.sum::<usize>();
-        for reading in Reading::all(self.probe.0, self.probe.1) {
+        let (now, height) = (self.probe.0 .0, self.probe.1 .0);
+        for reading in Reading::all(now, height) {
             let answer = self.unit.read(reading, length);
             let what = format!("the answer of {}", reading.name());
             self.same(&what, answer, self.model.read(reading, length))?;
+        }
+        let listed = self.unit.parents_first(now, height, length);
+        let right = self.model.parents_first(now, height, length);
+        self.same("the answer of selection_parents_first", listed, right)?;
+        for asked in generate::fees(self.seed, &queue, self.probe) {
+            let best = self.unit.best_fees(&asked, BEST_FEES);
+            let right = self.model.best_fees(&asked, BEST_FEES);
+            self.same("the answer of best_fees", best, right)?;
         }
         for record in &queue.records {
             self.entry(record)?;
@@ -103,7 +115,8 @@ impl<'a, S: Side> Two<'a, S> {
         self.altered(&queue, counts)
     }
 
-    /// The entry, with an output that is long enough, and with one that is a byte too short.
+    /// The entry, with an output that is long enough, and with one that is a byte too short; the signed
+    /// bytes.
     fn entry(&self, record: &Record) -> Result<(), Difference> {
         let length = entry_bytes(record).len();
         for length in [length - 1, length, length + 3] {
@@ -111,7 +124,9 @@ impl<'a, S: Side> Two<'a, S> {
             let answer = self.unit.entry(&record.id, length);
             self.same("the answer of entry", answer, right)?;
         }
-        Ok(())
+        let signed = self.unit.signed_bytes(&record.id);
+        let right = self.model.signed_bytes(&record.id);
+        self.same("the answer of signed_bytes", signed, right)
     }
 
     /// Callers over 15, shares over P, and shares that are not 64 bytes.

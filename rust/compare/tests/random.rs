@@ -287,7 +287,7 @@ fn noticed_by_model(side: Faulty, name: &str) -> (List, Difference) {
     shrink(&side, folder.path(), *found)
 }
 
-/// An admission by caller 0 in the caller's place, whose record then gets the caller.
+/// An admission without 18: made in the same queue with all shares P, which are then stored.
 fn without_share(cur: &[u8], next: &mut [u8], args: &AdmitArgs<'_>, out: &mut [u8]) -> u64 {
     match calls::admit(cur, next, args, out) {
         18 => {
