@@ -7,7 +7,7 @@ use compare::tables::Tables;
 use model::calls::ReconcileArgs;
 use model::load::{self, Ids, Links, Load};
 use model::random::nth_id;
-use model::{area, image, Id, State};
+use model::{area, image, HeaderKind, Id, State};
 use pokerbox::raw;
 
 const ALL: [(Ids, Links, &str); 5] = [
@@ -41,6 +41,8 @@ pub struct Lent {
     next: Vec<u8>,
     out: Vec<u8>,
     image: Vec<u8>,
+    /// Of kind 01.
+    older: Vec<u8>,
     id: Id,
     mined: Vec<u8>,
     /// All inputs, rising.
@@ -68,6 +70,7 @@ impl Lent {
             out: vec![0; 2 * image.len() + 1_000],
             area,
             image,
+            older: image::encode_as(HeaderKind::K01, &queue),
             id,
             mined,
             inputs,
@@ -159,11 +162,13 @@ impl Lent {
         timed!("settle", raw::settle(area, next, 2, 0));
         timed!("image", raw::image(area, out, &mut 0));
         timed!("open", raw::open(&self.image, next));
-        let older = [b"01", &self.image[2..]].concat();
-        timed!("open, an image of kind 01", raw::open(&older, next));
-        let [p, b, t, k, need] = &mut [0; 5];
+        timed!("open, an image of kind 01", raw::open(&self.older, next));
+        let ([p, b, t, k, need], shares) = (&mut [0; 5], &mut [0; 64]);
         let image = &self.image;
-        timed!("image_limits", raw::image_limits(image, p, b, t, k, need));
+        timed!(
+            "image_limits",
+            raw::image_limits(image, p, b, t, k, shares, need)
+        );
         rows
     }
 }

@@ -20,8 +20,8 @@ use model::calls::ReconcileArgs;
 use model::random::nth_id;
 use model::rules::{reserved_inputs, Admission};
 use model::{
-    area, image, Confirmation, FinishNumber, HeaderKind, Height, Holder, Id, Limits, Queue, Reason,
-    Record, State, TimeMs, Withdrawn,
+    area, image, Caller, Confirmation, FinishNumber, HeaderKind, Height, Holder, Id, Limits, Queue,
+    Reason, Record, State, TimeMs, Withdrawn,
 };
 use pokerbox::raw;
 use reference::private_queue::inspect::{self, WholeStore};
@@ -208,6 +208,7 @@ fn record(n: usize, state: State) -> Record {
     let boxes = |from: usize| (0..from).map(|at| nth_id(n * INPUTS + at)).collect();
     Record {
         id: nth_id(n),
+        caller: Caller(0),
         state,
         reason: if pending {
             Reason::None
@@ -335,6 +336,7 @@ impl<'a> Bench<'a> {
         tables.line("| work | library | Rust | library / Rust |\n|---|---:|---:|---:|");
         let mut rows = self.changing();
         rows.push(self.admission());
+        rows.push(self.shared_admission());
         rows.push(self.reconciliation());
         rows.push(self.commit());
         rows.extend(self.parts());
@@ -372,7 +374,7 @@ impl<'a> Bench<'a> {
 
     fn changing(&mut self) -> Vec<Row> {
         let limits = self.queue.limits;
-        let [p, b, t, k] = limits.numbers();
+        let ([p, b, t, k], shares) = (limits.numbers(), limits.share_bytes());
         let id = hex(&self.id);
         let ids = BTreeSet::from([id.clone()]);
         let mut rows = Vec::new();
@@ -386,7 +388,7 @@ impl<'a> Bench<'a> {
             )),
             library: Some(time(
                 || (),
-                || raw::fresh(p, b, t, k, &mut self.next).expect("fresh"),
+                || raw::fresh(p, b, t, k, &shares, &mut self.next).expect("fresh"),
             )),
         });
         rows.push(Row {
@@ -474,12 +476,13 @@ impl<'a> Bench<'a> {
         rows
     }
 
-    /// One more transaction of the same size.
-    fn admission(&mut self) -> Row {
+    /// One more transaction of the same size, by this caller.
+    fn one_more(&self, caller: Caller) -> Admission {
         let new = self.queue.records.len();
         let holder = record(new, State::Queued).holder.expect("a holder");
-        let given = Admission {
+        Admission {
             id: nth_id(new),
+            caller,
             inputs: holder.inputs,
             outputs: holder.outputs,
             signed: holder.bytes,
@@ -492,7 +495,39 @@ impl<'a> Bench<'a> {
             cost: 9,
             tip_height: Height(100),
             tip: None,
-        };
+        }
+    }
+
+    /// The same by the last of 16 callers, among which the records and their room are shared out.
+    fn shared_admission(&mut self) -> Row {
+        let mut queue = self.queue.clone();
+        for (n, record) in queue.records.iter_mut().enumerate() {
+            record.caller = Caller((n % Caller::COUNT) as u8);
+        }
+        let last = Caller(15);
+        let share = queue.pending_of(last).count() as u32 + 1;
+        queue.limits.shares = [share.min(queue.limits.pending); Caller::COUNT];
+        let area = area::encode(&queue);
+        let given = self.one_more(last);
+        let (inputs, outputs) = (given.inputs.concat(), given.outputs.concat());
+        let args = admit_args(&given, &inputs, &outputs);
+        Row {
+            work: "admit and image, 16 callers with a share each".into(),
+            oracle: None,
+            library: Some(time(
+                || (),
+                || {
+                    let out = &mut self.out;
+                    let number = Library.admit(&area, &mut self.next, &args, out);
+                    assert_eq!(number, 102);
+                    raw::image(&self.next, out, &mut 0).expect("an image");
+                },
+            )),
+        }
+    }
+
+    fn admission(&mut self) -> Row {
+        let given = self.one_more(Caller(0));
         let (inputs, outputs) = (given.inputs.concat(), given.outputs.concat());
         let args = admit_args(&given, &inputs, &outputs);
         let entry = pool_entry(&given);

@@ -17,6 +17,7 @@ pub struct Counts {
     pub withdrawn: Withdrawn,
     pub parents: Parents,
     pub marks: Marks,
+    pub callers: Callers,
     /// Texts and areas with other kinds and marks, by what was lent, its kind and the number given back.
     kinds: BTreeMap<(&'static str, u8), BTreeMap<u64, u64>>,
 }
@@ -32,6 +33,31 @@ pub struct Marks {
     pub rolled_back: u64,
     /// Those that were released in the same list.
     pub released: u64,
+}
+
+/// Lists with callers and shares, which the model judges (document 02, P8).
+#[derive(Debug, Clone, Copy, Default)]
+pub struct Callers {
+    pub lists: u64,
+    pub events: u64,
+    /// Admissions that were refused by 18.
+    pub refused: u64,
+    /// Those of a caller that has a share.
+    pub used_up: u64,
+    /// Admissions that were kept, of a caller other than 0.
+    pub admitted: u64,
+    /// Tombstones that were replaced by another caller's record.
+    pub replaced: u64,
+    /// Callers that a rollback lifted above their share.
+    pub lifted: u64,
+    /// Fresh queues after a cut with nothing stored, with other shares than all to caller 0.
+    pub restarted: u64,
+    /// Callers over 15, each refused by 5 where the area is sound.
+    pub over_15: u64,
+    /// Shares over P, refused by 1.
+    pub over_p: u64,
+    /// Shares that are not 64 bytes, refused by 5.
+    pub not_whole: u64,
 }
 
 /// Selections that were compared parents first (document 02, P7).
@@ -154,6 +180,7 @@ impl fmt::Display for Counts {
             writeln!(f, "  {lent} with header kind {kind:02x}: {numbers}")?;
         }
         writeln!(f, "  {}", self.marks)?;
+        writeln!(f, "  {}", self.callers)?;
         writeln!(f, "  {}", self.withdrawn)
     }
 }
@@ -165,6 +192,29 @@ impl fmt::Display for Parents {
             "selection_parents_first: {} selections; a record waits in {}, one is left off in {}, the \
              order is another in {}",
             self.compared, self.waiting, self.left_off, self.turned
+        )
+    }
+}
+
+impl fmt::Display for Callers {
+    fn fmt(&self, f: &mut fmt::Formatter<'_>) -> fmt::Result {
+        write!(
+            f,
+            "callers and shares, by the model: {} lists, {} events; refused by 18: {} ({} of a caller \
+             with a share); {} admitted by callers 1 to 15, {} tombstones replaced by another caller's \
+             record, {} callers lifted above their share, {} fresh queues after a cut; callers over 15: \
+             {}, shares over P: {}, not 64 bytes: {}",
+            self.lists,
+            self.events,
+            self.refused,
+            self.used_up,
+            self.admitted,
+            self.replaced,
+            self.lifted,
+            self.restarted,
+            self.over_15,
+            self.over_p,
+            self.not_whole
         )
     }
 }

@@ -9,14 +9,14 @@ use model::calls::{AdmitArgs, ReconcileArgs};
 use model::random::{self, Rng};
 use model::rules::{reserved_inputs, Admission, Reconciliation};
 use model::{
-    area, calls, image, Confirmation, HeaderKind, Height, Id, Limits, Queue, Record, State, TimeMs,
-    Withdrawn,
+    area, calls, image, Caller, Confirmation, HeaderKind, Height, Id, Limits, Queue, Record, State,
+    TimeMs, Withdrawn,
 };
 
 use crate::generate;
 use crate::list::{Call, Event, Start, Write};
 use crate::oracle::{hex_bytes, Oracle};
-use crate::run::model_number;
+use crate::run::{model_number, put_digits};
 use crate::side::Reading;
 use crate::unit::{admit_args, applied_bytes, optional_id, reconcile_args, UNTOUCHED};
 
@@ -31,14 +31,14 @@ const IMAGE: usize = 16_384;
 
 /// The numbers that each step has to meet.
 const TO_MEET: [(char, &[u64]); 29] = [
-    ('f', &[1, 2, 100]),
+    ('f', &[1, 2, 5, 100]),
     ('o', &[2, 16, 100]),
     ('v', &[3, 100]),
     ('w', &[3, 4, 100]),
     ('q', &[3, 100]),
     ('s', &[2, 3, 5, 17, 100]),
     ('c', &[2, 3, 4, 5, 13, 14, 15, 100, 102]),
-    ('d', &[2, 3, 4, 5, 6, 7, 8, 9, 10, 11, 12, 100, 102]),
+    ('d', &[2, 3, 4, 5, 6, 7, 8, 9, 10, 11, 12, 18, 100, 102]),
     ('e', &[2, 3, 4, 15, 100, 102]),
     ('n', &[2, 3, 4, 5, 15, 101, 102, 103]),
     ('r', &[2, 3, 5, 100, 102]),
@@ -205,12 +205,10 @@ struct Given {
 impl<'a> List<'a> {
     fn new(fixed: &'a mut Fixed, folder: &Path, rng: &mut Rng) -> Result<Self, String> {
         // Of these the texts are short.
-        let limits = Limits {
-            pending: 1 + rng.below(2) as u32,
-            bytes: rng.pick(&[1, 2, 5, 10]),
-            tombstones: 1 + rng.below(2) as u32,
-            inputs: 1 + rng.below(2) as u32,
-        };
+        let (pending, bytes) = (1 + rng.below(2) as u64, rng.pick(&[1, 2, 5, 10]));
+        let (tombstones, inputs) = (1 + rng.below(2) as u64, 1 + rng.below(2) as u64);
+        let limits = Limits::checked(pending, bytes, tombstones, inputs);
+        let limits = limits.expect("limits in range");
         let start = if rng.once_in(4) {
             Start::Fresh
         } else {
@@ -312,7 +310,7 @@ impl<'a> List<'a> {
         if self.stored {
             self.fixed.call('o', &[], 100, "");
         } else {
-            let arguments = self.limits.numbers().map(u64::to_be_bytes).concat();
+            let arguments = fresh_bytes(self.limits.numbers(), &self.limits.share_bytes());
             self.fixed.call('f', &arguments, 100, "");
         }
         self.show();
@@ -572,6 +570,11 @@ fn letter(call: &Call) -> char {
     }
 }
 
+/// P, B, T and K, then the shares.
+fn fresh_bytes(limits: [u64; 4], shares: &[u8]) -> Vec<u8> {
+    [&limits.map(u64::to_be_bytes).concat(), shares].concat()
+}
+
 fn arguments(call: &Call) -> Vec<u8> {
     match call {
         Call::Admit(given) => admission(given),
@@ -604,6 +607,7 @@ fn admission_bytes(args: &AdmitArgs<'_>) -> Vec<u8> {
     bytes.extend(args.cost.to_be_bytes());
     bytes.extend(args.tip_height.to_be_bytes());
     bytes.push(args.tip_flag);
+    bytes.push(args.caller);
     let AdmitArgs {
         id,
         inputs,
@@ -810,10 +814,16 @@ impl Lent<'_> {
         self.fixed.call('v', &[], number, "");
     }
 
+    /// With all to caller 0.
     fn fresh(&mut self, limits: [u64; 4]) {
+        let share = (limits[0] as u32).to_be_bytes();
+        self.fresh_shared(limits, &[&share[..], &[0; 60]].concat());
+    }
+
+    fn fresh_shared(&mut self, limits: [u64; 4], shares: &[u8]) {
         let [p, b, t, k] = limits;
-        let number = calls::fresh(p, b, t, k, &mut self.cur[..self.lengths[0]]);
-        let arguments = limits.map(u64::to_be_bytes).concat();
+        let number = calls::fresh(p, b, t, k, shares, &mut self.cur[..self.lengths[0]]);
+        let arguments = fresh_bytes(limits, shares);
         self.fixed.call('f', &arguments, number, "");
     }
 
@@ -859,6 +869,7 @@ impl Lent<'_> {
 fn known(id: &Id) -> AdmitArgs<'_> {
     AdmitArgs {
         id,
+        caller: 0,
         inputs: &[],
         outputs: &[],
         signed: &[],
@@ -960,6 +971,8 @@ fn refusals(fixed: &mut Fixed) {
     limits(&mut lent);
     not_images(&mut lent, &queue, &text);
     kinds(&mut lent);
+    shares(&mut lent);
+    callers(&mut lent);
     top_counter(&mut lent, queue, &id);
 }
 
@@ -1009,6 +1022,14 @@ fn admissions(lent: &mut Lent<'_>, id: &Id, long: &[u8]) {
         },
         AdmitArgs {
             outputs: &id[..31],
+            ..right
+        },
+        AdmitArgs {
+            caller: 16,
+            ..right
+        },
+        AdmitArgs {
+            caller: 255,
             ..right
         },
         AdmitArgs {
@@ -1242,25 +1263,32 @@ fn marked_queue() -> Queue {
 
 fn kinds(lent: &mut Lent<'_>) {
     let queue = marked_queue();
-    let (bytes, text) = (area::encode(&queue), image::encode(&queue));
-    lent.fixed
-        .both("images of kinds 01 and 03, and of no others");
-    for kind in ["01", "03", "00", "02", "04", "05", "06", "0f"] {
-        lent.open(&[kind.as_bytes(), &text[2..]].concat());
-        lent.image('q');
+    let bytes = area::encode(&queue);
+    let of_kind = |kind: &str, form| {
+        let text = image::encode_as(form, &queue);
+        [kind.as_bytes(), &text[2..]].concat()
+    };
+    lent.fixed.both(
+        "images of kinds 01, 03 and 04, and of no others: without shares and callers, and with",
+    );
+    for form in [HeaderKind::K03, HeaderKind::K04] {
+        for kind in ["01", "03", "04", "00", "02", "05", "06", "0f"] {
+            lent.open(&of_kind(kind, form));
+            lent.image('q');
+        }
     }
-    lent.fixed.both("marks under kinds 01 and 03");
-    let digits = image::mark_place(&queue, 0);
-    for kind in ["01", "03"] {
+    lent.fixed.both("marks under kinds 01, 03 and 04");
+    for form in HeaderKind::ALL {
+        let digits = image::mark_place(form, &queue, 0);
         for mark in 0..7 {
-            let mut text = [kind.as_bytes(), &text[2..]].concat();
+            let mut text = image::encode_as(form, &queue);
             text[digits + 1] = b'0' + mark;
             lent.open(&text);
             lent.image('q');
         }
     }
     lent.fixed.both("areas of other kinds, and other marks");
-    for kind in [0, 1, 2, 4, 3] {
+    for kind in [0, 1, 2, 3, 5, 4] {
         let mut wrong = bytes.clone();
         wrong[4] = kind;
         lent.put('a', &wrong);
@@ -1271,6 +1299,173 @@ fn kinds(lent: &mut Lent<'_>) {
         wrong[area::mark_place(&queue, 0)] = mark;
         lent.put('a', &wrong);
         lent.sound();
+    }
+}
+
+/// Shares for a fresh queue: one over P, 1; an area too short, 2; not 64 bytes, 5.
+fn shares(lent: &mut Lent<'_>) {
+    lent.fixed.both("shares: one over P, 1; not 64 bytes, 5");
+    let limits = [2, 10, 2, 2];
+    let with = |caller: usize, share: u32| {
+        let mut shares = vec![0; 64];
+        shares[4 * caller..4 * caller + 4].copy_from_slice(&share.to_be_bytes());
+        shares
+    };
+    for caller in [0, 1, 15] {
+        for share in [0, 2, 3, 1 << 8, 1 << 24, u32::MAX] {
+            lent.fresh_shared(limits, &with(caller, share));
+        }
+    }
+    for length in [0, 1, 60, 63, 65, 68] {
+        // None of them is read.
+        lent.fresh_shared(limits, &vec![0xff; length]);
+    }
+    lent.lend(100, AREA, IMAGE);
+    lent.fresh_shared(limits, &with(15, 3));
+    lent.fresh_shared(limits, &with(15, 2));
+    lent.fresh_shared(limits, &[0; 63]);
+    lent.lend_all();
+}
+
+/// P 3, B 10, T 2, K 1; caller 0 has a share of 1, caller 1 of 2, caller 15 of 3. Caller 0 and caller 15
+/// have a pending record each, and caller 1 a tombstone.
+fn shared_queue() -> (Queue, [Id; 3]) {
+    let mut shares = [0; 16];
+    (shares[0], shares[1], shares[15]) = (1, 2, 3);
+    let limits = Limits::checked(3, 10, 2, 1).and_then(|limits| limits.shared(shares));
+    let mut queue = Queue::fresh(limits.expect("limits and shares in range"));
+    let ids = [0, 1, 2].map(random::nth_id);
+    for (id, caller) in ids.iter().zip([0, 1, 15]) {
+        let given = Admission {
+            caller: Caller(caller),
+            inputs: vec![*id],
+            ..plain(*id)
+        };
+        let change = model::rules::admit(&queue, &given);
+        queue = change.expect("room").next;
+    }
+    let change = model::rules::cancel(&queue, &ids[1]);
+    (change.expect("pending").next, ids)
+}
+
+/// Admissions by each caller, 18; the caller in answers, areas and images; what each call makes of it.
+fn callers(lent: &mut Lent<'_>) {
+    let (queue, [first, cancelled, last]) = shared_queue();
+    let bytes = area::encode(&queue);
+    let what = "callers and shares, 18";
+    lent.fixed.both(&format!("{what}: {}", head(&queue.limits)));
+    lent.put('a', &bytes);
+    let other = random::nth_id(9);
+    for id in [&other, &cancelled, &first] {
+        for caller in [0, 1, 2, 14, 15, 16] {
+            let given = AdmitArgs {
+                caller,
+                ..known(id)
+            };
+            if lent.admit(200, &given) == 102 {
+                lent.image('w');
+            }
+        }
+    }
+    // 18 before 11 and 12; 10 before 18.
+    let both = AdmitArgs {
+        inputs: &last,
+        signed: &[0; 11],
+        ..known(&other)
+    };
+    for caller in [0, 1, 2] {
+        lent.admit(0, &AdmitArgs { caller, ..both });
+    }
+    let full = model::rules::admit(
+        &queue,
+        &Admission {
+            caller: Caller(1),
+            ..plain(other)
+        },
+    );
+    lent.put('a', &area::encode(&full.expect("room").next));
+    for caller in [0, 1, 2, 15] {
+        let next = random::nth_id(10);
+        lent.admit(
+            0,
+            &AdmitArgs {
+                caller,
+                ..known(&next)
+            },
+        );
+    }
+    lent.fixed.both("what calls make of a caller");
+    lent.put('a', &bytes);
+    for letter in ['L', 'N'] {
+        lent.read(letter, 400, &reading_arguments(letter, &last));
+    }
+    lent.change('c', 200, &last);
+    lent.image('w');
+    lent.change('c', 200, &cancelled);
+    let found = [&last[..], &[0, 0, 0, 5], &[7; 32]].concat();
+    let mined = ReconcileArgs {
+        applied: &found,
+        ..settling(&last)
+    };
+    for window in [0, 9] {
+        lent.reconcile(80, &ReconcileArgs { window, ..mined });
+        lent.image('w');
+    }
+    rolled_back_above_a_share(lent, &queue, &first);
+    lent.fixed.both("callers and shares in areas and images");
+    let text = image::encode(&queue);
+    for (n, caller) in [(0, 15), (0, 16), (1, 15), (1, 16), (1, 255), (2, 0)] {
+        let (mut bytes, mut text) = (bytes.clone(), text.clone());
+        bytes[area::caller_place(&queue, n)] = caller;
+        put_digits(&mut text, image::caller_place(&queue, n), caller);
+        lent.put('a', &bytes);
+        lent.sound();
+        lent.open(&text);
+        lent.image('q');
+    }
+    for (caller, share) in [
+        (0, 0),
+        (0, 3),
+        (0, 4),
+        (7, 3),
+        (7, 4),
+        (15, 1),
+        (15, 1 << 24),
+    ] {
+        let mut other = queue.clone();
+        other.limits.shares[caller] = share;
+        lent.put('a', &area::encode(&other));
+        lent.sound();
+        lent.open(&image::encode(&other));
+        lent.image('q');
+    }
+}
+
+/// The first record is confirmed, its caller admits another one, and the block is rolled back.
+fn rolled_back_above_a_share(lent: &mut Lent<'_>, queue: &Queue, first: &Id) {
+    lent.fixed.both("a rollback lifts a caller above its share");
+    let Call::Reconcile(given) = found(*first, 7, 9) else {
+        unreachable!("a reconciliation");
+    };
+    let mined = model::rules::reconcile(queue, &given)
+        .expect("entered")
+        .next;
+    let second = random::nth_id(9);
+    let two = model::rules::admit(&mined, &plain(second)).expect("its share is free");
+    lent.put('a', &area::encode(&two.next));
+    lent.change('r', 0, first);
+    lent.image('w');
+    let lifted = model::rules::reopen(&two.next, &[*first]).next;
+    lent.put('a', &area::encode(&lifted));
+    lent.sound();
+    lent.image('q');
+    let third = random::nth_id(10);
+    for caller in [0, 1, 15] {
+        let given = AdmitArgs {
+            caller,
+            ..known(&third)
+        };
+        lent.admit(200, &given);
     }
 }
 

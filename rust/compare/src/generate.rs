@@ -5,7 +5,7 @@ use std::collections::{BTreeMap, BTreeSet};
 
 use model::random::{self, Rng};
 use model::rules::{reserved_inputs, Admission, Reconciliation};
-use model::{Confirmation, HeaderKind, Height, Id, Limits, Queue, Record, TimeMs};
+use model::{Caller, Confirmation, HeaderKind, Height, Id, Limits, Queue, Record, TimeMs};
 
 use crate::list::{Call, Event, List, Look, Start, Write};
 use crate::side::Fees;
@@ -58,6 +58,71 @@ pub fn parents_list(rng: &mut Rng) -> List {
     }
 }
 
+/// A list without events under limits with shares. Some begin with a queue that has records of other
+/// callers, and some with one of caller 0 alone, also in an older image.
+pub fn callers_list(rng: &mut Rng) -> List {
+    let small = random::small_limits(rng).numbers();
+    let limits = Limits::checked(small[0] + 1, small[1], small[2], small[3]);
+    let limits = limits.expect("limits in range");
+    let mut shares = random::shares(rng, &limits);
+    // Those that admit most have few, so that shares are used up before P.
+    for caller in FREQUENT {
+        if !rng.once_in(4) {
+            shares[usize::from(caller.0)] = 1 + rng.below(2) as u32;
+        }
+    }
+    let (limits, start) = match rng.below(4) {
+        0 => (limits, any_queue(rng, limits)),
+        1 | 2 => (Limits { shares, ..limits }, Start::Fresh),
+        _ => {
+            let queue = random::queue(rng, limits);
+            let queue = random::with_callers(rng, queue);
+            let limits = queue.limits;
+            (limits, Start::Queue(Box::new(queue), HeaderKind::NEWEST))
+        }
+    };
+    List {
+        limits,
+        start,
+        events: Vec::new(),
+        probe: (random::time(rng), random::height(rng)),
+        fees: rng.u64(),
+        look: Look::Callers,
+    }
+}
+
+/// The callers that admit most.
+const FREQUENT: [Caller; 3] = [Caller(0), Caller(1), Caller(15)];
+
+/// An event of such a list: an admission has any caller.
+pub fn callers_event(rng: &mut Rng, queue: &Queue) -> Event {
+    let mut event = event(rng, queue);
+    if let Event::Call(call, _) = &mut event {
+        // Confirmed with the signed bytes kept, and rolled back, more often than in other lists.
+        match &mut **call {
+            Call::Reconcile(given) if rng.once_in(2) => given.window = u32::MAX,
+            call @ (Call::Expire(..) | Call::SetCursor(..)) if rng.once_in(2) => {
+                *call = Call::Reopen(rolled_back(rng, queue));
+            }
+            _ => {}
+        }
+        if let Call::Admit(given) = &mut **call {
+            given.caller = match rng.once_in(4) {
+                true => random::caller(rng),
+                false => rng.pick(&FREQUENT),
+            };
+            // With nothing but the share to refuse.
+            if !rng.once_in(3) {
+                given.signed.clear();
+                given.inputs.clear();
+                given.label = None;
+                (given.time_deadline, given.height_deadline) = (None, None);
+            }
+        }
+    }
+    event
+}
+
 /// What best fees is asked of this queue; the draws are the same for all queues.
 pub fn fees(seed: u64, queue: &Queue, (now, height): (TimeMs, Height)) -> [Fees; 3] {
     let mut rng = Rng::new(seed);
@@ -69,7 +134,8 @@ pub fn fees(seed: u64, queue: &Queue, (now, height): (TimeMs, Height)) -> [Fees;
     })
 }
 
-/// Any sound queue; half of those that can be in an image of kind 01 are stored in one.
+/// Any sound queue of caller 0 alone; some of those that can be in an image of an older kind are stored
+/// in one.
 pub(crate) fn any_queue(rng: &mut Rng, limits: Limits) -> Start {
     let mut queue = random::queue(rng, limits);
     // Half of them as after opening.
@@ -77,9 +143,10 @@ pub(crate) fn any_queue(rng: &mut Rng, limits: Limits) -> Start {
         queue.persisted = queue.cursor;
     }
     // The other draws stay what they are.
-    let kind = match rng.clone().once_in(2) {
-        true if HeaderKind::K01.can_hold(&queue) => HeaderKind::K01,
-        _ => HeaderKind::NEWEST,
+    let kind = rng.clone().pick(&HeaderKind::ALL);
+    let kind = match kind.can_hold(&queue) {
+        true => kind,
+        false => HeaderKind::NEWEST,
     };
     Start::Queue(Box::new(queue), kind)
 }
@@ -87,12 +154,12 @@ pub(crate) fn any_queue(rng: &mut Rng, limits: Limits) -> Start {
 /// Mostly small limits, rarely many records.
 pub fn limits(rng: &mut Rng) -> Limits {
     if rng.once_in(2_000) {
-        return Limits {
-            pending: Limits::MAX_PENDING - rng.below(2) as u32,
-            bytes: rng.pick(&[1, 4_096, 65_536]),
-            tombstones: Limits::MAX_TOMBSTONES - rng.below(2) as u32,
-            inputs: 1 + rng.below(2) as u32,
-        };
+        let pending = u64::from(Limits::MAX_PENDING) - rng.below(2) as u64;
+        let bytes = rng.pick(&[1, 4_096, 65_536]);
+        let tombstones = u64::from(Limits::MAX_TOMBSTONES) - rng.below(2) as u64;
+        let inputs = 1 + rng.below(2) as u64;
+        let limits = Limits::checked(pending, bytes, tombstones, inputs);
+        return limits.expect("limits in range");
     }
     random::small_limits(rng)
 }
@@ -170,6 +237,7 @@ fn admission(rng: &mut Rng, queue: &Queue) -> Admission {
     }
     Admission {
         id: random::tx_id(rng, limits),
+        caller: Caller(0),
         inputs: inputs(rng, queue),
         outputs: random::box_ids(rng, limits),
         signed: rng.bytes(signed),

@@ -8,11 +8,13 @@
 //! - [`oracle`]: runs events on the oracle.
 //! - [`withdrawn`]: which ids may not be selected.
 //! - [`marks`]: the one reason in which the two part.
+//! - [`callers`]: lists with callers and shares, which the oracle has not, compared with the model.
 //! - [`run`]: compares the two after each event.
 //! - [`fixed`]: the fixed list that a Rattle program replays.
 //! - [`shrink`]: makes a list that shows a difference smaller.
 //! - [`tables`]: the files of docs/tables, which `bench` and `mutants` write.
 
+pub mod callers;
 pub mod counts;
 pub mod fixed;
 pub mod generate;

@@ -86,7 +86,7 @@ pub struct List {
     /// The time and height with which reading calls are asked after each event.
     pub probe: (TimeMs, Height),
     /// The seed of what best fees is asked, at the start and after each event, and of the kind and the
-    /// mark that are put into texts and areas.
+    /// mark, caller or share that are put into texts and areas.
     pub fees: u64,
     pub look: Look,
 }
@@ -100,6 +100,9 @@ pub enum Look {
     Withdrawn,
     /// The queue and parents first (document 02, P7), of a list without events.
     Parents,
+    /// All that can be seen, of a list with callers and shares (document 02, P8): the oracle has
+    /// neither and is not asked; the model is the judge.
+    Callers,
 }
 
 impl fmt::Display for List {
@@ -110,6 +113,9 @@ impl fmt::Display for List {
             "limits P {}, B {}, T {}, K {}",
             limits.pending, limits.bytes, limits.tombstones, limits.inputs
         )?;
+        if !limits.is_all_to_caller_0() {
+            writeln!(f, "shares {:?}", limits.shares)?;
+        }
         match &self.start {
             Start::Fresh => writeln!(f, "start: fresh, nothing stored")?,
             Start::Queue(queue, kind) => {

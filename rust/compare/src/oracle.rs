@@ -13,8 +13,8 @@ use ergo_primitives::registry::{self, Transaction};
 use model::calls::{entry_bytes, ids_bytes};
 use model::rules::{self, Admission, Reconciliation};
 use model::{
-    Confirmation, FinishNumber, Height, Holder, Id, Limits, Queue, Reason, Record, State, TimeMs,
-    Withdrawn,
+    Caller, Confirmation, FinishNumber, Height, Holder, Id, Limits, Queue, Reason, Record, State,
+    TimeMs, Withdrawn,
 };
 use reference::limits;
 use reference::private_queue::inspect::{self, WholeRecord, WholeStore};
@@ -58,8 +58,12 @@ pub struct Oracle {
 }
 
 impl Oracle {
-    /// Uses `folder`, which must exist, and removes what an earlier oracle left there.
+    /// Uses `folder`, which must exist, and removes what an earlier oracle left there. The oracle has no
+    /// callers and no shares: all is of caller 0, whose share is P, and nothing else is taken.
     pub fn new(folder: &Path, limits: Limits, start: &Start) -> Result<Oracle, String> {
+        if !limits.is_all_to_caller_0() {
+            return Err("the oracle has no shares".into());
+        }
         set_limits(&limits);
         registry::clear();
         let path = folder.join("queue.json");
@@ -85,6 +89,10 @@ impl Oracle {
 
     /// Starts with this queue, stored as it is.
     fn set(&mut self, queue: &Queue) -> Result<(), String> {
+        let of_caller_0 = |record: &Record| record.caller == Caller(0);
+        if queue.limits != self.limits || !queue.records.iter().all(of_caller_0) {
+            return Err("the oracle has no callers".into());
+        }
         self.marked = Marked::new(queue);
         for record in &queue.records {
             if let Some(holder) = &record.holder {
@@ -140,6 +148,9 @@ impl Oracle {
     }
 
     pub fn call(&mut self, call: &Call, write: Write) -> Result<Done, String> {
+        if matches!(call, Call::Admit(given) if given.caller != Caller(0)) {
+            return Err("the oracle has no callers".into());
+        }
         let fails = match write {
             Write::Kept | Write::CutAfterRename => None,
             Write::NotCreated | Write::CutBeforeRename => Some(self.uncreatable.clone()),
@@ -476,6 +487,7 @@ fn mined_of(entry: &PrivateTransactionEntry) -> Option<Confirmation> {
 fn shown_of(entry: &PrivateTransactionEntry) -> Record {
     Record {
         id: id_of(&entry.tx_id),
+        caller: Caller(0),
         state: state_of(entry.state),
         reason: reason_of(entry.reason.as_deref()),
         created: TimeMs(entry.created_at_ms),

@@ -5,8 +5,9 @@ use std::fmt;
 use std::path::Path;
 
 use model::random::Rng;
-use model::{area, calls, image, Height, Id, Limits, Queue, Record, TimeMs};
+use model::{area, calls, image, HeaderKind, Height, Id, Limits, Queue, Record, TimeMs};
 
+use crate::callers;
 use crate::counts::Counts;
 use crate::generate;
 use crate::list::{Call, Event, List, Look, Short, Write};
@@ -339,13 +340,14 @@ impl<'a, S: Side> Pair<'a, S> {
     /// stored one, and of that one with a byte that is another.
     fn image_limits(&self, text: &[u8], counts: &mut Counts) -> Result<(), Difference> {
         let mut wrong = text.to_vec();
-        let at = self.at.wrapping_mul(7) % text.len();
-        wrong[at] = b"0f1\n8A"[self.at % 6];
-        for text in [text, &wrong] {
-            let mut numbers = [UNTOUCHED.into(); 5];
-            let number = Model.image_limits(text, &mut numbers);
-            let answer = self.unit.image_limits(text);
-            self.same("the answer of image_limits", answer, (number, numbers))?;
+        // In each list one place and one byte, so that shorter lists show the same.
+        let mut rng = Rng::new(self.fees);
+        let at = rng.below(text.len());
+        wrong[at] = rng.pick(b"0f1\n8A");
+        for (text, length) in [(text, 64), (&wrong, 66), (text, 63)] {
+            let right = unit::image_limits(&Model, text, length);
+            let answer = self.unit.image_limits(text, length);
+            self.same("the answer of image_limits", answer, right)?;
             counts.reading("image_limits");
         }
         Ok(())
@@ -356,13 +358,18 @@ impl<'a, S: Side> Pair<'a, S> {
     fn kinds(&self, queue: &Queue, counts: &mut Counts) -> Result<(), Difference> {
         let mut rng = Rng::new(self.fees);
         let (kind, mark) = (rng.pick(&KINDS), rng.pick(&MARKS));
-        let (mut bytes, mut text) = (self.unit.area().to_vec(), image::encode(queue));
+        // With shares and callers, or without, as older kinds have them.
+        let form = match rng.once_in(2) {
+            true => HeaderKind::K04,
+            false => HeaderKind::K03,
+        };
+        let (mut bytes, mut text) = (self.unit.area().to_vec(), image::encode_as(form, queue));
         bytes[4] = kind;
         put_digits(&mut text, 0, kind);
         if let (Some(mark), false) = (mark, queue.records.is_empty()) {
             let n = rng.below(queue.records.len());
             bytes[area::mark_place(queue, n)] = mark;
-            put_digits(&mut text, image::mark_place(queue, n), mark);
+            put_digits(&mut text, image::mark_place(form, queue, n), mark);
         }
         self.judged(kind, &bytes, &text, counts)
     }
@@ -525,11 +532,11 @@ impl<'a, S: Side> Pair<'a, S> {
 }
 
 /// Header kinds, mostly those that there are.
-const KINDS: [u8; 7] = [1, 3, 1, 3, 0, 2, 4];
+const KINDS: [u8; 10] = [1, 3, 4, 1, 3, 4, 4, 0, 2, 5];
 /// Withdrawn marks, two numbers that are none, and the mark that is there.
 const MARKS: [Option<u8>; 7] = [Some(3), Some(5), Some(4), Some(0), Some(1), Some(2), None];
 
-fn put_digits(text: &mut [u8], at: usize, byte: u8) {
+pub(crate) fn put_digits(text: &mut [u8], at: usize, byte: u8) {
     text[at..at + 2].copy_from_slice(format!("{byte:02x}").as_bytes());
 }
 
@@ -612,6 +619,9 @@ fn count(call: &Call, write: Write, done: &unit::Done, counts: &mut Counts) {
 /// Runs a whole list; the first difference.
 pub fn run_list<S: Side>(side: &S, folder: &Path, list: &List) -> Result<(), Difference> {
     let mut counts = Counts::default();
+    if list.look == Look::Callers {
+        return callers::run_list(side, list, &mut counts);
+    }
     let mut pair = Pair::new(side, folder, list)?;
     pair.start(&mut counts)?;
     list.events
@@ -639,7 +649,7 @@ fn started<'a, S: Side>(
 const PARENTS: u64 = 12;
 
 /// What belongs to one seed: a random list, under these limits or random ones, a queue for best fees,
-/// and some for parents first.
+/// some for parents first, and a list with callers and shares.
 pub fn seed<S: Side>(
     side: &S,
     folder: &Path,
@@ -661,7 +671,7 @@ pub fn seed<S: Side>(
         let list = generate::parents_list(&mut Rng::new(seed));
         started(side, folder, &list, counts)?;
     }
-    Ok(())
+    callers::random_list(side, &mut Rng::new(seed), counts)
 }
 
 /// Makes and runs one random list. A difference comes with the list up to it.

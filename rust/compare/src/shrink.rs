@@ -119,6 +119,7 @@ fn smaller_calls(call: &Call) -> Vec<Call> {
             add(&|given| given.height_deadline = None);
             add(&|given| given.tip = None);
             add(&|given| given.priority = 0);
+            add(&|given| given.caller = model::Caller(0));
             calls
         }
         Call::Reconcile(given) => {

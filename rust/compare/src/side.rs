@@ -24,7 +24,8 @@ pub trait Side {
 
     fn set_cursor(&self, cur: &[u8], next: &mut [u8], height: u32, flag: u8, tip: &[u8]) -> u64;
 
-    fn fresh(&self, p: u64, b: u64, t: u64, k: u64, area: &mut [u8]) -> u64;
+    /// Of P, B, T, K and the shares.
+    fn fresh(&self, limits: [u64; 4], shares: &[u8], area: &mut [u8]) -> u64;
 
     fn settle(&self, cur: &[u8], next: &mut [u8], kind: u64, outcome: u64) -> u64;
 
@@ -34,8 +35,8 @@ pub trait Side {
 
     fn need(&self, limits: [u64; 4], value: &mut u64) -> u64;
 
-    /// P, B, T, K and the need.
-    fn image_limits(&self, text: &[u8], numbers: &mut [u64; 5]) -> u64;
+    /// P, B, T, K and the need; the shares.
+    fn image_limits(&self, text: &[u8], numbers: &mut [u64; 5], shares: &mut [u8]) -> u64;
 
     fn sound(&self, area: &[u8]) -> u64;
 
@@ -168,8 +169,8 @@ impl Side for Model {
         calls::set_cursor(cur, next, height, flag, tip)
     }
 
-    fn fresh(&self, p: u64, b: u64, t: u64, k: u64, area: &mut [u8]) -> u64 {
-        calls::fresh(p, b, t, k, area)
+    fn fresh(&self, [p, b, t, k]: [u64; 4], shares: &[u8], area: &mut [u8]) -> u64 {
+        calls::fresh(p, b, t, k, shares, area)
     }
 
     fn settle(&self, cur: &[u8], next: &mut [u8], kind: u64, outcome: u64) -> u64 {
@@ -188,8 +189,9 @@ impl Side for Model {
         calls::need(p, b, t, k, value)
     }
 
-    fn image_limits(&self, text: &[u8], [p, b, t, k, need]: &mut [u64; 5]) -> u64 {
-        calls::image_limits(text, p, b, t, k, need)
+    fn image_limits(&self, text: &[u8], numbers: &mut [u64; 5], shares: &mut [u8]) -> u64 {
+        let [p, b, t, k, need] = numbers;
+        calls::image_limits(text, p, b, t, k, shares, need)
     }
 
     fn sound(&self, area: &[u8]) -> u64 {
@@ -266,6 +268,7 @@ fn number(answer: impl Number) -> u64 {
 fn admit_args<'a>(args: &AdmitArgs<'a>) -> raw::AdmitArgs<'a> {
     raw::AdmitArgs {
         id: args.id,
+        caller: args.caller,
         inputs: args.inputs,
         outputs: args.outputs,
         signed: args.signed,
@@ -327,8 +330,8 @@ impl Side for Library {
         number(raw::set_cursor(cur, next, height, flag, tip))
     }
 
-    fn fresh(&self, p: u64, b: u64, t: u64, k: u64, area: &mut [u8]) -> u64 {
-        number(raw::fresh(p, b, t, k, area))
+    fn fresh(&self, [p, b, t, k]: [u64; 4], shares: &[u8], area: &mut [u8]) -> u64 {
+        number(raw::fresh(p, b, t, k, shares, area))
     }
 
     fn settle(&self, cur: &[u8], next: &mut [u8], kind: u64, outcome: u64) -> u64 {
@@ -347,8 +350,9 @@ impl Side for Library {
         number(raw::need(p, b, t, k, value))
     }
 
-    fn image_limits(&self, text: &[u8], [p, b, t, k, need]: &mut [u64; 5]) -> u64 {
-        number(raw::image_limits(text, p, b, t, k, need))
+    fn image_limits(&self, text: &[u8], numbers: &mut [u64; 5], shares: &mut [u8]) -> u64 {
+        let [p, b, t, k, need] = numbers;
+        number(raw::image_limits(text, p, b, t, k, shares, need))
     }
 
     fn sound(&self, area: &[u8]) -> u64 {

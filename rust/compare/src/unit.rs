@@ -28,7 +28,7 @@ pub struct Done {
 /// A queue in two areas and a stored image.
 pub struct Unit<'s, S: Side> {
     side: &'s S,
-    /// The limits for a fresh queue after a cut with nothing stored.
+    /// The limits and shares for a fresh queue after a cut with nothing stored.
     first_limits: Limits,
     need: usize,
     current: Vec<u8>,
@@ -69,8 +69,9 @@ impl<'s, S: Side> Unit<'s, S> {
         let (call, number) = match &self.stored {
             Some(text) => ("open", self.side.open(text, &mut self.current)),
             None => {
-                let [p, b, t, k] = self.first_limits.numbers();
-                ("fresh", self.side.fresh(p, b, t, k, &mut self.current))
+                let (limits, shares) =
+                    (self.first_limits.numbers(), self.first_limits.share_bytes());
+                ("fresh", self.side.fresh(limits, &shares, &mut self.current))
             }
         };
         expect(call, number, 100)
@@ -113,7 +114,7 @@ impl<'s, S: Side> Unit<'s, S> {
             return Err("a call changed the current area".into());
         }
         match number {
-            1..=16 => Ok(done(number, None, Vec::new())),
+            1..=16 | 18 => Ok(done(number, None, Vec::new())),
             100 => Ok(done(100, Some(0), out)),
             101 => {
                 std::mem::swap(&mut self.current, &mut self.next);
@@ -232,10 +233,32 @@ impl<'s, S: Side> Unit<'s, S> {
         (self.side.need(limits, &mut value), value)
     }
 
-    /// The number given back, and what stands behind the five pointers.
-    pub fn image_limits(&self, text: &[u8]) -> (u64, [u64; 5]) {
-        let mut numbers = [UNTOUCHED.into(); 5];
-        (self.side.image_limits(text, &mut numbers), numbers)
+    /// The number given back, what stands behind the five pointers, and the shares, for which so many
+    /// bytes are lent.
+    pub fn image_limits(&self, text: &[u8], length: usize) -> (u64, [u64; 5], Vec<u8>) {
+        image_limits(self.side, text, length)
+    }
+
+    /// The number that a fresh queue under these limits gives back, and the area as it is then: one
+    /// that is long enough, or a byte too short.
+    pub fn fresh(&self, limits: [u64; 4], shares: &[u8], short: bool) -> (u64, Vec<u8>) {
+        let mut area = self.to_open();
+        if short {
+            area.truncate(self.need - 1);
+        }
+        (self.side.fresh(limits, shares, &mut area), area)
+    }
+
+    /// The number that an admission of the caller with this number gives back; it has no effect.
+    pub fn admission_by(&self, given: &Admission, caller: u8) -> u64 {
+        let (inputs, outputs) = (given.inputs.concat(), given.outputs.concat());
+        let args = AdmitArgs {
+            caller,
+            ..admit_args(given, &inputs, &outputs)
+        };
+        let mut out = vec![UNTOUCHED; answer_bound(&self.first_limits)];
+        let mut next = self.next.clone();
+        self.side.admit(&self.current, &mut next, &args, &mut out)
     }
 
     pub fn signed_bytes(&self, id: &Id) -> Result<&[u8], u64> {
@@ -248,6 +271,17 @@ impl<'s, S: Side> Unit<'s, S> {
             number => Err(number),
         }
     }
+}
+
+/// What a side says of an image: [`Unit::image_limits`].
+pub(crate) fn image_limits<S: Side>(
+    side: &S,
+    text: &[u8],
+    length: usize,
+) -> (u64, [u64; 5], Vec<u8>) {
+    let (mut numbers, mut shares) = ([UNTOUCHED.into(); 5], vec![UNTOUCHED; length]);
+    let number = side.image_limits(text, &mut numbers, &mut shares);
+    (number, numbers, shares)
 }
 
 /// The output of `length` bytes that a call leaves, or its refusal.
@@ -299,6 +333,7 @@ pub(crate) fn ids_of(bytes: &[u8]) -> Option<Vec<Id>> {
 pub fn admit_args<'a>(given: &'a Admission, inputs: &'a [u8], outputs: &'a [u8]) -> AdmitArgs<'a> {
     AdmitArgs {
         id: &given.id,
+        caller: given.caller.0,
         inputs,
         outputs,
         signed: &given.signed,

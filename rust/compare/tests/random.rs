@@ -59,6 +59,31 @@ fn the_model_answers_as_the_oracle() {
     }
     assert_eq!(counts.met_by_fees(), [4, 5, 21, 100]);
     marks_were_met(&counts);
+    // Of caller 0 alone, whose share is P: 10 comes first.
+    assert!(!counts.met("admit", "18"));
+}
+
+/// In the lists that the model judges, each rule about callers and shares was met often.
+fn callers_were_met(counts: &Counts) {
+    let met = counts.callers;
+    assert!(met.lists >= 100, "{met}");
+    assert!(met.events > 1_500, "{met}");
+    assert!(met.refused > met.used_up, "{met}");
+    for (count, least) in [
+        (met.used_up, 30),
+        (met.admitted, 50),
+        (met.replaced, 5),
+        (met.lifted, 5),
+        (met.restarted, 5),
+        (met.over_15, 500),
+        (met.over_p, 300),
+        (met.not_whole, 300),
+    ] {
+        assert!(count > least, "{met}");
+    }
+    let altered = |lent| counts.met_by_kind(lent, 4);
+    assert_eq!(altered("areas with another caller or share"), [3, 100]);
+    assert_eq!(altered("texts with another caller or share"), [16, 100]);
 }
 
 /// The reason that is left out was there often enough, and so were other kinds and marks.
@@ -70,10 +95,11 @@ fn marks_were_met(counts: &Counts) {
     assert!(met.released > 5, "{met}");
     for (kind, texts, areas) in [
         (1, &[16, 100][..], &[3][..]),
-        (3, &[16, 100], &[3, 100]),
+        (3, &[16, 100], &[3]),
+        (4, &[16, 100], &[3, 100]),
         (0, &[16], &[3]),
         (2, &[16], &[3]),
-        (4, &[16], &[3]),
+        (5, &[16], &[3]),
     ] {
         assert_eq!(counts.met_by_kind("texts", kind), texts, "{kind}");
         assert_eq!(counts.met_by_kind("areas", kind), areas, "{kind}");
@@ -105,14 +131,18 @@ fn the_library_answers_as_the_oracle() {
         assert!(count > 0, "{met}");
     }
     marks_were_met(&counts);
+    callers_were_met(&counts);
 }
 
+type Admit = fn(&[u8], &mut [u8], &AdmitArgs<'_>, &mut [u8]) -> u64;
 type Reconcile = fn(&[u8], &mut [u8], &ReconcileArgs<'_>, &mut [u8]) -> u64;
 type BestFees = fn(&[u8], &Fees, &mut [u8]) -> u64;
 type ParentsFirst = fn(&[u8], u64, u32, &mut [u8]) -> u64;
 
 /// The model, some of whose calls may be wrong.
 struct Faulty {
+    admit: Admit,
+    fresh: fn([u64; 4], &[u8], &mut [u8]) -> u64,
     settle: fn(&[u8], &mut [u8], u64, u64) -> u64,
     cancel: fn(&[u8], &mut [u8], &[u8], &mut [u8]) -> u64,
     reconcile: Reconcile,
@@ -120,13 +150,15 @@ struct Faulty {
     sound: fn(&[u8]) -> u64,
     open: fn(&[u8], &mut [u8]) -> u64,
     need: fn([u64; 4], &mut u64) -> u64,
-    image_limits: fn(&[u8], &mut [u64; 5]) -> u64,
+    image_limits: fn(&[u8], &mut [u64; 5], &mut [u8]) -> u64,
     read: fn(Reading, &[u8], &mut [u8]) -> u64,
     best_fees: BestFees,
     parents_first: ParentsFirst,
 }
 
 const RIGHT: Faulty = Faulty {
+    admit: calls::admit,
+    fresh: |limits, shares, area| Model.fresh(limits, shares, area),
     settle: calls::settle,
     cancel: calls::cancel,
     reconcile: calls::reconcile,
@@ -134,7 +166,7 @@ const RIGHT: Faulty = Faulty {
     sound: calls::sound,
     open: calls::open,
     need: |limits, value| Model.need(limits, value),
-    image_limits: |text, numbers| Model.image_limits(text, numbers),
+    image_limits: |text, numbers, shares| Model.image_limits(text, numbers, shares),
     read: |reading, area, out| Model.read(reading, area, out),
     best_fees: |area, asked, out| Model.best_fees(area, asked, out),
     parents_first: calls::selection_parents_first,
@@ -142,7 +174,7 @@ const RIGHT: Faulty = Faulty {
 
 impl Side for Faulty {
     fn admit(&self, cur: &[u8], next: &mut [u8], args: &AdmitArgs<'_>, out: &mut [u8]) -> u64 {
-        Model.admit(cur, next, args, out)
+        (self.admit)(cur, next, args, out)
     }
 
     fn cancel(&self, cur: &[u8], next: &mut [u8], id: &[u8], out: &mut [u8]) -> u64 {
@@ -171,8 +203,8 @@ impl Side for Faulty {
         Model.set_cursor(cur, next, height, flag, tip)
     }
 
-    fn fresh(&self, p: u64, b: u64, t: u64, k: u64, area: &mut [u8]) -> u64 {
-        Model.fresh(p, b, t, k, area)
+    fn fresh(&self, limits: [u64; 4], shares: &[u8], area: &mut [u8]) -> u64 {
+        (self.fresh)(limits, shares, area)
     }
 
     fn settle(&self, cur: &[u8], next: &mut [u8], kind: u64, outcome: u64) -> u64 {
@@ -191,8 +223,8 @@ impl Side for Faulty {
         (self.need)(limits, value)
     }
 
-    fn image_limits(&self, text: &[u8], numbers: &mut [u64; 5]) -> u64 {
-        (self.image_limits)(text, numbers)
+    fn image_limits(&self, text: &[u8], numbers: &mut [u64; 5], shares: &mut [u8]) -> u64 {
+        (self.image_limits)(text, numbers, shares)
     }
 
     fn sound(&self, area: &[u8]) -> u64 {
@@ -220,17 +252,188 @@ impl Side for Faulty {
     }
 }
 
-/// The smallest list that shows the fault, and the difference.
+/// The smallest list that shows the fault beside the oracle, and the difference.
 fn noticed(side: Faulty, name: &str) -> (List, Difference) {
     noticed_by(Look::All, side, name)
 }
 
+/// Lists that the model judges are passed over: they are the last of a seed.
 fn noticed_by(look: Look, side: Faulty, name: &str) -> (List, Difference) {
     let folder = Folder::new(name);
-    let Err(found) = lists(&side, &folder, 0..500, look) else {
+    for seed in 0..500 {
+        match lists(&side, &folder, seed..seed + 1, look) {
+            Err(found) if found.0.look != Look::Callers => {
+                return shrink(&side, folder.path(), *found)
+            }
+            _ => {}
+        }
+    }
+    panic!("{name} was not noticed");
+}
+
+/// What is right for caller 0 under all to caller 0 is noticed by the model alone.
+fn noticed_by_model(side: Faulty, name: &str) -> (List, Difference) {
+    let folder = Folder::new(name);
+    let Err(found) = lists(&side, &folder, 0..100, Look::All) else {
         panic!("{name} was not noticed");
     };
+    assert_eq!(
+        found.0.look,
+        Look::Callers,
+        "{name}: {}{}",
+        found.0,
+        found.1
+    );
     shrink(&side, folder.path(), *found)
+}
+
+/// An admission without 18: made in the same queue with all shares P, which are then stored.
+fn without_share(cur: &[u8], next: &mut [u8], args: &AdmitArgs<'_>, out: &mut [u8]) -> u64 {
+    match calls::admit(cur, next, args, out) {
+        18 => {
+            let Some(mut queue) = model::area::decode(cur) else {
+                return 3;
+            };
+            queue.limits.shares = [queue.limits.pending; 16];
+            let area = model::area::encode(&queue);
+            calls::admit(&area, next, args, out)
+        }
+        number => number,
+    }
+}
+
+/// The next area with the callers of its records changed, where a record is changed or new.
+fn with_callers(number: u64, next: &mut [u8], change: impl Fn(&mut Record)) -> u64 {
+    if number == 102 {
+        with_records(next, change);
+    }
+    number
+}
+
+#[test]
+fn a_wrong_caller_or_share_is_noticed() {
+    let sides: [(Faulty, &str, &str); 9] = [
+        (
+            Faulty {
+                admit: without_share,
+                ..RIGHT
+            },
+            "no-18",
+            "what admit did, by the model",
+        ),
+        (
+            Faulty {
+                admit: |cur, next, args, out| match calls::admit(cur, next, args, out) {
+                    5 if args.caller == 16 => 18,
+                    number => number,
+                },
+                ..RIGHT
+            },
+            "18-for-caller-16",
+            "the caller of admit, by the model",
+        ),
+        (
+            Faulty {
+                admit: |cur, next, args, out| {
+                    let number = calls::admit(cur, next, args, out);
+                    with_callers(number, next, |record| {
+                        if record.id == args.id {
+                            record.caller.0 &= 7;
+                        }
+                    })
+                },
+                ..RIGHT
+            },
+            "caller-15-as-7",
+            "the image, by the model",
+        ),
+        (
+            Faulty {
+                cancel: |cur, next, id, out| {
+                    let number = calls::cancel(cur, next, id, out);
+                    with_callers(number, next, |record| {
+                        if record.id == id {
+                            record.caller.0 = 0;
+                        }
+                    })
+                },
+                ..RIGHT
+            },
+            "finishing-loses-the-caller",
+            "the image, by the model",
+        ),
+        (
+            Faulty {
+                reopen: |cur, next, ids| {
+                    let number = calls::reopen(cur, next, ids);
+                    with_callers(number, next, |record| record.caller.0 = 0)
+                },
+                ..RIGHT
+            },
+            "reopening-loses-callers",
+            "the image, by the model",
+        ),
+        (
+            Faulty {
+                fresh: |[p, b, t, k], shares, area| {
+                    let number = Model.fresh([p, b, t, k], shares, area);
+                    if number == 100 {
+                        let all = [&(p as u32).to_be_bytes()[..], &[0; 60]].concat();
+                        Model.fresh([p, b, t, k], &all, area);
+                    }
+                    number
+                },
+                ..RIGHT
+            },
+            "all-to-caller-0",
+            "the area, by the model",
+        ),
+        (
+            Faulty {
+                fresh: |limits, shares, area| match Model.fresh(limits, shares, area) {
+                    5 if shares.len() > 64 => Model.fresh(limits, &shares[..64], area),
+                    number => number,
+                },
+                ..RIGHT
+            },
+            "longer-shares",
+            "the shares of fresh, by the model",
+        ),
+        (
+            Faulty {
+                sound: |area| match calls::sound(area) {
+                    3 if area.len() > 4 => {
+                        let mut other = area.to_vec();
+                        other[21..85].fill(0);
+                        calls::sound(&other)
+                    }
+                    number => number,
+                },
+                ..RIGHT
+            },
+            "shares-over-p-are-sound",
+            "the answer of sound, by the model",
+        ),
+        (
+            Faulty {
+                read: |reading, area, out| {
+                    let mut shown = area.to_vec();
+                    if reading == Reading::List {
+                        with_records(&mut shown, |record| record.caller.0 = 0);
+                    }
+                    Model.read(reading, &shown, out)
+                },
+                ..RIGHT
+            },
+            "shows-caller-0",
+            "the answer of list, by the model",
+        ),
+    ];
+    for (side, name, what) in sides {
+        let (list, found) = noticed_by_model(side, name);
+        assert_eq!(found.what, what, "{list}{found}");
+        assert!(list.events.len() <= 4, "{list}{found}");
+    }
 }
 
 #[test]
@@ -327,9 +530,9 @@ fn wrong_numbers_to_lend_are_noticed() {
         (
             // Of the header alone.
             Faulty {
-                image_limits: |text, numbers| {
+                image_limits: |text, numbers, shares| {
                     let line = text.iter().position(|byte| *byte == b'\n');
-                    match Model.image_limits(text, numbers) {
+                    match Model.image_limits(text, numbers, shares) {
                         16 if line.is_some_and(|end| end + 1 < text.len()) => 100,
                         number => number,
                     }
@@ -341,8 +544,8 @@ fn wrong_numbers_to_lend_are_noticed() {
         (
             // T for P.
             Faulty {
-                image_limits: |text, numbers| {
-                    let number = Model.image_limits(text, numbers);
+                image_limits: |text, numbers, shares| {
+                    let number = Model.image_limits(text, numbers, shares);
                     numbers[0] = numbers[2];
                     number
                 },
@@ -669,7 +872,7 @@ fn a_wrong_kind_is_noticed() {
                 sound: |area| {
                     let mut newest = area.to_vec();
                     if newest.get(4) == Some(&1) {
-                        newest[4] = 3;
+                        newest[4] = 4;
                     }
                     calls::sound(&newest)
                 },

@@ -2,7 +2,7 @@
 
 use crate::frame::{self, HeaderKind, Reader};
 use crate::sound::is_sound;
-use crate::values::{Height, Id, Queue};
+use crate::values::{Caller, Height, Id, Queue};
 
 /// Persisted height, header frame, record frames, zeros up to the need. A queue that is not
 /// sound may take more than the need.
@@ -18,7 +18,7 @@ fn used(queue: &Queue) -> Vec<u8> {
     let mut bytes = queue.persisted.0.to_be_bytes().to_vec();
     bytes.extend(frame::header(HeaderKind::NEWEST, queue));
     for record in &queue.records {
-        bytes.extend(frame::record(record));
+        bytes.extend(frame::record(HeaderKind::NEWEST, record));
     }
     bytes
 }
@@ -48,7 +48,7 @@ fn parse(area: &[u8]) -> Option<Queue> {
 pub fn signed_bytes_place(queue: &Queue, id: &Id) -> Option<(usize, usize)> {
     let mut end = 4 + frame::header(HeaderKind::NEWEST, queue).len();
     for record in &queue.records {
-        end += frame::record(record).len();
+        end += frame::record(HeaderKind::NEWEST, record).len();
         if record.id == *id {
             // The signed bytes are the last field of a holder's frame.
             let length = record.holder.as_ref()?.bytes.len();
@@ -60,5 +60,15 @@ pub fn signed_bytes_place(queue: &Queue, id: &Id) -> Option<(usize, usize)> {
 
 /// Where the `n`-th record's withdrawn mark stands in the area of this queue.
 pub fn mark_place(queue: &Queue, n: usize) -> usize {
-    4 + frame::mark_place(queue, n)
+    4 + frame::mark_place(HeaderKind::NEWEST, queue, n)
+}
+
+/// Where the `n`-th record's caller stands in the area of this queue.
+pub fn caller_place(queue: &Queue, n: usize) -> usize {
+    4 + frame::caller_place(queue, n)
+}
+
+/// Where a caller's share stands in an area.
+pub fn share_place(caller: Caller) -> usize {
+    4 + frame::share_place(caller)
 }

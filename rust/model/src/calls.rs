@@ -4,8 +4,8 @@
 use std::collections::{BTreeMap, BTreeSet};
 
 use crate::rules::{self, Admission, Change, Kind, Reconciliation, ABSENT};
-use crate::values::{Confirmation, Height, Id, Limits, Queue, Record, TimeMs};
-use crate::{area, fees, frame, image, parents};
+use crate::values::{Caller, Confirmation, Height, Id, Limits, Queue, Record, Shares, TimeMs};
+use crate::{area, fees, frame, image, parents, HeaderKind};
 
 pub const LIMIT: u64 = 1;
 pub const AREA_SHORT: u64 = 2;
@@ -35,12 +35,12 @@ fn read_area(lent: &[u8]) -> Result<Queue, u64> {
 /// 3, then 2: area to write shorter than needed.
 fn read_current(cur: &[u8], next: &[u8]) -> Result<Queue, u64> {
     let queue = read_area(cur)?;
-    check_need(&queue, next)?;
+    check_need(&queue.limits, next)?;
     Ok(queue)
 }
 
-fn check_need(queue: &Queue, lent: &[u8]) -> Result<(), u64> {
-    if lent.len() < queue.limits.need() {
+fn check_need(limits: &Limits, lent: &[u8]) -> Result<(), u64> {
+    if lent.len() < limits.need() {
         return Err(AREA_SHORT);
     }
     Ok(())
@@ -96,6 +96,18 @@ fn optional<T>(flag: u8, read: impl FnOnce() -> Result<T, u64>) -> Result<Option
     }
 }
 
+fn read_caller(number: u8) -> Result<Caller, u64> {
+    let caller = Caller(number);
+    caller.is_one().then_some(caller).ok_or(SHAPE)
+}
+
+/// Sixteen numbers of 4 bytes.
+fn read_shares(bytes: &[u8]) -> Result<Shares, u64> {
+    let mut reader = frame::Reader::new(bytes);
+    let shares = reader.shares().ok_or(SHAPE)?;
+    reader.rest().is_empty().then_some(shares).ok_or(SHAPE)
+}
+
 fn read_ids(bytes: &[u8]) -> Result<Vec<Id>, u64> {
     if !bytes.len().is_multiple_of(32) {
         return Err(SHAPE);
@@ -139,7 +151,7 @@ fn read_applied(bytes: &[u8]) -> Result<BTreeMap<Id, Confirmation>, u64> {
 /// An entry: a record frame's fields from the id to the confirmation, then the inputs.
 pub fn entry_bytes(record: &Record) -> Vec<u8> {
     let mut bytes = Vec::new();
-    frame::put_head(&mut bytes, record);
+    frame::put_head(&mut bytes, HeaderKind::NEWEST, record);
     frame::put_list(&mut bytes, record.inputs());
     bytes
 }
@@ -162,6 +174,7 @@ fn count_bytes(count: usize) -> Vec<u8> {
 #[derive(Debug, Clone, Copy)]
 pub struct AdmitArgs<'a> {
     pub id: &'a [u8],
+    pub caller: u8,
     pub inputs: &'a [u8],
     pub outputs: &'a [u8],
     pub signed: &'a [u8],
@@ -184,6 +197,7 @@ impl AdmitArgs<'_> {
     fn read(&self) -> Result<Admission, u64> {
         Ok(Admission {
             id: read_id(self.id)?,
+            caller: read_caller(self.caller)?,
             inputs: read_ids(self.inputs)?,
             outputs: read_ids(self.outputs)?,
             signed: self.signed.to_vec(),
@@ -298,15 +312,33 @@ fn try_set_cursor(cur: &[u8], next: &mut [u8], height: u32, tip_flag: u8, tip: &
 
 // Settling, the image and the fresh queue.
 
-pub fn fresh(pending: u64, bytes: u64, tombstones: u64, inputs: u64, lent: &mut [u8]) -> u64 {
-    let Some(limits) = Limits::checked(pending, bytes, tombstones, inputs) else {
-        return LIMIT;
+pub fn fresh(
+    pending: u64,
+    bytes: u64,
+    tombstones: u64,
+    inputs: u64,
+    shares: &[u8],
+    lent: &mut [u8],
+) -> u64 {
+    let limits = Limits::checked(pending, bytes, tombstones, inputs);
+    number(try_fresh(limits, shares, lent))
+}
+
+/// 1, 2, then 5; of shares that are not 64 bytes none is read.
+fn try_fresh(limits: Option<Limits>, shares: &[u8], lent: &mut [u8]) -> Answer {
+    let limits = limits.ok_or(LIMIT)?;
+    let limits = match read_shares(shares) {
+        Ok(shares) => limits.shared(shares).ok_or(LIMIT)?,
+        Err(shape) => {
+            check_need(&limits, lent)?;
+            return Err(shape);
+        }
     };
-    number(put_queue(&Queue::fresh(limits), lent))
+    put_queue(&Queue::fresh(limits), lent)
 }
 
 fn put_queue(queue: &Queue, lent: &mut [u8]) -> Answer {
-    check_need(queue, lent)?;
+    check_need(&queue.limits, lent)?;
     write_area(queue, lent);
     Ok(ANSWERED)
 }
@@ -322,7 +354,7 @@ pub fn settle(cur: &[u8], next: &mut [u8], kind: u64, outcome: u64) -> u64 {
 fn try_settle(cur: &[u8], next: &mut [u8], kind: u64, outcome: u64) -> Answer {
     let current = read_area(cur)?;
     if (kind, outcome) == (2, 1) {
-        check_need(&current, next)?;
+        check_need(&current.limits, next)?;
         write_area(&current, next);
         return Err(FAILED);
     }
@@ -352,11 +384,15 @@ pub fn image_limits(
     bytes: &mut u64,
     tombstones: &mut u64,
     inputs: &mut u64,
+    shares: &mut [u8],
     need: &mut u64,
 ) -> u64 {
     let Some(queue) = image::decode(text) else {
         return NOT_AN_IMAGE;
     };
+    if let Err(short) = write_output(&queue.limits.share_bytes(), shares) {
+        return short;
+    }
     [*pending, *bytes, *tombstones, *inputs] = queue.limits.numbers();
     *need = queue.limits.need() as u64;
     ANSWERED

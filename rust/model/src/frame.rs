@@ -2,8 +2,8 @@
 //! an absent value has no bytes.
 
 use crate::values::{
-    Confirmation, FinishNumber, Height, Holder, Id, Limits, Queue, Reason, Record, State, TimeMs,
-    Withdrawn,
+    Caller, Confirmation, FinishNumber, Height, Holder, Id, Limits, Queue, Reason, Record, Shares,
+    State, TimeMs, Withdrawn,
 };
 
 const RECORD_KIND: u8 = 2;
@@ -15,17 +15,20 @@ pub enum HeaderKind {
     K01 = 1,
     /// Document 02, P4: the withdrawn mark 3.
     K03 = 3,
+    /// Document 02, P8: a share for each caller, and each record's caller.
+    K04 = 4,
 }
 
 impl HeaderKind {
-    pub const ALL: [HeaderKind; 2] = [HeaderKind::K01, HeaderKind::K03];
+    pub const ALL: [HeaderKind; 3] = [HeaderKind::K01, HeaderKind::K03, HeaderKind::K04];
     /// What areas and new images have.
-    pub const NEWEST: HeaderKind = HeaderKind::K03;
+    pub const NEWEST: HeaderKind = HeaderKind::K04;
 
     pub fn from_number(number: u8) -> Option<HeaderKind> {
         match number {
             1 => Some(HeaderKind::K01),
             3 => Some(HeaderKind::K03),
+            4 => Some(HeaderKind::K04),
             _ => None,
         }
     }
@@ -35,10 +38,16 @@ impl HeaderKind {
         mark != Withdrawn::RolledBackAfterRelease || self >= HeaderKind::K03
     }
 
+    /// Whether frames of this kind have shares and callers. Where they have not, all is of caller 0.
+    pub fn has_callers(self) -> bool {
+        self >= HeaderKind::K04
+    }
+
     /// Whether an image of this kind can hold the queue.
     pub fn can_hold(self, queue: &Queue) -> bool {
-        let mut records = queue.records.iter();
-        records.all(|record| self.has_mark(record.withdrawn))
+        let records = || queue.records.iter();
+        let callers = queue.limits.is_all_to_caller_0() && records().all(|of| of.caller.0 == 0);
+        (self.has_callers() || callers) && records().all(|of| self.has_mark(of.withdrawn))
     }
 }
 
@@ -60,6 +69,9 @@ pub fn header(kind: HeaderKind, queue: &Queue) -> Vec<u8> {
     ] {
         bytes.extend(limit.to_be_bytes());
     }
+    if kind.has_callers() {
+        bytes.extend(limits.share_bytes());
+    }
     bytes.extend(queue.revision.to_be_bytes());
     put_cursor(&mut bytes, queue);
     bytes.extend(queue.counter.0.to_be_bytes());
@@ -73,9 +85,10 @@ pub fn put_cursor(bytes: &mut Vec<u8>, queue: &Queue) {
     put_optional(bytes, queue.tip);
 }
 
-pub fn record(record: &Record) -> Vec<u8> {
+/// A record frame after a header of this kind.
+pub fn record(kind: HeaderKind, record: &Record) -> Vec<u8> {
     let mut bytes = vec![RECORD_KIND];
-    put_head(&mut bytes, record);
+    put_head(&mut bytes, kind, record);
     bytes.push(record.withdrawn as u8);
     bytes.extend(record.finish.0.to_be_bytes());
     bytes.push(u8::from(record.holder.is_some()));
@@ -89,8 +102,11 @@ pub fn record(record: &Record) -> Vec<u8> {
 }
 
 /// From the id to the confirmation: what a record frame and an entry share.
-pub fn put_head(bytes: &mut Vec<u8>, record: &Record) {
+pub fn put_head(bytes: &mut Vec<u8>, kind: HeaderKind, record: &Record) {
     bytes.extend(record.id);
+    if kind.has_callers() {
+        bytes.push(record.caller.0);
+    }
     bytes.push(record.state as u8);
     bytes.push(record.reason as u8);
     bytes.extend(record.created.0.to_be_bytes());
@@ -115,13 +131,29 @@ pub fn put_head(bytes: &mut Vec<u8>, record: &Record) {
     }
 }
 
-/// Where the `n`-th record's withdrawn mark stands, counted from the header frame's first byte.
-pub fn mark_place(queue: &Queue, n: usize) -> usize {
-    let mut before = header(HeaderKind::NEWEST, queue);
-    before.extend(queue.records[..n].iter().flat_map(record));
-    before.push(RECORD_KIND);
-    put_head(&mut before, &queue.records[n]);
-    before.len()
+/// Where the `n`-th record's withdrawn mark stands under this kind, counted from the header frame's
+/// first byte.
+pub fn mark_place(kind: HeaderKind, queue: &Queue, n: usize) -> usize {
+    let mut head = Vec::new();
+    put_head(&mut head, kind, &queue.records[n]);
+    id_place(kind, queue, n) + head.len()
+}
+
+/// Where the `n`-th record's caller stands in the newest kind, counted so.
+pub fn caller_place(queue: &Queue, n: usize) -> usize {
+    id_place(HeaderKind::NEWEST, queue, n) + 32
+}
+
+/// Where the `n`-th record's id stands, counted so.
+fn id_place(kind: HeaderKind, queue: &Queue, n: usize) -> usize {
+    let before = queue.records[..n].iter();
+    let before: usize = before.map(|before| record(kind, before).len()).sum();
+    header(kind, queue).len() + before + 1
+}
+
+/// Where a caller's share stands in the header of the newest kind.
+pub fn share_place(caller: Caller) -> usize {
+    1 + 4 * (4 + usize::from(caller.0))
 }
 
 fn put_optional<const N: usize>(bytes: &mut Vec<u8>, value: Option<[u8; N]>) {
@@ -193,16 +225,31 @@ impl<'a> Reader<'a> {
         (0..count).map(|_| self.array()).collect()
     }
 
-    fn limits(&mut self) -> Option<Limits> {
+    /// Without shares, as an older kind has them, all is of caller 0.
+    fn limits(&mut self, kind: HeaderKind) -> Option<Limits> {
         let [p, b, t, k] = [self.u32()?, self.u32()?, self.u32()?, self.u32()?].map(u64::from);
-        Limits::checked(p, b, t, k)
+        let limits = Limits::checked(p, b, t, k)?;
+        let shares = match kind.has_callers() {
+            true => self.shares()?,
+            false => limits.shares,
+        };
+        Some(Limits { shares, ..limits })
     }
 
-    /// A header frame with limits in range. The queue has no records yet, and persisted 0.
+    /// Sixteen numbers of 4 bytes, whatever they are.
+    pub fn shares(&mut self) -> Option<Shares> {
+        let mut shares = [0; Caller::COUNT];
+        for share in &mut shares {
+            *share = self.u32()?;
+        }
+        Some(shares)
+    }
+
+    /// A header frame with P, B, T and K in range. The queue has no records yet, and persisted 0.
     pub fn header(&mut self) -> Option<Header> {
         let kind = HeaderKind::from_number(self.byte()?)?;
         let queue = Queue {
-            limits: self.limits()?,
+            limits: self.limits(kind)?,
             revision: self.u64()?,
             cursor: Height(self.u32()?),
             tip: self.optional(Self::array)?,
@@ -225,6 +272,7 @@ impl<'a> Reader<'a> {
         }
         Some(Record {
             id: self.array()?,
+            caller: self.caller(kind)?,
             state: State::from_number(self.byte()?)?,
             reason: Reason::from_number(self.byte()?)?,
             created: TimeMs(self.u64()?),
@@ -240,6 +288,14 @@ impl<'a> Reader<'a> {
             finish: FinishNumber(self.u64()?),
             holder: self.optional(Self::holder)?,
         })
+    }
+
+    /// Any byte; without one, as in an older kind, caller 0.
+    fn caller(&mut self, kind: HeaderKind) -> Option<Caller> {
+        match kind.has_callers() {
+            true => self.byte().map(Caller),
+            false => Some(Caller(0)),
+        }
     }
 
     fn mark(&mut self, kind: HeaderKind) -> Option<Withdrawn> {

@@ -2,7 +2,7 @@
 
 use crate::frame::{self, HeaderKind, Reader};
 use crate::sound::is_sound;
-use crate::values::Queue;
+use crate::values::{Caller, Queue};
 
 const LINE_END: u8 = 10;
 
@@ -16,15 +16,26 @@ pub fn encode_as(kind: HeaderKind, queue: &Queue) -> Vec<u8> {
     let mut text = Vec::new();
     put_line(&mut text, &frame::header(kind, queue));
     for record in &queue.records {
-        put_line(&mut text, &frame::record(record));
+        put_line(&mut text, &frame::record(kind, record));
     }
     text
 }
 
-/// Where the digits of the `n`-th record's withdrawn mark begin in the queue's image, of any kind.
-pub fn mark_place(queue: &Queue, n: usize) -> usize {
+/// Where the digits of the `n`-th record's withdrawn mark begin in the queue's image of this kind.
+pub fn mark_place(kind: HeaderKind, queue: &Queue, n: usize) -> usize {
     let lines = 1 + n;
-    2 * frame::mark_place(queue, n) + lines
+    2 * frame::mark_place(kind, queue, n) + lines
+}
+
+/// Where the digits of the `n`-th record's caller begin in the queue's newest image.
+pub fn caller_place(queue: &Queue, n: usize) -> usize {
+    let lines = 1 + n;
+    2 * frame::caller_place(queue, n) + lines
+}
+
+/// Where the digits of a caller's share begin in a newest image.
+pub fn share_place(caller: Caller) -> usize {
+    2 * frame::share_place(caller)
 }
 
 fn put_line(text: &mut Vec<u8>, frame: &[u8]) {

@@ -25,6 +25,6 @@ pub mod values;
 
 pub use frame::HeaderKind;
 pub use values::{
-    Confirmation, FinishNumber, Height, Holder, Id, Limits, Queue, Reason, Record, State, TimeMs,
-    Withdrawn,
+    Caller, Confirmation, FinishNumber, Height, Holder, Id, Limits, Queue, Reason, Record, Shares,
+    State, TimeMs, Withdrawn,
 };

@@ -5,8 +5,8 @@ use std::cmp::Reverse;
 
 use crate::random::{nth_id, Rng};
 use crate::values::{
-    Confirmation, FinishNumber, Height, Holder, Id, Limits, Queue, Reason, Record, State, TimeMs,
-    Withdrawn,
+    Caller, Confirmation, FinishNumber, Height, Holder, Id, Limits, Queue, Reason, Record, State,
+    TimeMs, Withdrawn,
 };
 
 /// Which ids the inputs and outputs have.
@@ -144,6 +144,7 @@ fn record(load: &Load, n: u64) -> Record {
     };
     Record {
         id: record_id(n),
+        caller: Caller(0),
         state,
         reason: if state == State::Cancelled {
             Reason::Cancelled

@@ -6,8 +6,8 @@ use crate::fees::{MAX_BUDGET, MAX_CANDIDATES};
 use crate::rules::selection_at;
 use crate::sound::is_sound;
 use crate::values::{
-    Confirmation, FinishNumber, Height, Holder, Id, Limits, Queue, Reason, Record, State, TimeMs,
-    Withdrawn,
+    Caller, Confirmation, FinishNumber, Height, Holder, Id, Limits, Queue, Reason, Record, Shares,
+    State, TimeMs, Withdrawn,
 };
 
 /// A pseudo-random generator (SplitMix64).
@@ -95,13 +95,49 @@ pub fn block_id(rng: &mut Rng) -> Id {
     nth_id(rng.below(3))
 }
 
+/// All to caller 0.
 pub fn small_limits(rng: &mut Rng) -> Limits {
-    Limits {
-        pending: 1 + rng.below(3) as u32,
-        bytes: rng.pick(&[1, 2, 5, 10]),
-        tombstones: 1 + rng.below(3) as u32,
-        inputs: 1 + rng.below(3) as u32,
+    limits([
+        1 + rng.below(3),
+        rng.pick(&[1, 2, 5, 10]),
+        1 + rng.below(3),
+        1 + rng.below(3),
+    ])
+}
+
+/// P, B, T and K in range, all to caller 0.
+fn limits(numbers: [usize; 4]) -> Limits {
+    let [p, b, t, k] = numbers.map(|limit| limit as u64);
+    Limits::checked(p, b, t, k).expect("limits in range")
+}
+
+/// A share for each caller, from 0 to P: often the edges.
+pub fn shares(rng: &mut Rng, limits: &Limits) -> Shares {
+    let top = limits.pending;
+    let mut shares = [0; Caller::COUNT];
+    for share in &mut shares {
+        *share = match rng.below(4) {
+            0 => 0,
+            1 => top,
+            _ => rng.up_to(top as usize) as u32,
+        };
     }
+    shares
+}
+
+/// A caller: of few, so that one has several records, and often the last.
+pub fn caller(rng: &mut Rng) -> Caller {
+    Caller(rng.pick(&[0, 0, 1, 1, 2, 7, 14, 15, 15]))
+}
+
+/// The queue with other shares, and with a caller for each record.
+pub fn with_callers(rng: &mut Rng, mut queue: Queue) -> Queue {
+    queue.limits.shares = shares(rng, &queue.limits);
+    for record in &mut queue.records {
+        record.caller = caller(rng);
+    }
+    debug_assert!(is_sound(&queue));
+    queue
 }
 
 pub fn time(rng: &mut Rng) -> TimeMs {
@@ -136,7 +172,7 @@ pub fn label(rng: &mut Rng) -> Vec<u8> {
     vec![b'a' + rng.below(26) as u8; length]
 }
 
-/// Any sound queue under these limits, reachable by calls or not.
+/// Any sound queue under these limits, reachable by calls or not, with records of caller 0 alone.
 pub fn queue(rng: &mut Rng, limits: Limits) -> Queue {
     let mut queue = Queue {
         limits,
@@ -265,6 +301,7 @@ impl Room {
         };
         Record {
             id,
+            caller: Caller(0),
             state,
             reason,
             created: time(rng),
@@ -319,12 +356,8 @@ pub fn fees_queue(rng: &mut Rng, selected: usize) -> Queue {
     let others = rng.below(4);
     let count = selected + others;
     let size = rng.pick(&[0, 1, 5, 12]);
-    let mut queue = Queue::fresh(Limits {
-        pending: 1 + count as u32,
-        bytes: 1 + (count * size) as u32,
-        tombstones: 1 + others as u32,
-        inputs: 1 + rng.below(2) as u32,
-    });
+    let inputs = 1 + rng.below(2);
+    let mut queue = Queue::fresh(limits([1 + count, 1 + count * size, 1 + others, inputs]));
     let mut room = Room::new(&queue.limits);
     let priorities = rng.pick(&[&[4][..], &[0, 1], &[i32::MIN, -1, 0, 1, i32::MAX]]);
     // Which of the ids are not selected is left to chance.
@@ -455,13 +488,8 @@ pub fn fees_budget(rng: &mut Rng) -> u64 {
 /// outputs: in chains, in rings, two the same one, or one of their own. Some are Mined, Conflicted,
 /// finished, or have a deadline.
 pub fn parents_queue(rng: &mut Rng, count: usize, inputs: usize) -> Queue {
-    let limit = (1 + count as u32).min(Limits::MAX_PENDING);
-    let mut queue = Queue::fresh(Limits {
-        pending: limit,
-        bytes: 1 + count as u32,
-        tombstones: limit,
-        inputs: inputs as u32,
-    });
+    let limit = (1 + count).min(Limits::MAX_PENDING as usize);
+    let mut queue = Queue::fresh(limits([limit, 1 + count, limit, inputs]));
     let mut room = Room::new(&queue.limits);
     room.inputs.truncate(count * queue.limits.inputs as usize);
     let inputs: Vec<Vec<Id>> = (0..count).map(|_| room.take_inputs(rng)).collect();
@@ -532,8 +560,13 @@ fn parents_outputs(
 /// The queue with one value changed; mostly no longer sound.
 pub fn altered(rng: &mut Rng, queue: &Queue) -> Queue {
     let mut queue = queue.clone();
-    match rng.below(8) {
+    match rng.below(9) {
         0 => queue.limits = altered_limits(rng, queue.limits),
+        8 => {
+            let share = rng.below(Caller::COUNT);
+            let over = queue.limits.pending.saturating_add(1);
+            queue.limits.shares[share] = rng.pick(&[0, over, over, u32::MAX]);
+        }
         1 => queue.counter = FinishNumber(rng.below(3) as u64),
         2 if !queue.records.is_empty() => {
             let at = rng.below(queue.records.len());
@@ -576,7 +609,8 @@ fn altered_limits(rng: &mut Rng, mut limits: Limits) -> Limits {
 }
 
 fn alter_record(rng: &mut Rng, limits: &Limits, record: &mut Record) {
-    match rng.below(12) {
+    match rng.below(13) {
+        12 => record.caller = Caller(rng.pick(&[0, 15, 16, 16, u8::MAX])),
         0 => record.id = tx_id(rng, limits),
         1 => record.state = random_state(rng),
         2 => record.reason = random_reason(rng),

@@ -1,10 +1,11 @@
 //! Each call of document 01 as a function on queues. Refusals 1 to 6 and 16 are about bytes and
-//! stand in [`crate::calls`]; here are 7 to 15, in document 01's order.
+//! stand in [`crate::calls`]; here are 7 to 15 and 18, in document 01's order, 18 after 10.
 
 use std::collections::{BTreeMap, BTreeSet};
 
 use crate::values::{
-    Confirmation, FinishNumber, Height, Holder, Id, Queue, Reason, Record, State, TimeMs, Withdrawn,
+    Caller, Confirmation, FinishNumber, Height, Holder, Id, Queue, Reason, Record, State, TimeMs,
+    Withdrawn,
 };
 
 /// A number of document 01's table.
@@ -19,6 +20,7 @@ pub const INPUT_RESERVED: Refusal = 12;
 pub const ABSENT: Refusal = 13;
 pub const CONFIRMED: Refusal = 14;
 pub const COUNTER: Refusal = 15;
+pub const SHARE: Refusal = 18;
 
 /// What is due after a changing call.
 #[derive(Debug, Clone, Copy, PartialEq, Eq, PartialOrd, Ord)]
@@ -41,6 +43,7 @@ pub struct Change<A> {
 #[derive(Debug, Clone, PartialEq, Eq)]
 pub struct Admission {
     pub id: Id,
+    pub caller: Caller,
     pub inputs: Vec<Id>,
     pub outputs: Vec<Id>,
     pub signed: Vec<u8>,
@@ -56,10 +59,11 @@ pub struct Admission {
 }
 
 impl Admission {
-    /// Of this id at time 5 and height 1, with nothing beside it.
+    /// Of this id by caller 0 at time 5 and height 1, with nothing beside it.
     pub fn plain(id: Id) -> Self {
         Self {
             id,
+            caller: Caller(0),
             inputs: Vec::new(),
             outputs: Vec::new(),
             signed: Vec::new(),
@@ -77,7 +81,7 @@ impl Admission {
 }
 
 /// Admission: checks 7, 8, 9; a pending or Mined id then gives its old record, kind 0; then 10,
-/// 11, 12. The answer is the record.
+/// 18, 11, 12. The answer is the record.
 pub fn admit(queue: &Queue, given: &Admission) -> Result<Change<Record>, Refusal> {
     check_deadlines_and_label(given)?;
     if let Some(old) = queue.record(&given.id) {
@@ -119,6 +123,10 @@ fn check_room(queue: &Queue, given: &Admission) -> Result<(), Refusal> {
     if queue.pending().count() as u64 >= u64::from(queue.limits.pending) {
         return Err(FULL);
     }
+    let share = queue.limits.shares[usize::from(given.caller.0)];
+    if queue.pending_of(given.caller).count() as u64 >= u64::from(share) {
+        return Err(SHARE);
+    }
     let pending_bytes: usize = queue.pending().map(Record::byte_count).sum();
     if (pending_bytes + given.signed.len()) as u64 > u64::from(queue.limits.bytes) {
         return Err(BYTE_BUDGET);
@@ -135,6 +143,7 @@ fn check_room(queue: &Queue, given: &Admission) -> Result<(), Refusal> {
 fn queued_record(given: &Admission) -> Record {
     Record {
         id: given.id,
+        caller: given.caller,
         state: State::Queued,
         reason: Reason::None,
         created: given.now,

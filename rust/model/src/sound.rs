@@ -1,4 +1,5 @@
-//! Sound queues: document 01, "A queue is sound when".
+//! Sound queues: document 01, "A queue is sound when", and document 02, P8: no share over P and no
+//! caller over 15. A caller may have more pending than its share.
 
 use std::collections::{BTreeMap, BTreeSet};
 
@@ -10,8 +11,9 @@ pub fn is_sound(queue: &Queue) -> bool {
 
 /// The first rule that the queue breaks, in words; nothing for a sound queue.
 pub fn broken_rule(queue: &Queue) -> Option<&'static str> {
-    let rules: [(&'static str, bool); 15] = [
+    let rules: [(&'static str, bool); 17] = [
         ("limits are in range", limits_in_range(&queue.limits)),
+        ("no share is over P", queue.limits.shares_fit()),
         ("records number at most 2P + T", few_records(queue)),
         ("ids rise strictly", ids_rise(queue)),
         ("holders number at most 2P", few_holders(queue)),
@@ -19,6 +21,7 @@ pub fn broken_rule(queue: &Queue) -> Option<&'static str> {
         ("Mined holders number at most P", few_mined(queue)),
         ("Mined holders have at most B bytes", mined_bytes(queue)),
         ("tombstones number at most T", few_tombstones(queue)),
+        ("callers are 0 to 15", callers_fit(queue)),
         ("states fit holding", queue.records.iter().all(state_fits)),
         ("no input is in two records", inputs_apart(queue)),
         ("reasons fit states", queue.records.iter().all(reason_fits)),
@@ -79,6 +82,11 @@ fn total_bytes<'a>(records: impl Iterator<Item = &'a Record>) -> u64 {
 
 fn few_tombstones(queue: &Queue) -> bool {
     queue.tombstones().count() as u64 <= u64::from(queue.limits.tombstones)
+}
+
+/// Of every record, tombstones too.
+fn callers_fit(queue: &Queue) -> bool {
+    queue.records.iter().all(|record| record.caller.is_one())
 }
 
 /// Pending records are holders, 4 and 5 are tombstones, Mined may be either.

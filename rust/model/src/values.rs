@@ -15,7 +15,23 @@ pub struct Height(pub u32);
 #[derive(Debug, Clone, Copy, PartialEq, Eq, PartialOrd, Ord)]
 pub struct FinishNumber(pub u64);
 
-/// P, B, T and K.
+/// Which wallet admits: 0 to 15 (document 02, P8).
+#[derive(Debug, Clone, Copy, PartialEq, Eq, PartialOrd, Ord)]
+pub struct Caller(pub u8);
+
+impl Caller {
+    pub const COUNT: usize = 16;
+
+    /// Of the callers there are, not one above them.
+    pub fn is_one(self) -> bool {
+        usize::from(self.0) < Self::COUNT
+    }
+}
+
+/// How many pending records each caller may have before 18.
+pub type Shares = [u32; Caller::COUNT];
+
+/// P, B, T and K, and the shares.
 #[derive(Debug, Clone, Copy, PartialEq, Eq)]
 pub struct Limits {
     /// P: pending records.
@@ -26,6 +42,8 @@ pub struct Limits {
     pub tombstones: u32,
     /// K: inputs, and likewise outputs, of a transaction.
     pub inputs: u32,
+    /// Each from 0 to P.
+    pub shares: Shares,
 }
 
 impl Limits {
@@ -34,22 +52,47 @@ impl Limits {
     pub const MAX_TOMBSTONES: u32 = 1_024;
     pub const MAX_INPUTS: u32 = 128;
 
-    /// The top settings.
+    /// The top settings, all to caller 0.
     pub const MAX: Limits = Limits {
         pending: Self::MAX_PENDING,
         bytes: Self::MAX_BYTES,
         tombstones: Self::MAX_TOMBSTONES,
         inputs: Self::MAX_INPUTS,
+        shares: all_to_caller_0(Self::MAX_PENDING),
     };
 
-    /// The limits with these numbers, if each is in range.
+    /// The limits with these numbers, all to caller 0, if each is in range.
     pub fn checked(pending: u64, bytes: u64, tombstones: u64, inputs: u64) -> Option<Limits> {
+        let pending = in_range(pending, Self::MAX_PENDING)?;
         Some(Limits {
-            pending: in_range(pending, Self::MAX_PENDING)?,
+            pending,
             bytes: in_range(bytes, Self::MAX_BYTES)?,
             tombstones: in_range(tombstones, Self::MAX_TOMBSTONES)?,
             inputs: in_range(inputs, Self::MAX_INPUTS)?,
+            shares: all_to_caller_0(pending),
         })
+    }
+
+    /// The same P, B, T and K with these shares, if none is over P.
+    pub fn shared(self, shares: Shares) -> Option<Limits> {
+        let limits = Limits { shares, ..self };
+        limits.shares_fit().then_some(limits)
+    }
+
+    /// No share is over P.
+    pub fn shares_fit(&self) -> bool {
+        self.shares.iter().all(|share| *share <= self.pending)
+    }
+
+    /// Share 0 is P and the fifteen others 0, as under a header kind without shares.
+    pub fn is_all_to_caller_0(&self) -> bool {
+        self.shares == all_to_caller_0(self.pending)
+    }
+
+    /// The shares as a call is given them: 4 bytes each.
+    pub fn share_bytes(&self) -> Vec<u8> {
+        let shares = self.shares.iter();
+        shares.flat_map(|share| share.to_be_bytes()).collect()
     }
 
     /// P, B, T and K as a call is given them.
@@ -64,6 +107,13 @@ impl Limits {
             .map(|limit| usize::try_from(limit).expect("a limit fits"));
         2 * b + 2 * p * (512 + 64 * k) + 512 * t + 512
     }
+}
+
+/// Share 0 is P, and the fifteen others are 0.
+pub const fn all_to_caller_0(pending: u32) -> Shares {
+    let mut shares = [0; Caller::COUNT];
+    shares[0] = pending;
+    shares
 }
 
 fn in_range(limit: u64, top: u32) -> Option<u32> {
@@ -171,6 +221,8 @@ pub struct Holder {
 #[derive(Debug, Clone, PartialEq, Eq)]
 pub struct Record {
     pub id: Id,
+    /// Who admitted it; a tombstone keeps it.
+    pub caller: Caller,
     pub state: State,
     pub reason: Reason,
     pub created: TimeMs,
@@ -189,10 +241,11 @@ pub struct Record {
 }
 
 impl Record {
-    /// A tombstone with finish number 1, and with nothing beside what is given.
+    /// A tombstone of caller 0 with finish number 1, and with nothing beside what is given.
     pub fn tombstone(id: Id, state: State, reason: Reason) -> Self {
         Self {
             id,
+            caller: Caller(0),
             state,
             reason,
             created: TimeMs(5),
@@ -275,6 +328,11 @@ impl Queue {
         self.records
             .iter()
             .filter(|record| record.state.is_pending())
+    }
+
+    /// The pending records of this caller.
+    pub fn pending_of(&self, caller: Caller) -> impl Iterator<Item = &Record> {
+        self.pending().filter(move |record| record.caller == caller)
     }
 
     pub fn tombstones(&self) -> impl Iterator<Item = &Record> {

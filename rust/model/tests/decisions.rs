@@ -5,8 +5,8 @@ use std::collections::{BTreeMap, BTreeSet};
 use model::random::{self, Rng};
 use model::rules::{decisions, reconcile, Reconciliation, COUNTER};
 use model::{
-    Confirmation, FinishNumber, Height, Holder, Id, Limits, Queue, Reason, Record, State, TimeMs,
-    Withdrawn,
+    Caller, Confirmation, FinishNumber, Height, Holder, Id, Limits, Queue, Reason, Record, State,
+    TimeMs, Withdrawn,
 };
 
 const HEIGHT: Height = Height(60);
@@ -24,6 +24,7 @@ fn confirmation(height: u32) -> Confirmation {
 fn mined(n: u8, height: u32, bytes: usize) -> Record {
     Record {
         id: [n; 32],
+        caller: Caller(0),
         state: State::Mined,
         reason: Reason::None,
         created: TimeMs(1),

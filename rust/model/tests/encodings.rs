@@ -1,18 +1,27 @@
 //! Encodings of random queues: read back whole, and refused when damaged.
 
 use model::random::{self, Rng};
-use model::{area, image, sound, HeaderKind, Queue, State};
+use model::{area, image, sound, Caller, HeaderKind, Queue, State};
+
+/// Of caller 0 alone under all to caller 0, or with other shares and callers.
+fn queue(rng: &mut Rng) -> Queue {
+    let limits = random::small_limits(rng);
+    let queue = random::queue(rng, limits);
+    match rng.once_in(2) {
+        true => random::with_callers(rng, queue),
+        false => queue,
+    }
+}
 
 #[test]
 fn random_queues_are_sound_and_read_back() {
     let mut rng = Rng::new(1);
     let mut records = 0;
     for _ in 0..20_000 {
-        let limits = random::small_limits(&mut rng);
-        let queue = random::queue(&mut rng, limits);
+        let queue = queue(&mut rng);
         assert_eq!(sound::broken_rule(&queue), None);
         let bytes = area::encode(&queue);
-        assert_eq!(bytes.len(), limits.need());
+        assert_eq!(bytes.len(), queue.limits.need());
         assert_eq!(area::decode(&bytes).as_ref(), Some(&queue));
         assert_eq!(image::decode(&image::encode(&queue)), Some(opened(&queue)));
         records += queue.records.len();
@@ -33,32 +42,128 @@ fn with_kind(text: &[u8], kind: u8) -> Vec<u8> {
     [format!("{kind:02x}").as_bytes(), &text[2..]].concat()
 }
 
-/// An image of kind 01 opens with every value unchanged; mark 3 is not in one; no other kind is one.
+/// A text without shares and callers is an image of kind 03, and of 01 where no mark is 3, and opens
+/// with every value unchanged and all to caller 0; one with them is an image of kind 04; no other kind
+/// is one.
 #[test]
 fn images_of_every_kind() {
     let mut rng = Rng::new(4);
-    let (mut older, mut marked) = (0, 0);
+    let (mut of_01, mut of_03, mut of_04) = (0, 0, 0);
     for _ in 0..2_000 {
-        let limits = random::small_limits(&mut rng);
-        let queue = random::queue(&mut rng, limits);
+        let queue = queue(&mut rng);
         let newest = image::encode(&queue);
-        assert_eq!(newest[..2], *b"03");
+        assert_eq!(newest[..2], *b"04");
+        let older = image::encode_as(HeaderKind::K03, &queue);
+        let mut of_caller_0 = opened(&queue);
+        of_caller_0.limits.shares = [0; 16];
+        of_caller_0.limits.shares[0] = queue.limits.pending;
+        for record in &mut of_caller_0.records {
+            record.caller = Caller(0);
+        }
         let has_mark_3 = (queue.records.iter()).any(|record| record.withdrawn as u8 == 3);
         for kind in 0..=255 {
+            let expected = (kind == 4).then(|| opened(&queue));
             let text = with_kind(&newest, kind);
+            assert_eq!(image::decode(&text), expected, "kind {kind}");
             let expected = match kind {
                 1 if has_mark_3 => None,
-                1 | 3 => Some(opened(&queue)),
+                1 | 3 => Some(of_caller_0.clone()),
                 _ => None,
             };
-            assert_eq!(image::decode(&text), expected, "kind {kind}");
+            let text = with_kind(&older, kind);
+            assert_eq!(
+                image::decode(&text),
+                expected,
+                "kind {kind}, without shares"
+            );
         }
-        assert_eq!(HeaderKind::K01.can_hold(&queue), !has_mark_3);
+        let by_callers = of_caller_0 != opened(&queue);
+        assert_eq!(HeaderKind::K04.can_hold(&queue), true);
+        assert_eq!(HeaderKind::K03.can_hold(&queue), !by_callers);
+        let can_be_01 = !by_callers && !has_mark_3;
+        assert_eq!(HeaderKind::K01.can_hold(&queue), can_be_01);
         let text = image::encode_as(HeaderKind::K01, &queue);
-        assert_eq!(text, with_kind(&newest, 1));
-        *(if has_mark_3 { &mut marked } else { &mut older }) += 1;
+        assert_eq!(text, with_kind(&older, 1));
+        *(match (by_callers, has_mark_3) {
+            (true, _) => &mut of_04,
+            (false, true) => &mut of_03,
+            (false, false) => &mut of_01,
+        }) += 1;
     }
-    assert!(older > 100 && marked > 100, "{older}, {marked}");
+    let least = of_01.min(of_03).min(of_04);
+    assert!(least > 50, "{of_01}, {of_03}, {of_04}");
+}
+
+/// Of every record, tombstones too: 0 to 15, and no other byte.
+#[test]
+fn callers_of_every_record() {
+    let mut rng = Rng::new(8);
+    let (mut holders, mut tombstones) = (0, 0);
+    for _ in 0..200 {
+        let queue = queue(&mut rng);
+        let (bytes, text) = (area::encode(&queue), image::encode(&queue));
+        for (n, record) in queue.records.iter().enumerate() {
+            let place = area::caller_place(&queue, n);
+            assert_eq!(bytes[place], record.caller.0);
+            let digits = image::caller_place(&queue, n);
+            for caller in 0..=255 {
+                let mut other = queue.clone();
+                other.records[n].caller = Caller(caller);
+                let expected = (caller <= 15).then_some(other);
+                let mut bytes = bytes.clone();
+                bytes[place] = caller;
+                assert_eq!(area::decode(&bytes), expected, "caller {caller}");
+                let mut text = text.clone();
+                text[digits..digits + 2].copy_from_slice(format!("{caller:02x}").as_bytes());
+                let expected = expected.as_ref().map(opened);
+                assert_eq!(image::decode(&text), expected, "caller {caller}");
+            }
+            *(match record.holder {
+                Some(_) => &mut holders,
+                None => &mut tombstones,
+            }) += 1;
+        }
+    }
+    assert!(holders > 100 && tombstones > 100, "{holders}, {tombstones}");
+}
+
+/// Each from 0 to P, whatever its caller has pending.
+#[test]
+fn shares_of_every_caller() {
+    let mut rng = Rng::new(9);
+    let mut above = 0;
+    for _ in 0..500 {
+        let queue = queue(&mut rng);
+        let (bytes, text) = (area::encode(&queue), image::encode(&queue));
+        let top = queue.limits.pending;
+        for caller in (0..16).map(Caller) {
+            let place = area::share_place(caller);
+            let at = usize::from(caller.0);
+            assert_eq!(
+                bytes[place..place + 4],
+                queue.limits.shares[at].to_be_bytes()
+            );
+            let digits = image::share_place(caller);
+            for share in [0, top - 1, top, top + 1, top + 256, 1 << 24, u32::MAX] {
+                let mut other = queue.clone();
+                other.limits.shares[at] = share;
+                let expected = (share <= top).then_some(other);
+                above += u64::from(
+                    expected
+                        .as_ref()
+                        .is_some_and(|queue| queue.pending_of(caller).count() > share as usize),
+                );
+                let mut bytes = bytes.clone();
+                bytes[place..place + 4].copy_from_slice(&share.to_be_bytes());
+                assert_eq!(area::decode(&bytes), expected, "share {share}");
+                let mut text = text.clone();
+                text[digits..digits + 8].copy_from_slice(format!("{share:08x}").as_bytes());
+                let expected = expected.as_ref().map(opened);
+                assert_eq!(image::decode(&text), expected, "share {share}");
+            }
+        }
+    }
+    assert!(above > 100, "{above}");
 }
 
 /// An area has the newest kind alone.
@@ -66,12 +171,11 @@ fn images_of_every_kind() {
 fn areas_of_other_kinds_are_refused() {
     let mut rng = Rng::new(5);
     for _ in 0..200 {
-        let limits = random::small_limits(&mut rng);
-        let queue = random::queue(&mut rng, limits);
+        let queue = queue(&mut rng);
         let mut bytes = area::encode(&queue);
         for kind in 0..=255 {
             bytes[4] = kind;
-            let expected = (kind == 3).then_some(&queue);
+            let expected = (kind == 4).then_some(&queue);
             assert_eq!(area::decode(&bytes).as_ref(), expected, "kind {kind}");
         }
     }
@@ -83,13 +187,12 @@ fn marks_of_every_record() {
     let mut rng = Rng::new(6);
     let mut taken = std::collections::BTreeMap::new();
     for _ in 0..300 {
-        let limits = random::small_limits(&mut rng);
-        let queue = random::queue(&mut rng, limits);
+        let queue = queue(&mut rng);
         let (bytes, text) = (area::encode(&queue), image::encode(&queue));
         for (n, record) in queue.records.iter().enumerate() {
             let place = area::mark_place(&queue, n);
             assert_eq!(bytes[place], record.withdrawn as u8);
-            let digits = image::mark_place(&queue, n);
+            let digits = image::mark_place(HeaderKind::NEWEST, &queue, n);
             assert_eq!(text[digits..digits + 2], [b'0', b'0' + bytes[place]]);
             let may_be_marked = record.state == State::Mined && record.holder.is_none();
             for mark in 0..=255 {
@@ -110,8 +213,7 @@ fn altered_queues_break_every_rule() {
     let mut rng = Rng::new(2);
     let mut broken = std::collections::BTreeMap::new();
     for _ in 0..60_000 {
-        let limits = random::small_limits(&mut rng);
-        let queue = random::queue(&mut rng, limits);
+        let queue = queue(&mut rng);
         let altered = random::altered(&mut rng, &queue);
         let rule = sound::broken_rule(&altered);
         let decoded = area::decode(&area::encode(&altered));
@@ -121,8 +223,8 @@ fn altered_queues_break_every_rule() {
         }
         *broken.entry(rule).or_insert(0) += 1;
     }
-    // Fifteen rules, and the altered queues that are sound.
-    assert_eq!(broken.len(), 16, "{broken:#?}");
+    // Seventeen rules, and the altered queues that are sound.
+    assert_eq!(broken.len(), 18, "{broken:#?}");
 }
 
 /// What is decoded is always the queue whose encoding was given.
@@ -131,8 +233,7 @@ fn damaged_bytes_are_refused_or_canonical() {
     let mut rng = Rng::new(3);
     let mut refused = 0;
     for _ in 0..40_000 {
-        let limits = random::small_limits(&mut rng);
-        let queue = random::queue(&mut rng, limits);
+        let queue = queue(&mut rng);
         let mut bytes = area::encode(&queue);
         random::damage(&mut rng, &mut bytes, 700);
         match area::decode(&bytes) {

@@ -7,8 +7,8 @@ use model::load::{self, Load};
 use model::parents::parents_first;
 use model::random::{self, Rng};
 use model::{
-    area, calls, rules, Confirmation, FinishNumber, Height, Holder, Id, Limits, Queue, Reason,
-    Record, State, TimeMs, Withdrawn,
+    area, calls, rules, Caller, Confirmation, FinishNumber, Height, Holder, Id, Limits, Queue,
+    Reason, Record, State, TimeMs, Withdrawn,
 };
 
 const NOW: TimeMs = TimeMs(50);
@@ -19,6 +19,7 @@ fn record(n: u8, priority: i32, inputs: &[u8], outputs: &[u8]) -> Record {
     let ids = |numbers: &[u8]| numbers.iter().map(|n| [*n; 32]).collect();
     Record {
         id: [n; 32],
+        caller: Caller(0),
         state: State::Queued,
         reason: Reason::None,
         created: TimeMs(1),

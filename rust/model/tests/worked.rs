@@ -1,16 +1,26 @@
 //! The worked examples of docs/AREA.md and document 01, byte for byte.
 
 use model::{
-    area, calls, image, FinishNumber, Height, Limits, Queue, Reason, Record, State, TimeMs,
+    area, calls, image, Caller, FinishNumber, Height, Limits, Queue, Reason, Record, State, TimeMs,
     Withdrawn,
 };
 
-const HEADER: &str =
-    "03 00000002 0000000a 00000001 00000001 0000000000000000 00000000 00 0000000000000000 00000000";
+const HEADER: &str = "04 00000002 0000000a 00000001 00000001 \
+    00000002 00000000 00000000 00000000 00000000 00000000 00000000 00000000 \
+    00000000 00000000 00000000 00000000 00000000 00000000 00000000 00000000 \
+    0000000000000000 00000000 00 0000000000000000 00000000";
 
+/// As document 01 has it, but for the kind.
+const REST: &str =
+    "00000002 0000000a 00000001 00000001 0000000000000000 00000000 00 0000000000000000 00000000";
+
+/// Caller 0 may have one pending, and so may caller 5, whose record it was.
 const CANCELLED: &str = "00000006 \
-    03 00000002 0000000a 00000001 00000001 0000000000000002 00000006 00 0000000000000001 00000001 \
-    02 1111111111111111111111111111111111111111111111111111111111111111 04 01 0000000000000005 \
+    04 00000002 0000000a 00000001 00000001 \
+    00000001 00000000 00000000 00000000 00000000 00000001 00000000 00000000 \
+    00000000 00000000 00000000 00000000 00000000 00000000 00000000 00000000 \
+    0000000000000002 00000006 00 0000000000000001 00000001 \
+    02 1111111111111111111111111111111111111111111111111111111111111111 05 04 01 0000000000000005 \
     00 00 ffffffff 00 0000000000000007 00000003 0000000000000009 00 00 0000000000000001 00";
 
 fn limits() -> Limits {
@@ -43,20 +53,24 @@ fn fresh_area() {
     assert_eq!(area::encode(&Queue::fresh(limits())), expected);
     assert_eq!(area::decode(&expected), Some(Queue::fresh(limits())));
     let mut lent = vec![0xee; 3_350];
-    assert_eq!(calls::fresh(2, 10, 1, 1, &mut lent), 100);
+    let shares = limits().share_bytes();
+    assert_eq!(calls::fresh(2, 10, 1, 1, &shares, &mut lent), 100);
     assert_eq!(lent[..3_348], expected);
     assert_eq!(lent[3_348..], [0xee, 0xee]);
 }
 
 #[test]
 fn cancelled_area() {
-    let mut queue = Queue::fresh(limits());
+    let mut shares = [0; 16];
+    (shares[0], shares[5]) = (1, 1);
+    let mut queue = Queue::fresh(limits().shared(shares).unwrap());
     queue.persisted = Height(6);
     queue.revision = 2;
     queue.cursor = Height(6);
     queue.counter = FinishNumber(1);
     queue.records.push(Record {
         id: [0x11; 32],
+        caller: Caller(5),
         state: State::Cancelled,
         reason: Reason::Cancelled,
         created: TimeMs(5),
@@ -80,13 +94,15 @@ fn cancelled_area() {
 #[test]
 fn fresh_image() {
     let expected = format!("{}\n", without_blanks(HEADER));
-    assert_eq!(expected.len(), 85);
+    assert_eq!(expected.len(), 213);
     let fresh = Queue::fresh(limits());
     assert_eq!(image::encode(&fresh), expected.as_bytes());
     assert_eq!(image::decode(expected.as_bytes()), Some(fresh.clone()));
-    // As document 01 has it.
-    let older = expected.replacen("03", "01", 1);
-    assert_eq!(image::decode(older.as_bytes()), Some(fresh));
+    for kind in ["01", "03"] {
+        let older = format!("{kind}{}\n", without_blanks(REST));
+        assert_eq!(older.len(), 85);
+        assert_eq!(image::decode(older.as_bytes()), Some(fresh.clone()));
+    }
     assert_eq!(image::decode(b"0A"), None);
     assert_eq!(calls::open(b"0A", &mut []), 16);
 }

@@ -2,13 +2,17 @@ use std::collections::{BTreeMap, BTreeSet};
 
 use pokerbox::store::{FileStore, StoreError};
 use pokerbox::{
-    Admission, BlockId, Height, InputId, Limits, OutputId, Reconciliation, State, TimeMs, TxId,
+    Admission, BlockId, Caller, Error, Height, InputId, Limits, OutputId, Reconciliation, Shares,
+    State, TimeMs, TxId,
 };
 
 fn main() -> Result<(), Box<dyn std::error::Error>> {
     let folder = std::env::temp_dir().join(format!("pokerbox-node-{}", std::process::id()));
-    // 16 pending, 65,536 signed bytes, 16 tombstones, 8 inputs or outputs each.
-    let limits = Limits::new(16, 65_536, 16, 8)?;
+    // 16 pending, 65,536 signed bytes, 16 tombstones, 8 inputs or outputs each. As they stand they are
+    // all for caller 0; here two wallets share them, and neither fills the queue.
+    let mut shares = [0; Caller::COUNT];
+    (shares[0], shares[1]) = (12, 12);
+    let limits = Limits::new(16, 65_536, 16, 8)?.shared(Shares::new(shares))?;
     // Once, when the unit is set up. At each start `open`, which refuses where no store stands.
     let mut store = FileStore::create(folder.join("image"), limits)?;
 
@@ -16,11 +20,25 @@ fn main() -> Result<(), Box<dyn std::error::Error>> {
     let (id, block) = (TxId([1; 32]), BlockId([4; 32]));
     let (inputs, outputs) = (vec![InputId([2; 32])], vec![OutputId([3; 32])]);
     let signed = b"signed bytes".to_vec();
-    store.admit(&Admission {
+    let transaction = Admission {
         priority: 7,
         fee: 1_000_000,
         ..Admission::new(id, inputs, outputs, signed, TimeMs(1_000), Height(100))
-    })?;
+    };
+    store.admit(&transaction)?;
+
+    // A wallet that has used up its share, or that has none, is told so: refusal 18.
+    let other = Admission {
+        id: TxId([9; 32]),
+        caller: Caller::new(2).expect("0 to 15"),
+        ..transaction
+    };
+    match store.admit(&other) {
+        Err(StoreError::Refused(Error::ShareExhausted)) => {
+            println!("{} has no share", other.caller)
+        }
+        other => println!("{other:?}"),
+    }
 
     // What the template builder takes: all that can stand in a block now, no child before its parent.
     let queue = store.queue();

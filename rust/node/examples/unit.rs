@@ -15,7 +15,8 @@ use std::time::Duration;
 
 use pokerbox::store::{FileStore, Opened, StoreError};
 use pokerbox::{
-    Admission, BlockId, Height, InputId, Limits, OutputId, Queue, Reconciliation, TimeMs, TxId,
+    Admission, BlockId, Caller, Height, InputId, Limits, OutputId, Queue, Reconciliation, Shares,
+    TimeMs, TxId,
 };
 
 const USAGE: &str = "usage: unit DIR [--demo | --run ROUNDS]";
@@ -48,8 +49,16 @@ fn image_in(folder: &str) -> PathBuf {
     Path::new(folder).join("queue.image")
 }
 
+/// Two wallets: caller 0 may have 6 pending, caller 1 may have 4.
 fn limits() -> Result<Limits, pokerbox::Error> {
-    Limits::new(8, 4_096, 8, 4)
+    let mut shares = [0; Caller::COUNT];
+    (shares[0], shares[1]) = (6, 4);
+    Limits::new(8, 4_096, 8, 4)?.shared(Shares::new(shares))
+}
+
+/// Of a batch, who admits it: caller 1 every third.
+fn caller(n: u8) -> Caller {
+    Caller::new(u8::from(n % 3 == 2)).unwrap_or(Caller::ZERO)
 }
 
 struct Unit {
@@ -95,8 +104,8 @@ impl Unit {
         println!("{heading}");
         for id in self.queue().selection_entries()? {
             let (entry, signed) = (self.queue().entry(id)?, self.queue().signed_bytes(id)?);
-            let (priority, length) = (entry.priority, signed.len());
-            println!("  {id}: priority {priority}, {length} signed bytes");
+            let (priority, length, caller) = (entry.priority, signed.len(), entry.caller);
+            println!("  {id}: {caller}, priority {priority}, {length} signed bytes");
         }
         Ok(())
     }
@@ -134,6 +143,22 @@ impl Unit {
         println!("The block is rolled back:");
         self.store.reopen(&BTreeSet::from([id(4)]))?;
         self.print_entry(id(4))
+    }
+
+    /// A caller that has no share.
+    fn refused(&mut self) -> Result<(), Box<dyn Error>> {
+        println!("A wallet without a share:");
+        let given = Admission {
+            caller: Caller::new(2).ok_or("a caller")?,
+            ..transaction(BATCH)
+        };
+        match self.store.admit(&given) {
+            Err(error @ StoreError::Refused(pokerbox::Error::ShareExhausted)) => {
+                println!("  {error}");
+                Ok(())
+            }
+            other => Err(format!("it was not refused: {other:?}").into()),
+        }
     }
 
     /// A folder stands in the way of the second file.
@@ -196,6 +221,7 @@ fn demo(folder: &str) -> Result<(), Box<dyn Error>> {
     let mut unit = Unit::create(folder)?;
     unit.fill()?;
     unit.print_queued("Queued, best first:")?;
+    unit.refused()?;
     unit.withdraw()?;
     unit.block()?;
     unit.rollback()?;
@@ -243,6 +269,7 @@ fn transaction(n: u8) -> Admission {
     let (inputs, outputs) = ([InputId([0xa0 + n; 32])], [OutputId([0xb0 + n; 32])]);
     let signed = vec![n; 100 + usize::from(n)];
     Admission {
+        caller: caller(n),
         time_deadline: Some(deadline(n)),
         priority: i32::from(n),
         label: Some(format!("transaction {n}").into_bytes()),
@@ -279,6 +306,12 @@ fn print_image(image: &[u8]) -> Result<(), Box<dyn Error>> {
         "  limits: {} pending, {} bytes, {} tombstones, {} inputs",
         limits.pending, limits.bytes, limits.tombstones, limits.inputs
     );
+    for (caller, share) in limits.shares.iter().enumerate() {
+        let pending = queue.pending_of(model::Caller(caller as u8)).count();
+        if *share > 0 || pending > 0 {
+            println!("  caller {caller}: {pending} pending of a share of {share}");
+        }
+    }
     let tip = queue
         .tip
         .map_or("no tip".to_string(), |tip| format!("tip {}", BlockId(tip)));
@@ -303,8 +336,9 @@ fn print_record(record: &model::Record) {
         format!(", label {:?}", String::from_utf8_lossy(label))
     });
     println!(
-        "    {}: {:?}, reason {:?}, {held}{label}",
+        "    {}: caller {}, {:?}, reason {:?}, {held}{label}",
         TxId(record.id),
+        record.caller.0,
         record.state,
         record.reason
     );

@@ -11,7 +11,7 @@
  * written overlaps nothing else that is lent to the same call. Numbers in bytes are big-endian.
  *
  * Each call gives back one number:
- *   1 to 17, 21  a refusal; nothing lent has changed, except the next area after 17;
+ *   1 to 18, 21  a refusal; nothing lent has changed, except the next area after 17;
  *   100          the call was answered;
  *   100 to 103   a changing call's kind on top of 100.
  *
@@ -49,6 +49,7 @@ extern "C" {
 #define POKERBOX_COUNTER_EXHAUSTED 15
 #define POKERBOX_NOT_AN_IMAGE 16
 #define POKERBOX_WRITE_FAILED 17
+#define POKERBOX_SHARE_EXHAUSTED 18
 #define POKERBOX_FEES_TOO_LARGE 21
 
 /* Answers: of calls without a kind, and of changing calls by kind. */
@@ -90,6 +91,12 @@ extern "C" {
 #define POKERBOX_MAX_TOMBSTONES 1024
 #define POKERBOX_MAX_INPUTS 128
 
+/* Callers are 0 to 15. Shares, one for each, are lent as sixteen numbers of 4 bytes: each from 0 to
+ * P. For a unit that does not tell its callers apart, caller 0 admits, share 0 is P and the others
+ * are 0. */
+#define POKERBOX_CALLERS 16
+#define POKERBOX_SHARES_LEN 64
+
 /* pokerbox_best_fees: how many records are candidates, and the largest budget. */
 #define POKERBOX_MAX_CANDIDATES 20
 #define POKERBOX_MAX_BUDGET 2097151
@@ -104,20 +111,22 @@ extern "C" {
 #define POKERBOX_MAX_IMAGE_LEN(p, b, t, k) \
     (2 * POKERBOX_AREA_LEN(p, b, t, k) + 2 * (uint64_t)(p) + (uint64_t)(t) + 1)
 
-/* A fresh queue under the limits P, B, T, K into `area`, which needs POKERBOX_AREA_LEN bytes. Gives
- * 1, 2 or 100. */
+/* A fresh queue under the limits P, B, T, K and these shares into `area`, which needs
+ * POKERBOX_AREA_LEN bytes. Gives 1 (a limit out of range, or a share over P), 2, 5 (`shares` has not
+ * POKERBOX_SHARES_LEN bytes) or 100. */
 uint64_t pokerbox_fresh(uint64_t pending, uint64_t bytes, uint64_t tombstones, uint64_t inputs,
-                        uint8_t *area, size_t area_len);
+                        const uint8_t *shares, size_t shares_len, uint8_t *area, size_t area_len);
 
 /* 100 if the area holds a sound queue, else 3. */
 uint64_t pokerbox_sound(const uint8_t *area, size_t area_len);
 
 /* Admits a transaction. `out` gets its entry: the new one, or with kind 0 the old one of a pending or
- * Mined id. `priority` is in two's complement. */
+ * Mined id, whoever asks. 18 where as many records of `caller`, 0 to 15, are pending as its share
+ * allows. `priority` is in two's complement. */
 uint64_t pokerbox_admit(const uint8_t *cur, size_t cur_len, uint8_t *next, size_t next_len,
-                        const uint8_t *id, size_t id_len, const uint8_t *inputs, size_t inputs_len,
-                        const uint8_t *outputs, size_t outputs_len, const uint8_t *signed_bytes,
-                        size_t signed_len, uint64_t now, uint8_t time_flag, uint64_t time,
+                        const uint8_t *id, size_t id_len, uint8_t caller, const uint8_t *inputs,
+                        size_t inputs_len, const uint8_t *outputs, size_t outputs_len,
+                        const uint8_t *signed_bytes, size_t signed_len, uint64_t now, uint8_t time_flag, uint64_t time,
                         uint8_t height_flag, uint32_t height, uint32_t priority,
                         uint8_t label_flag, const uint8_t *label, size_t label_len, uint64_t fee,
                         uint64_t cost, uint32_t tip_height, uint8_t tip_flag, const uint8_t *tip,
@@ -168,10 +177,11 @@ uint64_t pokerbox_need(uint64_t pending, uint64_t bytes, uint64_t tombstones, ui
                        uint64_t *value);
 
 /* The limits P, B, T, K of an image's queue, and the bytes that an area needs under them, each behind
- * its pointer. Gives 16 exactly where pokerbox_open does, or 100. */
+ * its pointer; its shares over the first POKERBOX_SHARES_LEN bytes of `shares`. Gives 16 exactly where
+ * pokerbox_open does, 4 where `shares` has fewer bytes, or 100. */
 uint64_t pokerbox_image_limits(const uint8_t *text, size_t text_len, uint64_t *pending,
                                uint64_t *bytes, uint64_t *tombstones, uint64_t *inputs,
-                               uint64_t *need);
+                               uint8_t *shares, size_t shares_len, uint64_t *need);
 
 /* The entry of one record. */
 uint64_t pokerbox_entry(const uint8_t *area, size_t area_len, const uint8_t *id, size_t id_len,

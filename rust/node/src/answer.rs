@@ -1,12 +1,14 @@
 //! Answers, read from the bytes that a call wrote.
 
-use crate::types::{BlockId, Height, InputId, Limits, Reason, State, TimeMs, TxId};
+use crate::types::{BlockId, Caller, Height, InputId, Limits, Reason, State, TimeMs, TxId};
 
 /// What the queue says of one record. Signed bytes are handed out by another call.
 #[derive(Debug, Clone, PartialEq, Eq)]
 pub struct Entry {
     /// The transaction's id.
     pub id: TxId,
+    /// Who admitted it.
+    pub caller: Caller,
     /// The record's state.
     pub state: State,
     /// Why it has that state.
@@ -34,9 +36,9 @@ pub struct Entry {
 }
 
 impl Entry {
-    /// No entry is longer: 121 bytes and what a label and K inputs take.
+    /// No entry is longer: 122 bytes and what a label and K inputs take.
     pub(crate) fn max_len(limits: &Limits) -> usize {
-        121 + 200 + 32 * limits.inputs() as usize
+        122 + 200 + 32 * limits.inputs() as usize
     }
 }
 
@@ -165,6 +167,10 @@ impl<'a> Reader<'a> {
         Height(self.u32())
     }
 
+    fn caller(&mut self) -> Caller {
+        Caller::new(self.byte()).expect("libpokerbox.a wrote a caller over 15")
+    }
+
     fn state(&mut self) -> State {
         State::from_number(self.byte()).expect("libpokerbox.a wrote an unlisted state")
     }
@@ -218,6 +224,7 @@ impl<'a> Reader<'a> {
     pub fn entry(&mut self) -> Entry {
         Entry {
             id: self.tx_id(),
+            caller: self.caller(),
             state: self.state(),
             reason: self.reason(),
             created: TimeMs(self.u64()),

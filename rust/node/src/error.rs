@@ -2,11 +2,11 @@
 
 use std::fmt;
 
-/// A refusal: the numbers 1 to 17 of document 01, and 21 of document 02. Nothing lent has changed,
+/// A refusal: the numbers 1 to 17 of document 01, and 18 and 21 of document 02. Nothing lent has changed,
 /// except the next area after [`Error::WriteFailed`].
 #[derive(Debug, Clone, Copy, PartialEq, Eq, PartialOrd, Ord, Hash)]
 pub enum Error {
-    /// A limit is out of range.
+    /// A limit is out of range, or a share is over P.
     LimitOutOfRange = 1,
     /// An area to write is too short.
     AreaTooShort = 2,
@@ -40,13 +40,15 @@ pub enum Error {
     NotAnImage = 16,
     /// The write failed.
     WriteFailed = 17,
+    /// As many records of this caller are pending as its share allows.
+    ShareExhausted = 18,
     /// The candidates' fees have no sum of 64 bits.
     FeesTooLarge = 21,
 }
 
 impl Error {
     /// All refusals, in the order of their numbers.
-    pub const ALL: [Error; 18] = [
+    pub const ALL: [Error; 19] = [
         Error::LimitOutOfRange,
         Error::AreaTooShort,
         Error::AreaNotSound,
@@ -64,6 +66,7 @@ impl Error {
         Error::CounterExhausted,
         Error::NotAnImage,
         Error::WriteFailed,
+        Error::ShareExhausted,
         Error::FeesTooLarge,
     ];
 
@@ -82,7 +85,7 @@ impl Error {
         match self {
             Error::LimitOutOfRange => {
                 "a limit is out of range: take P from 1 to 1,024, B from 1 to 16,777,216, T from 1 \
-                 to 1,024 and K from 1 to 128"
+                 to 1,024, K from 1 to 128, and each share from 0 to P"
             }
             Error::AreaTooShort => {
                 "the area to write is too short: lend as many bytes as Limits::area_len says"
@@ -95,9 +98,10 @@ impl Error {
                 "the output is shorter than the answer: lend a longer one and call again"
             }
             Error::Malformed => {
-                "an argument is malformed: an id has 32 bytes, a list is whole, the ids of \
-                 applied, available and reopening lists rise strictly, a flag, kind or outcome is a \
-                 listed one, and a budget is from 1 to 2,097,151; correct it and call again"
+                "an argument is malformed: an id has 32 bytes, a list is whole, shares have 64 bytes, \
+                 the ids of applied, available and reopening lists rise strictly, a caller is from 0 \
+                 to 15, a flag, kind or outcome is a listed one, and a budget is from 1 to 2,097,151; \
+                 correct it and call again"
             }
             Error::TooManyInputs => {
                 "the transaction has more inputs or outputs than the limit K: queue a smaller one"
@@ -137,6 +141,10 @@ impl Error {
             Error::WriteFailed => {
                 "the image was not written, and the call took no effect beyond the cursor: free or \
                  replace the disk and make the call again"
+            }
+            Error::ShareExhausted => {
+                "as many records of this caller are pending as its share allows, none with share 0: \
+                 cancel one of its records, wait for a block, or start with another share"
             }
             Error::FeesTooLarge => {
                 "the fees of the first 20 selected records sum to more than \

@@ -13,6 +13,7 @@ mod c {
             next_len: usize,
             id: *const u8,
             id_len: usize,
+            caller: u8,
             inputs: *const u8,
             inputs_len: usize,
             outputs: *const u8,
@@ -97,6 +98,8 @@ mod c {
             bytes: u64,
             tombstones: u64,
             inputs: u64,
+            shares: *const u8,
+            shares_len: usize,
             area: *mut u8,
             area_len: usize,
         ) -> u64;
@@ -136,6 +139,8 @@ mod c {
             bytes: *mut u64,
             tombstones: *mut u64,
             inputs: *mut u64,
+            shares: *mut u8,
+            shares_len: usize,
             need: *mut u64,
         ) -> u64;
         pub fn pokerbox_revision(area: *const u8, area_len: usize, value: *mut u64) -> u64;
@@ -261,6 +266,7 @@ pub fn admit(cur: &[u8], next: &mut [u8], args: &crate::raw::AdmitArgs<'_>, out:
             next.len(),
             args.id.as_ptr(),
             args.id.len(),
+            args.caller,
             args.inputs.as_ptr(),
             args.inputs.len(),
             args.outputs.as_ptr(),
@@ -379,13 +385,22 @@ pub fn set_cursor(cur: &[u8], next: &mut [u8], height: u32, tip_flag: u8, tip: &
 }
 
 #[cfg(exported = "fresh")]
-pub fn fresh(pending: u64, bytes: u64, tombstones: u64, inputs: u64, area: &mut [u8]) -> u64 {
+pub fn fresh(
+    pending: u64,
+    bytes: u64,
+    tombstones: u64,
+    inputs: u64,
+    shares: &[u8],
+    area: &mut [u8],
+) -> u64 {
     unsafe {
         c::pokerbox_fresh(
             pending,
             bytes,
             tombstones,
             inputs,
+            shares.as_ptr(),
+            shares.len(),
             area.as_mut_ptr(),
             area.len(),
         )
@@ -441,6 +456,7 @@ pub fn image_limits(
     bytes: &mut u64,
     tombstones: &mut u64,
     inputs: &mut u64,
+    shares: &mut [u8],
     need: &mut u64,
 ) -> u64 {
     unsafe {
@@ -451,6 +467,8 @@ pub fn image_limits(
             bytes,
             tombstones,
             inputs,
+            shares.as_mut_ptr(),
+            shares.len(),
             need,
         )
     }

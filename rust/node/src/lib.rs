@@ -8,7 +8,7 @@
 //!   call gives a [`Change`], which says what is due and is settled with the outcome of the write.
 //! - [`raw`]: the exported calls on lent byte slices, for a node that owns its areas.
 //!
-//! A refusal is an [`Error`] with its number, 1 to 17 or 21, and a sentence that says what to do. A
+//! A refusal is an [`Error`] with its number, 1 to 18 or 21, and a sentence that says what to do. A
 //! thread that makes calls needs at least 1 MiB of stack; 160 KiB while the queue holds at most
 //! 8,192 inputs.
 //!
@@ -35,7 +35,8 @@ pub use answer::{BestFees, Confirmation, Due, Entry, Reconciled};
 pub use error::Error;
 pub use queue::{Admission, Applied, Change, Outcome, Queue, Reconciliation};
 pub use types::{
-    BlockId, Height, InputId, Kind, Limits, OutputId, ParseIdError, Reason, State, TimeMs, TxId,
+    BlockId, Caller, Height, InputId, Kind, Limits, OutputId, ParseIdError, Reason, Shares, State,
+    TimeMs, TxId,
 };
 
 /// For which target the linked libpokerbox.a was built (see `build.rs`).

@@ -6,7 +6,7 @@ use std::fmt;
 use crate::answer::{BestFees, Entry, Reader};
 use crate::error::Error;
 use crate::raw;
-use crate::types::{BlockId, Height, InputId, Kind, Limits, OutputId, TimeMs, TxId};
+use crate::types::{BlockId, Caller, Height, InputId, Kind, Limits, OutputId, TimeMs, TxId};
 
 /// A queue with its current and its next area.
 #[derive(Clone)]
@@ -111,6 +111,8 @@ impl<T> Change<'_, T> {
 pub struct Admission {
     /// The transaction's id.
     pub id: TxId,
+    /// Who admits it; its share counts.
+    pub caller: Caller,
     /// What it spends.
     pub inputs: Vec<InputId>,
     /// What it makes.
@@ -138,7 +140,7 @@ pub struct Admission {
 }
 
 impl Admission {
-    /// Without deadlines, label and tip, with priority, fee and cost 0.
+    /// By caller 0, without deadlines, label and tip, with priority, fee and cost 0.
     pub fn new(
         id: TxId,
         inputs: Vec<InputId>,
@@ -149,6 +151,7 @@ impl Admission {
     ) -> Admission {
         Admission {
             id,
+            caller: Caller::ZERO,
             inputs,
             outputs,
             signed,
@@ -202,6 +205,7 @@ impl Queue {
             limits.bytes().into(),
             limits.tombstones().into(),
             limits.inputs().into(),
+            &limits.shares().to_bytes(),
             &mut queue.current,
         )?;
         Ok(queue)
@@ -283,13 +287,15 @@ impl Queue {
 
 /// Changing calls.
 impl Queue {
-    /// Queues a transaction. The answer is its entry, the old one where it is queued or mined.
+    /// Queues a transaction. The answer is its entry, the old one where it is queued or mined, whoever
+    /// asks.
     #[cfg(exported = "admit")]
     pub fn admit(&mut self, given: &Admission) -> Result<Change<'_, Entry>, Error> {
         let inputs = joined(given.inputs.iter().map(|id| id.0));
         let outputs = joined(given.outputs.iter().map(|id| id.0));
         let args = raw::AdmitArgs {
             id: &given.id.0,
+            caller: given.caller.number(),
             inputs: &inputs,
             outputs: &outputs,
             signed: &given.signed,

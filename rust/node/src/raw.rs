@@ -13,6 +13,8 @@ const ANSWERED: u64 = 100;
 pub struct AdmitArgs<'a> {
     /// The transaction's id, 32 bytes.
     pub id: &'a [u8],
+    /// Who admits it, 0 to 15.
+    pub caller: u8,
     /// Input ids, 32 bytes each.
     pub inputs: &'a [u8],
     /// Output ids, 32 bytes each.
@@ -154,16 +156,18 @@ pub fn set_cursor(
 
 // Settling, the image and the fresh queue.
 
-/// A fresh queue under the limits P, B, T, K into `area`.
+/// A fresh queue under the limits P, B, T, K into `area`. `shares` has one for each caller, 4 bytes
+/// each, from 0 to P.
 #[cfg(exported = "fresh")]
 pub fn fresh(
     pending: u64,
     bytes: u64,
     tombstones: u64,
     inputs: u64,
+    shares: &[u8],
     area: &mut [u8],
 ) -> Result<(), Error> {
-    answered(ffi::fresh(pending, bytes, tombstones, inputs, area))
+    answered(ffi::fresh(pending, bytes, tombstones, inputs, shares, area))
 }
 
 /// Whether the area holds a sound queue.
@@ -203,8 +207,9 @@ pub fn need(
     answered(ffi::need(pending, bytes, tombstones, inputs, value))
 }
 
-/// The limits P, B, T, K of an image's queue, and the bytes that an area needs under them. Refused
-/// exactly where [`open`] gives [`Error::NotAnImage`].
+/// The limits P, B, T, K of an image's queue, its shares over the first 64 bytes of `shares`, and the
+/// bytes that an area needs under them. [`Error::NotAnImage`] exactly where [`open`] gives it; then
+/// [`Error::OutputTooShort`] where `shares` has fewer than 64 bytes.
 #[cfg(exported = "image_limits")]
 pub fn image_limits(
     text: &[u8],
@@ -212,10 +217,11 @@ pub fn image_limits(
     bytes: &mut u64,
     tombstones: &mut u64,
     inputs: &mut u64,
+    shares: &mut [u8],
     need: &mut u64,
 ) -> Result<(), Error> {
     answered(ffi::image_limits(
-        text, pending, bytes, tombstones, inputs, need,
+        text, pending, bytes, tombstones, inputs, shares, need,
     ))
 }
 

@@ -183,8 +183,8 @@ impl FileStore {
     }
 
     /// Opens the store whose image is the file `path`; an error where none stands. The queue is
-    /// the stored one, under the limits in its image, and durable; where nothing is stored yet it
-    /// is a fresh one under `limits`.
+    /// the stored one, under the limits and shares in its image, and durable; where nothing is stored
+    /// yet it is a fresh one under `limits`.
     pub fn open(path: impl AsRef<Path>, limits: Limits) -> Result<FileStore, StoreError> {
         Store::open(Os, path.as_ref(), limits).map(FileStore)
     }

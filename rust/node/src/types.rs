@@ -1,4 +1,4 @@
-//! Ids, times, heights, limits and kinds.
+//! Ids, times, heights, callers, limits and kinds.
 
 use std::fmt;
 use std::str::FromStr;
@@ -103,13 +103,98 @@ impl fmt::Display for Height {
     }
 }
 
-/// The limits of a queue, each in range.
+/// Who admits a transaction: one of sixteen, for which a unit has a wallet or none.
+///
+/// ```
+/// use pokerbox::Caller;
+///
+/// assert_eq!(Caller::new(15).map(Caller::number), Some(15));
+/// assert_eq!(Caller::new(16), None);
+/// ```
+#[derive(Debug, Clone, Copy, PartialEq, Eq, PartialOrd, Ord, Hash)]
+pub struct Caller(u8);
+
+impl Caller {
+    /// How many there are.
+    pub const COUNT: usize = 16;
+
+    /// Who admits where a unit does not tell its callers apart.
+    pub const ZERO: Caller = Caller(0);
+
+    /// The caller of this number; none above 15.
+    pub const fn new(number: u8) -> Option<Caller> {
+        match number {
+            0..=15 => Some(Caller(number)),
+            _ => None,
+        }
+    }
+
+    /// All callers, rising.
+    pub fn all() -> impl Iterator<Item = Caller> {
+        (0..=15).map(Caller)
+    }
+
+    /// From 0 to 15.
+    pub const fn number(self) -> u8 {
+        self.0
+    }
+}
+
+impl fmt::Display for Caller {
+    fn fmt(&self, f: &mut fmt::Formatter<'_>) -> fmt::Result {
+        write!(f, "caller {}", self.0)
+    }
+}
+
+/// How many pending records each caller may have, and admit one more only below that. A share is from
+/// 0, which lets nothing in, to P; together they may be more than P.
+#[derive(Debug, Clone, Copy, PartialEq, Eq)]
+pub struct Shares([u32; Caller::COUNT]);
+
+impl Shares {
+    /// The length of shares as bytes, 4 each.
+    pub(crate) const LEN: usize = 4 * Caller::COUNT;
+
+    /// One for each caller, from caller 0 on.
+    pub const fn new(shares: [u32; Caller::COUNT]) -> Shares {
+        Shares(shares)
+    }
+
+    /// All to caller 0: its share is P, and the fifteen others are 0. So does an image that was
+    /// written before there were shares open.
+    pub const fn all_to_caller_0(pending: u32) -> Shares {
+        let mut shares = [0; Caller::COUNT];
+        shares[0] = pending;
+        Shares(shares)
+    }
+
+    /// The share of this caller.
+    pub fn of(&self, caller: Caller) -> u32 {
+        self.0[usize::from(caller.0)]
+    }
+
+    pub(crate) fn to_bytes(self) -> [u8; Self::LEN] {
+        let mut bytes = [0; Self::LEN];
+        for (at, share) in self.0.iter().enumerate() {
+            bytes[4 * at..4 * at + 4].copy_from_slice(&share.to_be_bytes());
+        }
+        bytes
+    }
+
+    fn from_bytes(bytes: [u8; Self::LEN]) -> Shares {
+        let (shares, _) = bytes.as_chunks::<4>();
+        Shares(std::array::from_fn(|at| u32::from_be_bytes(shares[at])))
+    }
+}
+
+/// The limits of a queue and the shares of its callers, each in range.
 #[derive(Debug, Clone, Copy, PartialEq, Eq)]
 pub struct Limits {
     pending: u32,
     bytes: u32,
     tombstones: u32,
     inputs: u32,
+    shares: Shares,
 }
 
 impl Limits {
@@ -122,31 +207,63 @@ impl Limits {
     /// The top setting of K.
     pub const MAX_INPUTS: u32 = 128;
 
-    /// The top settings.
+    /// The top settings, all to caller 0.
     pub const MAX: Limits = Limits {
         pending: Self::MAX_PENDING,
         bytes: Self::MAX_BYTES,
         tombstones: Self::MAX_TOMBSTONES,
         inputs: Self::MAX_INPUTS,
+        shares: Shares::all_to_caller_0(Self::MAX_PENDING),
     };
 
     /// P pending records, B signed bytes, T tombstones, K inputs and likewise outputs in a
-    /// transaction.
+    /// transaction; all to caller 0.
     pub fn new(pending: u32, bytes: u32, tombstones: u32, inputs: u32) -> Result<Limits, Error> {
         let limits = Limits {
             pending,
             bytes,
             tombstones,
             inputs,
+            shares: Shares::all_to_caller_0(pending),
         };
         // The library knows the ranges.
         limits.need().map(|_| limits)
     }
 
+    /// The same limits with these shares; [`Error::LimitOutOfRange`] where one is over P.
+    ///
+    /// ```
+    /// use pokerbox::{Caller, Error, Limits, Shares};
+    ///
+    /// // Two wallets, of which neither fills the queue.
+    /// let mut shares = [0; Caller::COUNT];
+    /// (shares[0], shares[1]) = (12, 12);
+    /// let limits = Limits::new(16, 65_536, 16, 8)?.shared(Shares::new(shares))?;
+    /// assert_eq!(limits.shares().of(Caller::ZERO), 12);
+    /// shares[1] = 17;
+    /// assert_eq!(limits.shared(Shares::new(shares)), Err(Error::LimitOutOfRange));
+    /// # Ok::<(), Error>(())
+    /// ```
+    pub fn shared(self, shares: Shares) -> Result<Limits, Error> {
+        match shares.0.iter().all(|share| *share <= self.pending) {
+            true => Ok(Limits { shares, ..self }),
+            false => Err(Error::LimitOutOfRange),
+        }
+    }
+
     /// The limits of the queue whose image this is, and the bytes that an area needs under them.
     pub(crate) fn of_image(image: &[u8]) -> Result<(Limits, usize), Error> {
         let (mut p, mut b, mut t, mut k, mut need) = (0, 0, 0, 0, 0);
-        raw::image_limits(image, &mut p, &mut b, &mut t, &mut k, &mut need)?;
+        let mut shares = [0; Shares::LEN];
+        raw::image_limits(
+            image,
+            &mut p,
+            &mut b,
+            &mut t,
+            &mut k,
+            &mut shares,
+            &mut need,
+        )?;
         // Those of a sound queue: none is above 16,777,216.
         let [pending, bytes, tombstones, inputs] = [p, b, t, k].map(|limit| limit as u32);
         let limits = Limits {
@@ -154,6 +271,7 @@ impl Limits {
             bytes,
             tombstones,
             inputs,
+            shares: Shares::from_bytes(shares),
         };
         Ok((limits, need as usize))
     }
@@ -183,6 +301,11 @@ impl Limits {
     /// K.
     pub fn inputs(&self) -> u32 {
         self.inputs
+    }
+
+    /// The shares of the callers.
+    pub fn shares(&self) -> Shares {
+        self.shares
     }
 
     /// The bytes that an area needs: 2B + 2P × (512 + 64K) + 512T + 512.

@@ -8,10 +8,10 @@
 mod common;
 mod every;
 
-use common::{area_to_write, lent_id, many, Met};
+use common::{area_to_write, lent_caller, lent_id, many, sound_queue, Met};
 use every::Args;
 use model::random::{self, Rng};
-use model::{area, calls, image, HeaderKind, Queue, State};
+use model::{area, calls, image, Caller, HeaderKind, Queue, State};
 use pokerbox::raw;
 
 fn cases() -> u64 {
@@ -28,18 +28,13 @@ fn expect(met: &Met, numbers: &[u64]) {
     }
 }
 
-fn sound_queue(rng: &mut Rng) -> Queue {
-    let limits = random::small_limits(rng);
-    random::queue(rng, limits)
-}
-
 /// Bytes that may or may not be a sound queue's area, with no room after them.
 fn damaged_area(rng: &mut Rng) -> Vec<u8> {
     let queue = sound_queue(rng);
     let good = area::encode(&queue);
     let used = used_length(&good);
     let mut bytes = good;
-    match rng.below(12) {
+    match rng.below(14) {
         0 => bytes = noise(rng),
         1 => bytes = area::encode(&random::altered(rng, &queue)),
         2 => {
@@ -61,6 +56,14 @@ fn damaged_area(rng: &mut Rng) -> Vec<u8> {
             let n = rng.below(queue.records.len());
             bytes[area::mark_place(&queue, n)] = mark(rng);
         }
+        10 if !queue.records.is_empty() => {
+            let n = rng.below(queue.records.len());
+            bytes[area::caller_place(&queue, n)] = caller(rng);
+        }
+        11 => {
+            let place = area::share_place(random_caller(rng)) + rng.below(4);
+            bytes[place] = share_byte(rng, &queue);
+        }
         _ => {
             for _ in 0..1 + rng.below(3) {
                 random::damage(rng, &mut bytes, used);
@@ -74,7 +77,22 @@ fn damaged_area(rng: &mut Rng) -> Vec<u8> {
 
 /// A header's kind, or another number.
 fn kind(rng: &mut Rng) -> u8 {
-    rng.pick(&[0, 1, 1, 2, 3, 4, 0x13, 0xff])
+    rng.pick(&[0, 1, 1, 2, 3, 3, 4, 5, 0x14, 0xff])
+}
+
+/// A caller, or another number.
+fn caller(rng: &mut Rng) -> u8 {
+    rng.pick(&[0, 1, 14, 15, 15, 16, 16, 17, 0x1f, 0x80, 0xff])
+}
+
+fn random_caller(rng: &mut Rng) -> Caller {
+    Caller(rng.below(Caller::COUNT) as u8)
+}
+
+/// A byte of a share; in its last place around P.
+fn share_byte(rng: &mut Rng, queue: &Queue) -> u8 {
+    let p = queue.limits.pending as u8;
+    rng.pick(&[0, 1, p, p, p + 1, p + 1, 0xff])
 }
 
 /// A withdrawn mark, or another number.
@@ -143,6 +161,7 @@ fn args(rng: &mut Rng, queue: &Queue) -> Args {
     let (now, height) = (random::time(rng), random::height(rng));
     Args {
         id: lent_id(rng, queue),
+        caller: lent_caller(rng),
         ids: ids.concat(),
         now: now.0,
         height: height.0,
@@ -222,9 +241,10 @@ fn next_areas() {
 /// Bytes that may or may not be a sound queue's image.
 fn damaged_image(rng: &mut Rng) -> Vec<u8> {
     let queue = sound_queue(rng);
-    let mut text = image::encode(&queue);
+    let kind_of = rng.pick(&HeaderKind::ALL);
+    let mut text = image::encode_as(kind_of, &queue);
     let length = text.len();
-    match rng.below(14) {
+    match rng.below(16) {
         0 => text = noise(rng),
         1 => text = image::encode(&random::altered(rng, &queue)),
         2 => {
@@ -243,8 +263,17 @@ fn damaged_image(rng: &mut Rng) -> Vec<u8> {
         10 => put_byte(&mut text, 0, kind(rng)),
         11 if !queue.records.is_empty() => {
             let n = rng.below(queue.records.len());
-            put_byte(&mut text, 0, rng.pick(&[1, 3]));
-            put_byte(&mut text, image::mark_place(&queue, n), mark(rng));
+            put_byte(&mut text, image::mark_place(kind_of, &queue, n), mark(rng));
+        }
+        12 if !queue.records.is_empty() => {
+            let n = rng.below(queue.records.len());
+            text = image::encode(&queue);
+            put_byte(&mut text, image::caller_place(&queue, n), caller(rng));
+        }
+        13 => {
+            text = image::encode(&queue);
+            let place = image::share_place(random_caller(rng)) + 2 * rng.below(4);
+            put_byte(&mut text, place, share_byte(rng, &queue));
         }
         _ => {
             for _ in 0..1 + rng.below(3) {
@@ -309,19 +338,14 @@ fn limits_of_images() {
     many(4 * cases(), |rng| {
         let text = damaged_image(rng);
         let before = text.clone();
-        common::same_values(
-            &mut met,
-            rng,
-            |[p, b, t, k, need]| raw::image_limits(&text, p, b, t, k, need),
-            |[p, b, t, k, need]| calls::image_limits(&text, p, b, t, k, need),
-        );
+        common::same_image_limits(&mut met, rng, &text);
         assert!(text == before, "the lent image was changed");
     });
-    expect(&met, &[16, 100]);
+    expect(&met, &[4, 16, 100]);
 }
 
 /// Every kind byte and every mark byte of areas and images, by document 02's words and not by the
-/// model.
+/// model. A text of kind 01 or 03 has no shares and no callers, one of 04 has both.
 #[test]
 #[cfg(all(exported = "open", exported = "sound"))]
 fn kinds_and_marks() {
@@ -329,14 +353,17 @@ fn kinds_and_marks() {
     many(cases() / 40, |rng| {
         let queue = sound_queue(rng);
         let (bytes, text) = (area::encode(&queue), image::encode(&queue));
+        let older = image::encode_as(HeaderKind::K03, &queue);
         let has_mark_3 = (queue.records.iter()).any(|record| record.withdrawn as u8 == 3);
         for kind in 0..=255 {
-            let (mut bytes, mut text) = (bytes.clone(), text.clone());
+            let (mut bytes, mut text, mut older) = (bytes.clone(), text.clone(), older.clone());
             bytes[4] = kind;
-            assert_eq!(raw::sound(&bytes).is_ok(), kind == 3, "area of kind {kind}");
+            assert_eq!(raw::sound(&bytes).is_ok(), kind == 4, "area of kind {kind}");
             put_byte(&mut text, 0, kind);
+            assert_eq!(opens(&text, &queue), kind == 4, "image of kind {kind}");
+            put_byte(&mut older, 0, kind);
             let taken = kind == 3 || (kind == 1 && !has_mark_3);
-            assert_eq!(opens(&text, &queue), taken, "image of kind {kind}");
+            assert_eq!(opens(&older, &queue), taken, "older image of kind {kind}");
         }
         for (n, record) in queue.records.iter().enumerate() {
             let may_be_marked = record.state == State::Mined && record.holder.is_none();
@@ -344,21 +371,67 @@ fn kinds_and_marks() {
             let other_mark_3 = others.clone().any(|other| other.withdrawn as u8 == 3);
             for mark in 0..=255 {
                 let right = mark == 0 || (may_be_marked && [3, 4, 5].contains(&mark));
-                let (mut bytes, mut text) = (bytes.clone(), text.clone());
+                let (mut bytes, mut text, mut older) = (bytes.clone(), text.clone(), older.clone());
                 bytes[area::mark_place(&queue, n)] = mark;
                 assert_eq!(raw::sound(&bytes).is_ok(), right, "mark {mark}");
                 met.count(u64::from(right));
-                put_byte(&mut text, image::mark_place(&queue, n), mark);
-                assert_eq!(opens(&text, &queue), right, "mark {mark} under 03");
-                put_byte(&mut text, 0, 1);
+                let place = image::mark_place(HeaderKind::K04, &queue, n);
+                put_byte(&mut text, place, mark);
+                assert_eq!(opens(&text, &queue), right, "mark {mark} under 04");
+                put_byte(
+                    &mut older,
+                    image::mark_place(HeaderKind::K03, &queue, n),
+                    mark,
+                );
+                assert_eq!(opens(&older, &queue), right, "mark {mark} under 03");
+                put_byte(&mut older, 0, 1);
                 let right = right && mark != 3 && !other_mark_3;
-                assert_eq!(opens(&text, &queue), right, "mark {mark} under 01");
+                assert_eq!(opens(&older, &queue), right, "mark {mark} under 01");
                 opened.count(u64::from(right));
             }
         }
     });
     expect(&met, &[0, 1]);
     expect(&opened, &[0, 1]);
+}
+
+/// Every caller byte of every record, and shares around P and in each of their bytes, by document 02's
+/// words and not by the model.
+#[test]
+#[cfg(all(exported = "open", exported = "sound"))]
+fn callers_and_shares() {
+    let mut met = Met::default();
+    many(cases() / 40, |rng| {
+        let queue = sound_queue(rng);
+        let (bytes, text) = (area::encode(&queue), image::encode(&queue));
+        let mut check = |place: usize, digits: usize, put: &[u8], right: bool| {
+            let (mut bytes, mut text) = (bytes.clone(), text.clone());
+            bytes[place..place + put.len()].copy_from_slice(put);
+            for (at, byte) in put.iter().enumerate() {
+                put_byte(&mut text, digits + 2 * at, *byte);
+            }
+            assert_eq!(raw::sound(&bytes).is_ok(), right, "{put:02x?} at {place}");
+            assert_eq!(opens(&text, &queue), right, "{put:02x?} at digit {digits}");
+            met.count(u64::from(right));
+        };
+        for n in 0..queue.records.len() {
+            let (place, digits) = (
+                area::caller_place(&queue, n),
+                image::caller_place(&queue, n),
+            );
+            for caller in 0..=255 {
+                check(place, digits, &[caller], caller <= 15);
+            }
+        }
+        let p = queue.limits.pending;
+        for caller in (0..16).map(Caller) {
+            let (place, digits) = (area::share_place(caller), image::share_place(caller));
+            for share in [0, p - 1, p, p + 1, 0x100, 0x1_0000, 0x100_0000, u32::MAX] {
+                check(place, digits, &share.to_be_bytes(), share <= p);
+            }
+        }
+    });
+    expect(&met, &[0, 1]);
 }
 
 /// Whether the text opens, or is refused by 16, into an area for this queue.
@@ -379,7 +452,7 @@ fn short_areas() {
     let mut rng = Rng::new(1);
     let args = args(&mut rng, &sound_queue(&mut Rng::new(2)));
     for limit in [0, 1, 2, 127, 128, 1_024, 16_777_216, 1 << 31, u32::MAX] {
-        for length in [0, 1, 3, 4, 5, 20, 21, 45, 46, 47, 511, 2_177] {
+        for length in [0, 1, 3, 4, 5, 20, 21, 22, 84, 85, 109, 110, 111, 511, 2_177] {
             let mut bytes = vec![0, 0, 0, 0, HeaderKind::NEWEST as u8];
             for _ in 0..4 {
                 bytes.extend(limit.to_be_bytes());

@@ -7,8 +7,9 @@
 mod common;
 
 use common::{
-    area_to_write, counters, lent_flag, lent_id, lent_queue, many, output, same, same_change,
-    same_reading, same_values, sometimes_cut, Met,
+    area_to_write, counters, lent_caller, lent_flag, lent_id, lent_queue, lent_shares, many,
+    output, same, same_change, same_image_limits, same_reading, same_values, sometimes_cut,
+    sound_queue, Met,
 };
 use model::load::{self, Ids, Links, Load};
 use model::random::{self, Rng};
@@ -31,21 +32,61 @@ fn fresh() {
         }
         let [p, b, t, k] = numbers;
         let lent = area_to_write(rng, &limits);
+        let shares = lent_shares(rng, &limits);
         same(
             &mut met,
             &lent,
             &[],
-            |lent, _| raw::fresh(p, b, t, k, lent),
-            |lent, _| calls::fresh(p, b, t, k, lent),
+            |lent, _| raw::fresh(p, b, t, k, &shares, lent),
+            |lent, _| calls::fresh(p, b, t, k, &shares, lent),
         );
     });
-    met.expect(&[1, 2, 100]);
+    met.expect(&[1, 2, 5, 100]);
+}
+
+/// Each share at each end of its range, and in each of its bytes beyond it; every length of the shares
+/// from none to two more than 64, for which no share is read.
+#[test]
+#[cfg(exported = "fresh")]
+fn fresh_at_each_end_of_the_shares() {
+    let mut met = Met::default();
+    for p in [1, 2, 255, 256, 1_024] {
+        let limits = Limits::checked(p, 1, 1, 1).expect("limits in range");
+        for length in [limits.need() - 1, limits.need()] {
+            let lent = vec![0xee; length];
+            let mut compare = |shares: &[u8]| {
+                same(
+                    &mut met,
+                    &lent,
+                    &[],
+                    |lent, _| raw::fresh(p, 1, 1, 1, shares, lent),
+                    |lent, _| calls::fresh(p, 1, 1, 1, shares, lent),
+                );
+            };
+            let top = limits.pending;
+            for share in [0, top - 1, top, top + 1, 1 << 11, 1 << 16, 1 << 24, 1 << 31] {
+                for caller in 0..16 {
+                    let shares = Limits {
+                        shares: std::array::from_fn(|at| if at == caller { share } else { 0 }),
+                        ..limits
+                    };
+                    compare(&shares.share_bytes());
+                }
+            }
+            for count in 0..=66 {
+                compare(&vec![0xff; count]);
+                compare(&vec![0; count]);
+            }
+        }
+    }
+    met.expect(&[1, 2, 5, 100]);
 }
 
 #[test]
 #[cfg(exported = "fresh")]
 fn fresh_at_each_end_of_the_ranges() {
     let mut met = Met::default();
+    let none = [0; 64];
     for p in [0, 1, 1_024, 1_025] {
         for t in [0, 1, 1_024, 1_025] {
             for k in [0, 1, 128, 129] {
@@ -55,8 +96,8 @@ fn fresh_at_each_end_of_the_ranges() {
                     &mut met,
                     &lent,
                     &[],
-                    |lent, _| raw::fresh(p, 1, t, k, lent),
-                    |lent, _| calls::fresh(p, 1, t, k, lent),
+                    |lent, _| raw::fresh(p, 1, t, k, &none, lent),
+                    |lent, _| calls::fresh(p, 1, t, k, &none, lent),
                 );
             }
         }
@@ -67,8 +108,8 @@ fn fresh_at_each_end_of_the_ranges() {
             &mut met,
             &lent,
             &[],
-            |lent, _| raw::fresh(1, b, 1, 1, lent),
-            |lent, _| calls::fresh(1, b, 1, 1, lent),
+            |lent, _| raw::fresh(1, b, 1, 1, &none, lent),
+            |lent, _| calls::fresh(1, b, 1, 1, &none, lent),
         );
     }
     met.expect(&[1, 100]);
@@ -166,12 +207,38 @@ fn admit() {
             |cur, next, out| calls::admit(cur, next, &model_args, out),
         );
     });
-    met.expect(&[2, 3, 4, 5, 6, 7, 8, 9, 10, 11, 12, 100, 102]);
+    met.expect(&[2, 3, 4, 5, 6, 7, 8, 9, 10, 11, 12, 18, 100, 102]);
+}
+
+/// Every caller byte, into a queue where each caller has a share of its own and some pending.
+#[test]
+#[cfg(exported = "admit")]
+fn admit_by_every_caller() {
+    let mut met = Met::default();
+    many(CASES / 40, |rng| {
+        let queue = sound_queue(rng);
+        let lent = (queue.clone(), area::encode(&queue));
+        let mut given = Given::new(rng, &queue);
+        given.flags = [0, 0, 0, 0];
+        for caller in 0..=255 {
+            given.caller = caller;
+            let (args, model_args) = (given.raw(), given.model());
+            same_change(
+                &mut met,
+                rng,
+                &lent,
+                |cur, next, out| raw::admit(cur, next, &args, out),
+                |cur, next, out| calls::admit(cur, next, &model_args, out),
+            );
+        }
+    });
+    met.expect(&[2, 4, 5, 6, 10, 11, 12, 18, 100, 102]);
 }
 
 /// The arguments of an admission.
 struct Given {
     id: Vec<u8>,
+    caller: u8,
     inputs: Vec<u8>,
     outputs: Vec<u8>,
     signed: Vec<u8>,
@@ -189,6 +256,7 @@ impl Given {
         let tip = random::block_id(rng).to_vec();
         Given {
             id: lent_id(rng, queue),
+            caller: lent_caller(rng),
             inputs: Self::list(rng, &queue.limits),
             outputs: Self::list(rng, &queue.limits),
             signed: rng.bytes(signed),
@@ -225,6 +293,7 @@ impl Given {
     fn raw(&self) -> raw::AdmitArgs<'_> {
         raw::AdmitArgs {
             id: &self.id,
+            caller: self.caller,
             inputs: &self.inputs,
             outputs: &self.outputs,
             signed: &self.signed,
@@ -248,6 +317,7 @@ impl Given {
         let args = self.raw();
         calls::AdmitArgs {
             id: args.id,
+            caller: args.caller,
             inputs: args.inputs,
             outputs: args.outputs,
             signed: args.signed,
@@ -405,8 +475,7 @@ fn image_writer() {
 fn open() {
     let mut met = Met::default();
     many(4 * CASES, |rng| {
-        let limits = random::small_limits(rng);
-        let queue = random::queue(rng, limits);
+        let queue = sound_queue(rng);
         let mut text = image::encode_as(rng.pick(&HeaderKind::ALL), &queue);
         let length = text.len();
         match rng.below(4) {
@@ -414,7 +483,7 @@ fn open() {
             1 => text = image::encode(&random::altered(rng, &queue)),
             _ => {}
         }
-        let lent = area_to_write(rng, &limits);
+        let lent = area_to_write(rng, &queue.limits);
         same(
             &mut met,
             &lent,
@@ -459,8 +528,7 @@ fn need() {
 fn image_limits() {
     let mut met = Met::default();
     many(4 * CASES, |rng| {
-        let limits = random::small_limits(rng);
-        let queue = random::queue(rng, limits);
+        let queue = sound_queue(rng);
         let mut text = image::encode_as(rng.pick(&HeaderKind::ALL), &queue);
         let length = text.len();
         match rng.below(4) {
@@ -468,16 +536,11 @@ fn image_limits() {
             1 => text = image::encode(&random::altered(rng, &queue)),
             _ => {}
         }
-        same_values(
-            &mut met,
-            rng,
-            |[p, b, t, k, need]| raw::image_limits(&text, p, b, t, k, need),
-            |[p, b, t, k, need]| calls::image_limits(&text, p, b, t, k, need),
-        );
+        same_image_limits(&mut met, rng, &text);
         // What it says to lend is enough, and no byte too much.
-        let (mut numbers, mut lent) = ([0; 5], Vec::new());
+        let (mut numbers, mut shares, mut lent) = ([0; 5], [0; 64], Vec::new());
         let [p, b, t, k, need] = &mut numbers;
-        if raw::image_limits(&text, p, b, t, k, need).is_ok() {
+        if raw::image_limits(&text, p, b, t, k, &mut shares, need).is_ok() {
             lent.resize(numbers[4] as usize, 0);
             assert_eq!(raw::open(&text, &mut lent), Ok(()));
             lent.pop();
@@ -488,7 +551,7 @@ fn image_limits() {
             assert_eq!(refused, Err(pokerbox::Error::NotAnImage));
         }
     });
-    met.expect(&[16, 100]);
+    met.expect(&[4, 16, 100]);
 }
 
 #[test]

@@ -2,7 +2,7 @@
 
 use std::collections::{BTreeMap, BTreeSet};
 
-use pokerbox::{BestFees, Error, Kind, Limits, Outcome, Reason, State};
+use pokerbox::{BestFees, Caller, Error, Kind, Limits, Outcome, Reason, State};
 
 /// By function, the types of its parameters in Rust's words.
 type Declarations = BTreeMap<String, Vec<String>>;
@@ -98,9 +98,9 @@ fn constants(header: &str) -> BTreeMap<String, u64> {
 /// What the header says of refusals is what there is: a list, never a range.
 #[test]
 fn the_header_names_the_refusals() {
-    let numbers: Vec<u64> = (1..=17).chain([21]).collect();
+    let numbers: Vec<u64> = (1..=18).chain([21]).collect();
     assert_eq!(Error::ALL.map(Error::number), *numbers);
-    assert!(text("include/pokerbox.h").contains("\n *   1 to 17, 21  a refusal;"));
+    assert!(text("include/pokerbox.h").contains("\n *   1 to 18, 21  a refusal;"));
 }
 
 /// A variant's name as a constant's: `QueueFull` is `QUEUE_FULL`.
@@ -129,6 +129,8 @@ fn the_header_defines_the_numbers_of_rust() {
             BestFees::MAX_CANDIDATES.into(),
         ),
         ("MAX_BUDGET".to_string(), BestFees::MAX_BUDGET),
+        ("CALLERS".to_string(), Caller::COUNT as u64),
+        ("SHARES_LEN".to_string(), 4 * Caller::COUNT as u64),
     ]);
     expected.extend(Error::ALL.map(|error| (constant("", error), error.number())));
     expected.extend(KINDS.map(|kind| (constant("KIND", kind), kind as u64)));

@@ -8,7 +8,7 @@ use std::fs;
 use std::path::Path;
 
 use common::Folder;
-use model::{area, image, HeaderKind, Queue, Record, Withdrawn};
+use model::{area, image, Caller, HeaderKind, Queue, Record, Withdrawn};
 use pokerbox::store::FileStore;
 use pokerbox::Error;
 
@@ -85,21 +85,59 @@ fn kept_images_open_with_every_value_unchanged() {
     }
 }
 
-/// What is written next has the newest kind: of these kinds the same text but for the kind's digits.
+/// The text with the digits of kind 04: after K shares that give all to caller 0, and in each record
+/// caller 0 after the id.
+fn with_callers(text: &[u8]) -> Vec<u8> {
+    let text = std::str::from_utf8(text).expect("digits and line ends");
+    let mut lines = text.lines();
+    let header = lines.next().expect("a header");
+    let (limits, rest) = header[2..].split_at(32);
+    let mut written = format!("04{limits}{}{}{rest}\n", &limits[..8], "0".repeat(120));
+    for record in lines {
+        let (id, rest) = record.split_at(66);
+        written += &format!("{id}00{rest}\n");
+    }
+    written.into_bytes()
+}
+
+/// What is written next has the newest kind.
 #[test]
 fn kept_images_are_written_again_in_the_newest_kind() {
     for kept in kept() {
         let opened = pokerbox::Queue::open(&kept.text).expect("an image");
-        assert_eq!(opened.area()[4], 3, "{}: the area", kept.what());
+        assert_eq!(opened.area()[4], 4, "{}: the area", kept.what());
         let written = opened.image().expect("an image");
-        assert!(written == kept.with_kind("03"), "{}", kept.what());
+        let expected = match kept.kind {
+            HeaderKind::K01 | HeaderKind::K03 => with_callers(&kept.text),
+            HeaderKind::K04 => kept.text.clone(),
+        };
+        assert!(written == expected, "{}", kept.what());
+    }
+}
+
+/// An older image has nothing but caller 0; the image `every` of kind 04 has a record of each caller,
+/// and shares from 0 to P.
+#[test]
+fn every_caller_is_kept() {
+    for kept in kept() {
+        let queue = kept.queue();
+        let callers = || queue.records.iter().map(|record| record.caller);
+        if kept.kind < HeaderKind::K04 {
+            assert!(queue.limits.is_all_to_caller_0(), "{}", kept.what());
+            assert!(callers().all(|caller| caller == Caller(0)));
+        } else if kept.name == "every" {
+            assert_eq!(callers().collect::<BTreeSet<_>>().len(), 16);
+            let shares = BTreeSet::from(queue.limits.shares);
+            assert!(shares.contains(&0) && shares.contains(&queue.limits.pending));
+            assert!(shares.len() > 2);
+        }
     }
 }
 
 #[test]
 fn no_other_kind_is_an_image() {
     for kept in kept() {
-        for kind in ["00", "02", "04", "05", "06", "10", "30", "ff"] {
+        for kind in ["00", "02", "05", "06", "10", "14", "40", "ff"] {
             let refused = opened(&kept.with_kind(kind));
             assert_eq!(refused, Err(Error::NotAnImage), "{} as {kind}", kept.what());
         }
@@ -180,7 +218,7 @@ fn mark_3_is_in_no_image_of_kind_01() {
         if record.withdrawn != Withdrawn::Expired {
             continue;
         }
-        let place = image::mark_place(&queue, n);
+        let place = image::mark_place(kept.kind, &queue, n);
         let mut text = kept.text.clone();
         assert_eq!(text[place..place + 2], *b"05");
         text[place + 1] = b'3';

@@ -2,8 +2,8 @@
 
 use pokerbox::store::StoreError;
 use pokerbox::{
-    Admission, BestFees, Error, Height, InputId, Kind, Limits, Outcome, OutputId, ParseIdError,
-    Queue, Reason, State, TimeMs, TxId,
+    Admission, BestFees, Caller, Error, Height, InputId, Kind, Limits, Outcome, OutputId,
+    ParseIdError, Queue, Reason, Shares, State, TimeMs, TxId,
 };
 
 fn limits() -> Limits {
@@ -39,7 +39,7 @@ fn limits_have_ranges() {
 
 #[test]
 fn every_refusal_says_what_to_do() {
-    let numbers: Vec<u64> = (1..=17).chain([21]).collect();
+    let numbers: Vec<u64> = (1..=18).chain([21]).collect();
     assert_eq!(Error::ALL.len(), numbers.len());
     for (number, error) in numbers.iter().zip(Error::ALL) {
         assert_eq!(error.number(), *number);
@@ -100,6 +100,7 @@ fn an_admission_needs_few_fields() {
     assert_eq!((entry.priority, entry.fee, entry.cost), (0, 0, 0));
     assert_eq!((entry.time_deadline, entry.height_deadline), (None, None));
     assert_eq!((entry.created, entry.label), (TimeMs(5), None));
+    assert_eq!(entry.caller, Caller::ZERO);
     assert_eq!(queue.observation_cursor(), Ok((Height(6), None)));
 }
 
@@ -240,13 +241,85 @@ fn a_change_takes_effect_when_it_is_settled() {
     assert_eq!(read.persisted, model::Height(0));
 }
 
-/// Document 01's worked image.
+#[test]
+fn callers_are_0_to_15() {
+    for number in 0..=255 {
+        let caller = Caller::new(number).map(Caller::number);
+        assert_eq!(caller, (number <= 15).then_some(number));
+    }
+    assert_eq!(Caller::all().count(), Caller::COUNT);
+    assert_eq!(Caller::all().next(), Some(Caller::ZERO));
+    assert_eq!(Caller::all().last(), Caller::new(15));
+    assert_eq!(Caller::ZERO.to_string(), "caller 0");
+}
+
+#[test]
+fn shares_are_at_most_p() {
+    assert_eq!(limits().shares(), Shares::all_to_caller_0(2));
+    for caller in 0..16 {
+        for (share, right) in [(0, true), (2, true), (3, false), (u32::MAX, false)] {
+            let mut shares = [1; 16];
+            shares[caller] = share;
+            let shared = limits().shared(Shares::new(shares));
+            let expected = match right {
+                true => Ok(Shares::new(shares)),
+                false => Err(Error::LimitOutOfRange),
+            };
+            assert_eq!(shared.map(|limits| limits.shares()), expected);
+        }
+    }
+}
+
+/// An admission of this number by this caller.
+fn by(caller: Caller, n: u8) -> Admission {
+    let inputs = vec![InputId([n; 32])];
+    Admission {
+        caller,
+        ..Admission::new(TxId([n; 32]), inputs, vec![], vec![n], TimeMs(5), Height(6))
+    }
+}
+
+#[test]
+fn each_caller_has_its_share() {
+    let last = Caller::new(15).unwrap();
+    let mut shares = [0; 16];
+    (shares[0], shares[15]) = (1, 2);
+    let limits = Limits::new(3, 10, 2, 1).unwrap();
+    let limits = limits.shared(Shares::new(shares)).unwrap();
+    let mut queue = Queue::fresh(limits).unwrap();
+    let entry = queue.admit(&by(Caller::ZERO, 1)).unwrap();
+    assert_eq!(entry.settle(Outcome::Kept).unwrap().caller, Caller::ZERO);
+    for (caller, n) in [(Caller::ZERO, 2), (Caller::new(1).unwrap(), 2)] {
+        let refused = queue.admit(&by(caller, n)).unwrap_err();
+        assert_eq!(refused, Error::ShareExhausted);
+    }
+    let change = queue.admit(&by(last, 2)).unwrap();
+    change.settle(Outcome::Kept).unwrap();
+    // Whoever asks, a pending id answers its record.
+    let known = queue.admit(&by(Caller::ZERO, 2)).unwrap();
+    assert_eq!((known.kind(), known.answer().caller), (Kind::Nothing, last));
+    drop(known);
+    let callers: Vec<Caller> = queue.list().unwrap().iter().map(|of| of.caller).collect();
+    assert_eq!(callers, [Caller::ZERO, last]);
+    // Opened again, it has the same shares and callers.
+    let opened = Queue::open(&queue.image().unwrap()).unwrap();
+    assert_eq!(opened.limits(), limits);
+    assert_eq!(opened.entry(TxId([2; 32])).unwrap().caller, last);
+    assert!(opened.area() == queue.area());
+    // A tombstone has its caller, too.
+    let cancelled = queue.cancel(TxId([2; 32])).unwrap();
+    assert_eq!(cancelled.settle(Outcome::Kept).unwrap().caller, last);
+}
+
+/// The worked image of documents 01 and 02.
 #[test]
 fn the_worked_image_opens() {
-    let frame = "03 00000002 0000000a 00000001 00000001 0000000000000000 00000000 00 \
-                 0000000000000000 00000000";
+    let frame = "04 00000002 0000000a 00000001 00000001 \
+                 00000002 00000000 00000000 00000000 00000000 00000000 00000000 00000000 \
+                 00000000 00000000 00000000 00000000 00000000 00000000 00000000 00000000 \
+                 0000000000000000 00000000 00 0000000000000000 00000000";
     let image = frame.replace(' ', "") + "\n";
-    assert_eq!(image.len(), 85);
+    assert_eq!(image.len(), 213);
     let fresh = Queue::fresh(limits()).unwrap();
     assert_eq!(fresh.image().unwrap(), image.as_bytes());
     let opened = Queue::open(image.as_bytes()).unwrap();
@@ -264,6 +337,7 @@ fn what_is_no_image_is_refused() {
         "+3000000020000000a00000001000000010000000000000000000000000000000000000000000000000000\n",
         "0300000002000000010000000100000001\n",
         "04000000020000000a00000001000000010000000000000000000000000000000000000000000000000000\n",
+        "05000000020000000a00000001000000010000000000000000000000000000000000000000000000000000\n",
     ] {
         assert_eq!(Queue::open(text.as_bytes()).unwrap_err(), Error::NotAnImage);
     }

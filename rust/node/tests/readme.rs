@@ -37,6 +37,7 @@ fn the_example_runs() {
     assert!(said.contains(": 12 signed bytes"), "{said}");
     assert!(said.contains("fee 1000000, at most 0 more"), "{said}");
     assert!(said.contains("not cancelled: "), "{said}");
+    assert!(said.contains("caller 2 has no share"), "{said}");
     assert!(said.contains("changed: true"), "{said}");
 }
 
@@ -50,6 +51,8 @@ fn the_demonstration_shows_what_a_unit_lives_through() {
         "Mined, reason none",
         "Queued, reason rolled back",
         "refusal 17: ",
+        "refusal 18: ",
+        "caller 0: ",
         "was killed",
         "Opened after it: revision ",
     ] {

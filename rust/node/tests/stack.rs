@@ -61,6 +61,7 @@ impl Lent {
             area: area::encode(&queue),
             args: Args {
                 id: id.to_vec(),
+                caller: 0,
                 ids: ids.concat(),
                 now: rng.pick(&[0, u64::MAX]),
                 height: rng.pick(&[0, u32::MAX]),
@@ -139,9 +140,10 @@ impl Lent {
     #[cfg(exported = "fresh")]
     fn fresh(&mut self, library: bool) -> u64 {
         let [p, b, t, k] = self.queue.limits.numbers();
+        let shares = self.queue.limits.share_bytes();
         match library {
-            true => common::Number::number(raw::fresh(p, b, t, k, &mut self.next)),
-            false => calls::fresh(p, b, t, k, &mut self.next),
+            true => common::Number::number(raw::fresh(p, b, t, k, &shares, &mut self.next)),
+            false => calls::fresh(p, b, t, k, &shares, &mut self.next),
         }
     }
 }
@@ -160,11 +162,12 @@ impl Lent {
 #[cfg(exported = "image_limits")]
 impl Lent {
     fn image_limits(&self, library: bool) -> u64 {
-        let mut numbers = [0; 5];
-        let [p, b, t, k, need] = &mut numbers;
+        let (mut numbers, mut shares) = ([0; 5], [0; 64]);
+        let ([p, b, t, k, need], image) = (&mut numbers, &self.image);
+        let shares = &mut shares;
         match library {
-            true => common::Number::number(raw::image_limits(&self.image, p, b, t, k, need)),
-            false => calls::image_limits(&self.image, p, b, t, k, need),
+            true => common::Number::number(raw::image_limits(image, p, b, t, k, shares, need)),
+            false => calls::image_limits(image, p, b, t, k, shares, need),
         }
     }
 }

@@ -27,6 +27,7 @@ fn queued() -> model::Queue {
     let fresh = model::Queue::fresh(model::Limits::checked(2, 10, 1, 1).unwrap());
     let given = rules::Admission {
         id: ID.0,
+        caller: model::Caller(0),
         inputs: vec![[0x21; 32]],
         outputs: vec![[0x31; 32]],
         signed: vec![1, 2, 3],

@@ -4,15 +4,28 @@ use pokerbox::{raw, Error, Kind};
 
 const NEED: usize = 3_348;
 
-const HEADER: &str =
-    "03 00000002 0000000a 00000001 00000001 0000000000000000 00000000 00 0000000000000000 00000000";
+/// All to caller 0.
+const SHARES: &str = "00000002 00000000 00000000 00000000 00000000 00000000 00000000 00000000 \
+                      00000000 00000000 00000000 00000000 00000000 00000000 00000000 00000000";
 
-const CANCELLED_HEADER: &str =
-    "03 00000002 0000000a 00000001 00000001 0000000000000002 00000006 00 0000000000000001 00000001";
+const HEADER: &str = "04 00000002 0000000a 00000001 00000001 \
+     00000002 00000000 00000000 00000000 00000000 00000000 00000000 00000000 \
+     00000000 00000000 00000000 00000000 00000000 00000000 00000000 00000000 \
+     0000000000000000 00000000 00 0000000000000000 00000000";
+
+/// As document 01 has it, but for the kind.
+const REST: &str =
+    "00000002 0000000a 00000001 00000001 0000000000000000 00000000 00 0000000000000000 00000000";
+
+/// Callers 0 and 5 have a share of 1 each.
+const CANCELLED_HEADER: &str = "04 00000002 0000000a 00000001 00000001 \
+     00000001 00000000 00000000 00000000 00000000 00000001 00000000 00000000 \
+     00000000 00000000 00000000 00000000 00000000 00000000 00000000 00000000 \
+     0000000000000002 00000006 00 0000000000000001 00000001";
 
 /// From the id to the confirmation's flag: what the record's frame and its entry share.
 const CANCELLED_HEAD: &str =
-    "1111111111111111111111111111111111111111111111111111111111111111 04 01 \
+    "1111111111111111111111111111111111111111111111111111111111111111 05 04 01 \
      0000000000000005 00 00 ffffffff 00 0000000000000007 00000003 0000000000000009 00";
 
 /// The withdrawn mark, the finish number and the holder flag.
@@ -55,11 +68,12 @@ fn image(area: &[u8]) -> String {
 #[test]
 fn the_fresh_area() {
     let mut lent = vec![0xee; NEED + 2];
-    assert_eq!(raw::fresh(2, 10, 1, 1, &mut lent), Ok(()));
+    let shares = unhex(SHARES);
+    assert_eq!(raw::fresh(2, 10, 1, 1, &shares, &mut lent), Ok(()));
     assert!(lent[..NEED] == area(&format!("00000000 {HEADER}")));
     assert_eq!(lent[NEED..], [0xee, 0xee]);
     assert_eq!(
-        raw::fresh(2, 10, 1, 1, &mut lent[1..NEED]),
+        raw::fresh(2, 10, 1, 1, &shares, &mut lent[1..NEED]),
         Err(Error::AreaTooShort)
     );
 }
@@ -68,14 +82,16 @@ fn the_fresh_area() {
 fn the_fresh_image() {
     let text = image(&area(&format!("00000000 {HEADER}")));
     assert_eq!(text, digits(HEADER) + "\n");
-    assert_eq!(text.len(), 85);
+    assert_eq!(text.len(), 213);
     let mut lent = vec![0; NEED];
     assert_eq!(raw::open(text.as_bytes(), &mut lent), Ok(()));
     assert!(lent == area(&format!("00000000 {HEADER}")));
-    // As document 01 has it.
-    let (older, mut lent) = (text.replacen("03", "01", 1), vec![0; NEED]);
-    assert_eq!(raw::open(older.as_bytes(), &mut lent), Ok(()));
-    assert!(lent == area(&format!("00000000 {HEADER}")));
+    for kind in ["01", "03"] {
+        let (older, mut lent) = (format!("{kind}{}\n", digits(REST)), vec![0; NEED]);
+        assert_eq!(older.len(), 85);
+        assert_eq!(raw::open(older.as_bytes(), &mut lent), Ok(()));
+        assert!(lent == area(&format!("00000000 {HEADER}")));
+    }
     assert_eq!(raw::open(b"0A", &mut lent), Err(Error::NotAnImage));
 }
 
@@ -101,12 +117,17 @@ fn the_cancelled_record() {
     assert_eq!(image(&cancelled), lines.join("\n"));
 }
 
-/// Of the kind that document 01's images have.
+/// Of the kinds that older images have.
 #[test]
-fn a_fresh_area_with_its_kind_byte_set_to_01() {
-    let mut lent = area(&format!("00000000 {HEADER}"));
-    lent[4] = 1;
-    assert_eq!(raw::sound(&lent), Err(Error::AreaNotSound));
+fn a_fresh_area_with_an_older_kind_byte() {
+    for kind in [1, 3] {
+        let mut lent = area(&format!("00000000 {HEADER}"));
+        lent[4] = kind;
+        assert_eq!(raw::sound(&lent), Err(Error::AreaNotSound));
+        // Nor is what an older library had as its area one.
+        let lent = area(&format!("00000000 {kind:02x} {REST}"));
+        assert_eq!(raw::sound(&lent), Err(Error::AreaNotSound));
+    }
 }
 
 #[test]
@@ -115,13 +136,13 @@ fn one_wrong_byte_in_the_cancelled_record() {
     let used = 4 + unhex(CANCELLED_HEADER).len() + 1 + unhex(CANCELLED_HEAD).len() + 10;
     // Bytes that may have any value: the persisted height, the revision, the cursor, the id,
     // created, the priority, fee, size and cost.
-    let free = [0..4, 21..33, 47..79, 81..89, 91..95, 96..116];
+    let free = [0..4, 85..97, 111..143, 146..154, 156..160, 161..181];
     for at in 0..NEED {
         let mut damaged = cancelled.clone();
         damaged[at] ^= 0x40;
         let sound = free.iter().any(|range| range.contains(&at));
         // The counter may be higher.
-        let sound = sound || (34..42).contains(&at);
+        let sound = sound || (98..106).contains(&at);
         assert_eq!(raw::sound(&damaged).is_ok(), sound, "byte {at} of {used}");
     }
 }

@@ -8,8 +8,8 @@ use std::process::ExitCode;
 
 use model::random::nth_id;
 use model::{
-    image, sound, Confirmation, FinishNumber, Height, Holder, Id, Limits, Queue, Reason, Record,
-    State, TimeMs, Withdrawn,
+    image, sound, Caller, Confirmation, FinishNumber, Height, Holder, Id, Limits, Queue, Reason,
+    Record, Shares, State, TimeMs, Withdrawn,
 };
 use pokerbox::{Error, Outcome};
 
@@ -70,18 +70,15 @@ fn node_limits(limits: Limits) -> Result<pokerbox::Limits, Error> {
         bytes,
         tombstones,
         inputs,
+        shares,
     } = limits;
-    pokerbox::Limits::new(pending, bytes, tombstones, inputs)
+    let limits = pokerbox::Limits::new(pending, bytes, tombstones, inputs)?;
+    limits.shared(pokerbox::Shares::new(shares))
 }
 
 /// Those of document 01's worked image.
 fn worked_limits() -> Limits {
-    Limits {
-        pending: 2,
-        bytes: 10,
-        tombstones: 1,
-        inputs: 1,
-    }
+    Limits::checked(2, 10, 1, 1).expect("limits in range")
 }
 
 // ---- every kind of record, from the model's encoder
@@ -99,7 +96,7 @@ fn every() -> Result<Vec<u8>, Error> {
 /// How often each sort of record is there, with other values each time.
 const VARIANTS: usize = 6;
 
-/// A queue with each state, reason and mark, holder or not; with every two of: time deadline or not,
+/// A queue with each state, reason, mark and caller, holder or not; with every two of: time deadline or not,
 /// height deadline or not, no label, an empty and the longest one.
 fn every_record() -> Queue {
     let mut sorts: Vec<(State, Reason, Option<Withdrawn>)> = vec![
@@ -118,12 +115,10 @@ fn every_record() -> Queue {
     ];
     let marks = Withdrawn::ALL.into_iter();
     sorts.extend(marks.map(|mark| (State::Mined, Reason::None, Some(mark))));
-    let mut queue = Queue::fresh(Limits {
-        pending: 18,
-        bytes: 64,
-        tombstones: 64,
-        inputs: 3,
-    });
+    // Shares from 0 to P; some callers have more pending.
+    let shares: Shares = std::array::from_fn(|caller| [0, 18, 1, 9][caller % 4]);
+    let limits = Limits::checked(18, 64, 64, 3).and_then(|limits| limits.shared(shares));
+    let mut queue = Queue::fresh(limits.expect("limits and shares in range"));
     for variant in 0..VARIANTS {
         for (state, reason, mark) in &sorts {
             let n = queue.records.len();
@@ -155,6 +150,7 @@ fn record(n: usize, variant: usize, mark: Option<Withdrawn>, mined: bool) -> Rec
     let (time, height) = (variant % 2 == 1, variant / 3 == 1);
     Record {
         id: nth_id(n),
+        caller: Caller((n % Caller::COUNT) as u8),
         state: State::Queued,
         reason: Reason::None,
         created: TimeMs([0, 5, u64::MAX][n % 3]),
@@ -196,12 +192,10 @@ fn holder(n: usize, variant: usize) -> Holder {
 // ---- as many records, bytes, inputs and outputs as the limits allow, by calls
 
 fn full() -> Result<Vec<u8>, Error> {
-    let limits = Limits {
-        pending: 2,
-        bytes: 10,
-        tombstones: 2,
-        inputs: 2,
-    };
+    let limits = Limits::checked(2, 10, 2, 2).expect("limits in range");
+    let mut shares = [0; 16];
+    (shares[1], shares[15]) = (1, 1);
+    let limits = limits.shared(shares).expect("shares in range");
     let mut queue = pokerbox::Queue::fresh(node_limits(limits)?)?;
     for n in [1, 2] {
         admit(&mut queue, n)?;
@@ -238,6 +232,8 @@ fn tx_id(n: u8) -> pokerbox::TxId {
 fn admit(queue: &mut pokerbox::Queue, n: u8) -> Result<(), Error> {
     let id = |at: u8| -> Id { [0x10 * n + at; 32] };
     let given = pokerbox::Admission {
+        // 1 and 15 in turn.
+        caller: pokerbox::Caller::new([1, 15][usize::from(n % 2)]).expect("a caller"),
         time_deadline: Some(pokerbox::TimeMs(1_000)),
         height_deadline: Some(pokerbox::Height(1_000)),
         priority: i32::from(n),

@@ -1,6 +1,6 @@
 //! Builds the comparison with each wrong edit in `mutants.txt`, of the oracle's text, the model's or the
 //! comparison's own, and looks whether the library is then found to differ, or of an edit of the
-//! model's `rules.rs` or of the comparison the model. The edits are made in a copy of the sources.
+//! model's `rules.rs` or of the comparison the model, unless `mutants.txt` names the library. The edits are made in a copy of the sources.
 //! Where `mutants.txt` names tests, they are run as well.
 
 use std::collections::BTreeSet;
@@ -51,6 +51,8 @@ struct Edit {
     by_tests: bool,
     /// A withdrawn id is selected, and nothing else is looked at.
     withdrawn: bool,
+    /// Of a rule that the oracle has not: the library is compared.
+    library: bool,
     old: String,
     new: String,
 }
@@ -58,7 +60,8 @@ struct Edit {
 impl Edit {
     /// What is compared with the oracle.
     fn side(&self) -> &'static str {
-        match self.file == RULES || self.file.starts_with("compare/") {
+        let by_oracle = self.file == RULES || self.file.starts_with("compare/");
+        match by_oracle && !self.library {
             true => "model",
             false => "library",
         }
@@ -343,7 +346,7 @@ fn read(text: &str) -> Result<Vec<Edit>, String> {
         let parts: Vec<&str> = head.split(" | ").collect();
         let (what, call, mark) = match parts[..] {
             [what, call] => (what, call, ""),
-            [what, call, mark @ ("same" | "tests" | "withdrawn")] => (what, call, mark),
+            [what, call, mark @ ("same" | "tests" | "withdrawn" | "library")] => (what, call, mark),
             _ => return Err(format!("not the head of an edit: {head}")),
         };
         if lines.next() != Some("<<<") {
@@ -359,6 +362,7 @@ fn read(text: &str) -> Result<Vec<Edit>, String> {
             same: mark == "same",
             by_tests: mark == "tests",
             withdrawn: mark == "withdrawn",
+            library: mark == "library",
             old: old.join("\n"),
             new: new.join("\n"),
         });

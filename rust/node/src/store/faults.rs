@@ -11,7 +11,7 @@ use model::{area, image, rules, Confirmation, Id};
 use super::disk::{Disk, Fault};
 use super::files::Store;
 use super::{StoreError, Warning};
-use crate::types::{BlockId, Height, InputId, Limits, OutputId, TimeMs, TxId};
+use crate::types::{BlockId, Caller, Height, InputId, Limits, OutputId, Shares, TimeMs, TxId};
 use crate::{Admission, Reconciliation};
 
 /// Two folders are made for it.
@@ -27,7 +27,9 @@ const STEPS: usize = 20;
 type Stored = Option<Vec<u8>>;
 
 fn limits(of: &model::Limits) -> Limits {
-    Limits::new(of.pending, of.bytes, of.tombstones, of.inputs).expect("limits in range")
+    Limits::new(of.pending, of.bytes, of.tombstones, of.inputs)
+        .and_then(|limits| limits.shared(Shares::new(of.shares)))
+        .expect("limits in range")
 }
 
 fn open(disk: &Disk, of: &model::Limits) -> Result<Store<Disk>, StoreError> {
@@ -114,6 +116,7 @@ fn admission(rng: &mut Rng, limits: &model::Limits) -> rules::Admission {
     let length = rng.up_to(limits.bytes as usize);
     rules::Admission {
         id: random::tx_id(rng, limits),
+        caller: random::caller(rng),
         inputs: random::box_ids(rng, limits),
         outputs: random::box_ids(rng, limits),
         signed: rng.bytes(length),
@@ -132,6 +135,7 @@ fn admission(rng: &mut Rng, limits: &model::Limits) -> rules::Admission {
 fn lent(given: &rules::Admission) -> Admission {
     Admission {
         id: TxId(given.id),
+        caller: Caller::new(given.caller.0).expect("a caller"),
         inputs: given.inputs.iter().map(|id| InputId(*id)).collect(),
         outputs: given.outputs.iter().map(|id| OutputId(*id)).collect(),
         signed: given.signed.clone(),
@@ -524,7 +528,9 @@ fn every_fault_of_commits_and_openings() {
     while tried.commits < wanted_commits() {
         let mut rng = Rng::new(seed);
         seed += 1;
-        let mut unit = Unit::create(random::small_limits(&mut rng));
+        let mut limits = random::small_limits(&mut rng);
+        limits.shares = random::shares(&mut rng, &limits);
+        let mut unit = Unit::create(limits);
         for _ in 0..STEPS {
             let call = Call::random(&mut rng, &unit.machine.queue);
             if !unit.is_due(&call) {
@@ -563,6 +569,7 @@ fn unit_and_call() -> (Unit, Call) {
     let limits = model::Limits::checked(2, 10, 1, 1).expect("limits in range");
     let mut given = admission(&mut Rng::new(1), &limits);
     given.time_deadline = None;
+    given.caller = model::Caller(0);
     (Unit::create(limits), Call::Admit(given))
 }
 

@@ -24,25 +24,39 @@ int main(void) {
     uint8_t id[32], input[32], output[32], out[400];
     const uint8_t signed_bytes[3] = {1, 2, 3};
     const uint8_t none[1] = {0};
+    /* Caller 0 may have all, caller 15 one, and the others nothing. */
+    uint8_t shares[POKERBOX_SHARES_LEN] = {0}, got[POKERBOX_SHARES_LEN];
     uint64_t length, start, empty, p, b, t, k, need;
 
     memset(id, 0x11, sizeof id);
     memset(input, 0x21, sizeof input);
     memset(output, 0x31, sizeof output);
-    expect("P 0", pokerbox_fresh(0, B, T, K, cur, sizeof cur), POKERBOX_LIMIT_OUT_OF_RANGE);
+    shares[3] = P;
+    shares[63] = 1;
+    expect("P 0", pokerbox_fresh(0, B, T, K, shares, sizeof shares, cur, sizeof cur),
+           POKERBOX_LIMIT_OUT_OF_RANGE);
+    expect("63 bytes of shares", pokerbox_fresh(P, B, T, K, shares, 63, cur, sizeof cur),
+           POKERBOX_MALFORMED);
     expect("need under P 0", pokerbox_need(0, B, T, K, &need), POKERBOX_LIMIT_OUT_OF_RANGE);
     expect("need", pokerbox_need(P, B, T, K, &need), POKERBOX_ANSWERED);
     expect("its bytes", need, sizeof cur);
-    expect("fresh", pokerbox_fresh(P, B, T, K, cur, sizeof cur), POKERBOX_ANSWERED);
+    expect("fresh", pokerbox_fresh(P, B, T, K, shares, sizeof shares, cur, sizeof cur),
+           POKERBOX_ANSWERED);
     expect("cancel in empty",
            pokerbox_cancel(cur, sizeof cur, next, sizeof next, id, sizeof id, out, sizeof out),
            POKERBOX_NOT_FOUND);
-    expect("admit",
-           pokerbox_admit(cur, sizeof cur, next, sizeof next, id, sizeof id, input, sizeof input,
+    expect("admit without a share",
+           pokerbox_admit(cur, sizeof cur, next, sizeof next, id, sizeof id, 1, input, sizeof input,
                           output, sizeof output, signed_bytes, sizeof signed_bytes, 5, 0, 0, 0, 0,
                           7, 0, none, 0, 1000, 9, 6, 0, none, 0, out, sizeof out),
+           POKERBOX_SHARE_EXHAUSTED);
+    expect("admit",
+           pokerbox_admit(cur, sizeof cur, next, sizeof next, id, sizeof id, 15, input,
+                          sizeof input, output, sizeof output, signed_bytes, sizeof signed_bytes, 5,
+                          0, 0, 0, 0, 7, 0, none, 0, 1000, 9, 6, 0, none, 0, out, sizeof out),
            POKERBOX_ANSWERED_WHOLE);
-    expect("state", out[32], POKERBOX_STATE_QUEUED);
+    expect("caller", out[32], 15);
+    expect("state", out[33], POKERBOX_STATE_QUEUED);
 
     /* A write is due: the image of the next area would go to a file here. */
     expect("image", pokerbox_image(next, sizeof next, image, sizeof image, &length),
@@ -74,8 +88,10 @@ int main(void) {
     expect("short output", pokerbox_best_fees(next, sizeof next, 3, 9, 5, 6, out, 55),
            POKERBOX_OUTPUT_TOO_SHORT);
 
-    expect("image_limits", pokerbox_image_limits(image, length, &p, &b, &t, &k, &need),
+    expect("image_limits",
+           pokerbox_image_limits(image, length, &p, &b, &t, &k, got, sizeof got, &need),
            POKERBOX_ANSWERED);
+    expect("its shares", (uint64_t)memcmp(got, shares, sizeof shares), 0);
     expect("its P", p, P);
     expect("its B", b, B);
     expect("its T", t, T);
@@ -91,8 +107,9 @@ int main(void) {
     expect("cancel",
            pokerbox_cancel(cur, sizeof cur, next, sizeof next, id, sizeof id, out, sizeof out),
            POKERBOX_ANSWERED_WHOLE);
-    expect("state", out[32], POKERBOX_STATE_CANCELLED);
-    expect("reason", out[33], POKERBOX_REASON_CANCELLED);
+    expect("caller", out[32], 15);
+    expect("state", out[33], POKERBOX_STATE_CANCELLED);
+    expect("reason", out[34], POKERBOX_REASON_CANCELLED);
     expect("settle as failed",
            pokerbox_settle(cur, sizeof cur, next, sizeof next, POKERBOX_KIND_WHOLE,
                            POKERBOX_OUTCOME_FAILED),

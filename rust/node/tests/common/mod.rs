@@ -85,10 +85,19 @@ pub fn many(cases: u64, mut case: impl FnMut(&mut Rng)) {
     }
 }
 
-/// A sound queue and bytes that mostly are its area: exact, with later bytes, or damaged.
-pub fn lent_queue(rng: &mut Rng) -> (Queue, Vec<u8>) {
+/// A sound queue: of caller 0 alone under all to caller 0, or with other shares and callers.
+pub fn sound_queue(rng: &mut Rng) -> Queue {
     let limits = random::small_limits(rng);
     let queue = random::queue(rng, limits);
+    match rng.once_in(3) {
+        true => queue,
+        false => random::with_callers(rng, queue),
+    }
+}
+
+/// A sound queue and bytes that mostly are its area: exact, with later bytes, or damaged.
+pub fn lent_queue(rng: &mut Rng) -> (Queue, Vec<u8>) {
+    let queue = sound_queue(rng);
     let mut bytes = area::encode(&queue);
     match rng.below(12) {
         0 => random::damage(rng, &mut bytes, 900),
@@ -175,6 +184,33 @@ pub fn lent_flag(rng: &mut Rng) -> u8 {
     rng.pick(&[0, 0, 0, 0, 1, 1, 1, 1, 2, 255])
 }
 
+/// A caller, rarely one that there is not.
+pub fn lent_caller(rng: &mut Rng) -> u8 {
+    match rng.below(16) {
+        0 => 16,
+        1 => rng.pick(&[17, 0x80, 0xff]),
+        _ => random::caller(rng).0,
+    }
+}
+
+/// Shares, rarely one over P, rarely not 64 bytes.
+pub fn lent_shares(rng: &mut Rng, limits: &Limits) -> Vec<u8> {
+    let mut shares = random::shares(rng, limits);
+    if rng.once_in(6) {
+        let over = limits.pending.saturating_add(1);
+        shares[rng.below(16)] = rng.pick(&[over, over, 1 << 8, 1 << 24, u32::MAX]);
+    }
+    let bytes = shares.iter().flat_map(|share| share.to_be_bytes());
+    let mut bytes: Vec<u8> = bytes.collect();
+    match rng.below(12) {
+        0 => bytes.truncate(63),
+        1 => bytes.push(0),
+        2 => bytes.resize(rng.pick(&[0, 1, 60, 68, 128]), 0xff),
+        _ => {}
+    }
+    bytes
+}
+
 /// Compares a call that writes `lent` and `out` with the model's.
 pub fn same<N: Number>(
     met: &mut Met,
@@ -240,6 +276,27 @@ pub fn same_reading(
         |_, out| model(area, out),
     );
     assert!(*area == before, "the area");
+}
+
+/// Compares what is said of an image's limits with the model's, with an output for the shares that is
+/// rarely too short.
+#[cfg(exported = "image_limits")]
+pub fn same_image_limits(met: &mut Met, rng: &mut Rng, text: &[u8]) {
+    let shares = output(rng, 64);
+    let before: [u64; 5] = std::array::from_fn(|_| rng.u64());
+    let (mut expected, mut values) = (before, before);
+    let (mut expected_shares, mut given_shares) = (shares.clone(), shares.clone());
+    let [p, b, t, k, need] = &mut expected;
+    let number = model::calls::image_limits(text, p, b, t, k, &mut expected_shares, need);
+    let [p, b, t, k, need] = &mut values;
+    let given = pokerbox::raw::image_limits(text, p, b, t, k, &mut given_shares, need);
+    assert_eq!(given.number(), number);
+    assert_eq!(values, expected);
+    assert_eq!(given_shares, expected_shares);
+    if number < 100 {
+        assert_eq!((values, given_shares), (before, shares), "a refusal wrote");
+    }
+    met.count(number);
 }
 
 /// Compares a reading call that answers numbers with the model's.

@@ -10,6 +10,7 @@ use pokerbox::raw;
 /// What calls are given beside areas and outputs.
 pub struct Args {
     pub id: Vec<u8>,
+    pub caller: u8,
     /// Rising.
     pub ids: Vec<u8>,
     pub now: u64,
@@ -48,6 +49,7 @@ macro_rules! admit_args {
     ($from:ident, $args:expr) => {
         $from::AdmitArgs {
             id: &$args.id,
+            caller: $args.caller,
             inputs: &$args.id,
             outputs: &$args.id,
             signed: b"s",
