@@ -115,18 +115,18 @@ settled = let x = after (watch 132 100 []) at100 in settleNext at100 (areaBytes 
 abbrev topRevision : Queue
 topRevision = record { persisted = 0; limits = limits 2 10 1 1; revision = 18446744073709551615; cursor = 0; tip = none; counter = 0; recs = [] }
 
--- the worked area's queue with one cancelled record
+-- the worked area's queue with one cancelled record, of caller 5
 abbrev worked : Queue
 worked = record {
   persisted = 6;
-  limits = limits 2 10 1 1;
+  limits = record { P = 2; B = 10; T = 1; K = 1; shares = (1 ∷ 0 ∷ 0 ∷ 0 ∷ 0 ∷ 1 ∷ []) ++ replicate 10 0 };
   revision = 2;
   cursor = 6;
   tip = none;
   counter = 1;
   recs = record {
     id = replicate 32 17;
-    caller = 0;
+    caller = 5;
     state = 4;
     reason = 1;
     terms = record { created = 5; due = none; dueHeight = none; priority = 4294967295; label = none; fee = 7; size = 3; cost = 9 };
@@ -367,14 +367,14 @@ cards =
     ∷ same? (queueBytes worked)
     ((0 ∷ 0 ∷ 0 ∷ 6 ∷ [])
     ++ ((4 ∷ 0 ∷ 0 ∷ 0 ∷ 2 ∷ 0 ∷ 0 ∷ 0 ∷ 10 ∷ 0 ∷ 0 ∷ 0 ∷ 1 ∷ 0 ∷ 0 ∷ 0 ∷ 1 ∷ [])
-    ++ ((0 ∷ 0 ∷ 0 ∷ 2 ∷ [])
-    ++ (replicate 60 0
+    ++ ((0 ∷ 0 ∷ 0 ∷ 1 ∷ [])
+    ++ ((replicate 19 0 ++ (1 ∷ replicate 40 0))
     ++ ((0 ∷ 0 ∷ 0 ∷ 0 ∷ 0 ∷ 0 ∷ 0 ∷ 2 ∷ [])
     ++ ((0 ∷ 0 ∷ 0 ∷ 6 ∷ 0 ∷ [])
     ++ ((0 ∷ 0 ∷ 0 ∷ 0 ∷ 0 ∷ 0 ∷ 0 ∷ 1 ∷ 0 ∷ 0 ∷ 0 ∷ 1 ∷ [])
     ++ ((2 ∷ [])
     ++ (replicate 32 17
-    ++ ((0 ∷ 4 ∷ 1 ∷ [])
+    ++ ((5 ∷ 4 ∷ 1 ∷ [])
     ++ ((0 ∷ 0 ∷ 0 ∷ 0 ∷ 0 ∷ 0 ∷ 0 ∷ 5 ∷ 0 ∷ 0 ∷ 255 ∷ 255 ∷ 255 ∷ 255 ∷ 0 ∷ [])
     ++ ((0 ∷ 0 ∷ 0 ∷ 0 ∷ 0 ∷ 0 ∷ 0 ∷ 7 ∷ 0 ∷ 0 ∷ 0 ∷ 3 ∷ 0 ∷ 0 ∷ 0 ∷ 0 ∷ 0 ∷ 0 ∷ 0 ∷ 9 ∷ [])
     ++ (0 ∷ 0 ∷ 0 ∷ 0 ∷ 0 ∷ 0 ∷ 0 ∷ 0 ∷ 0 ∷ 1 ∷ 0 ∷ [])))))))))))))
