@@ -1,14 +1,14 @@
 -- Laws of the image: a text that is read, frames in the other form, and each exit of the calls. Assumes nothing.
 use mathlib.Core.Path.{_≡_, refl, ap, sym, _∙_}
-use mathlib.Core.Bool.{Bool, true, false}
-use mathlib.Core.Option.{some}
+use mathlib.Core.Bool.{Bool, true, false, cond}
+use mathlib.Core.Option.{Option, none, some}
 use mathlib.Core.List.{List, [], _∷_, _++_, append-assoc}
 use Prim.Native.Nat.{ℕ, zero, suc, _+_, _-_, _*_, _≤_, _<_}
 use native.Mathlib.Omega.{arith}
 use native.Mathlib.Nat.{zero-add}
 use lib.ListN.{length, drop, take, getD, replicate, length-append, length-drop, take-append-drop}
-use lib.Seq.{take-at, drop-at, length-take-le}
-use borrow.Author.Tests.{lt-ltb, le-ltb, eq-eqb, ne-eqb}
+use lib.Seq.{take-at, drop-at, drop-drop, length-take-le}
+use borrow.Author.Tests.{lt-ltb, le-ltb, le-leb, leb-true, eq-eqb, ne-eqb}
 use Rattle.queue.specs.declared.Kind.the-variants.{Nothing}
 use Rattle.queue.specs.declared.Answer.the-variants.{Refused, Done}
 use Rattle.queue.specs.declared.frame.Form.{Form}
@@ -17,23 +17,25 @@ use Rattle.queue.specs.declared.frame.Seen.{Seen}
 use Rattle.queue.specs.declared.area.Open.{Open}
 use Rattle.queue.specs.declared.area.Area.{Area}
 use Rattle.queue.specs.Codec as codec
-use Rattle.queue.specs.Codec.{Got, fail, got, Codec, beC, pairC, mapC, optC, encs, decs, vec-bwd}
+use Rattle.queue.specs.Codec.{Got, fail, got, Codec, beC, pairC, mapC, optC, vecC, countedC, encs, decs, vec-bwd}
 use Rattle.queue.specs.Choice.{fixC, sinceC}
-use Rattle.queue.specs.Frames.{Head, idC, limitsC, headK, headC, recK, recC}
+use Rattle.queue.specs.Frames.{Head, idC, idsC, readsEnc, signedEnc, limitsC, headK, headC, recK, recC}
 use Rattle.queue.specs.Reads.{Reads, whole, listAt, behind, isGot, valOf, restOf}
 use Rattle.queue.specs.ReadLaws.{false-true, Turn, none-left, spans-be, spans-id}
 use Rattle.queue.specs.View.{view, view-raw}
 use Rattle.queue.specs.Hex.{text-length}
 use Rattle.queue.specs.Splice.{splice, be, Put}
 use Rattle.queue.specs.Forms.{formC, lineEnc, afterIn, Framed, turn-in, Store, headFor, headIn, recIn, storeIn, areaForm, textForm, framesC, framesEnc, store-length, storeOf, queueWith, queueC, form-raw, ok-queue}
-use Rattle.queue.specs.Facts.{limitsIn, limitsLen, HeadUnder}
-use Rattle.queue.specs.Kinds.{rec-enc, recTail, headTail, head-first}
+use Rattle.queue.specs.Facts.{factsOf, limitsIn, limitsLen, SeenUnder, HeadUnder}
+use Rattle.queue.specs.Kinds.{rec-enc, recMid, body-said, headTail, head-first}
 use Rattle.queue.specs.Areas.{kindOf, readImage, layout, image, image-found, image-none, image-unknown}
 use Rattle.queue.specs.Opens.{needMost, limits, StoreAs, soundL, sound-list, AreaAs, AreaIs}
 use Rattle.queue.specs.Plain.{area-plain, image-plain}
 use Rattle.queue.specs.Bound.{fits-need, area-size, reads-image}
-use Rattle.queue.specs.paper.Records.{Bytes, Limits, Rec, Queue}
-use Rattle.queue.specs.paper.Kinds.{newest, kind?, hasCallers}
+use Rattle.queue.specs.paper.Records.{Bytes, Id, Limits, Held, Rec, Queue}
+use Rattle.queue.specs.paper.Lists.{isSome, isEmpty?, maybe}
+use Rattle.queue.specs.declared.frame.Facts.{Facts}
+use Rattle.queue.specs.paper.Kinds.{newest, kind?, hasCallers, hasReads, readsSaid?}
 use Rattle.queue.specs.paper.Sound.{need, inRange, sound?}
 use Rattle.queue.specs.paper.Area.{areaBytes, sharesBytes, line, imageBytes, over}
 use Rattle.queue.specs.paper.Calls.{limitsOf}
@@ -44,7 +46,7 @@ use Rattle.queue.proofs.ShareLaws.{sixteen, shares-bytes}
 use Rattle.queue.proofs.WriteLaws.{limits-long}
 use Rattle.queue.proofs.Turns.{SeenForm, ReadsForm}
 use Rattle.image.specs.declared.text.Text.{Text}
-use Rattle.image.specs.Texts.{TextAs, TextIs, StoreRoom, StorePut, AreaHeld, ImageLen, AreaRoom, AreaPut}
+use Rattle.image.specs.Texts.{TextAs, TextIs, callerEnd, StoreRoom, StorePut, AreaHeld, ImageLen, AreaRoom, AreaPut}
 use Rattle.image.specs.paper.Image.{imageOf, openOf, Five, needOf, imageLimitsOf}
 
 -- ---- a text
@@ -134,55 +136,164 @@ parted v a b n k e l h =
     let o : n - k ≡ length b = omega arith in
     (ap (take k) g ∙ take-at a (b ++ drop n v) k l, ap (take (n - k)) d ∙ take-at b (drop n v) (n - k) (sym o), omega arith)
 
-module _ (form : Form) {s : Bytes} {base n : ℕ} {ok : Bool} {r : Rec} (f : Framed (recK (form .kind)) (form .hex) s base ok n r) where
+none-ids : idsC .enc [] ≡ 0 ∷ 0 ∷ []
+unfolding countedC vecC encs
+none-ids = refl
+
+module _ (form : Form) {s : Bytes} {base : ℕ} {x : Seen} {r : Rec} (w : SeenUnder (form .kind) (view (form .hex) s base) x r) (f : Framed (recK (form .kind)) (form .hex) s base (x .ok) (x .size) r) where
+  abbrev seen : Bytes
+  seen = view (form .hex) s base
+
   abbrev front : Bytes
   front = 2 ∷ idC .enc (r .id)
 
-  -- a kind that has callers has the same bytes
-  pub rec-same : hasCallers (form .kind) ≡ true → recIn areaForm .enc r ≡ take n (view (form .hex) s base)
-  unfolding formC
-  rec-same t = rec-enc newest r ∙ sym (f .bytes ∙ rec-enc (form .kind) r ∙ ap (λ (b : Bool). front ++ (sinceC b (beC 1) 0 .enc (r .caller) ++ recTail r)) t)
+  abbrev caller : Bytes
+  caller = beC 1 .enc (r .caller)
 
-  pub same-long : hasCallers (form .kind) ≡ true → length (recIn areaForm .enc r) ≡ n
+  -- the caller where the kind has it
+  abbrev callers : Bool → Bytes
+  callers b = sinceC b (beC 1) 0 .enc (r .caller)
+
+  abbrev tail : Bytes
+  tail = recMid r ++ (readsEnc (form .kind) (r .body) ++ signedEnc (r .body))
+
+  front-long : length front ≡ 33
+  unfolding recK mapC pairC
+  front-long = let i = spans-id .size (r .id) (f .fine .1 .0) in omega arith
+
+  caller-long : length caller ≡ 1
+  unfolding beC
+  caller-long = codec.be-length 1 (r .caller)
+
+  lead-long : (b : Bool) → length (front ++ callers b) ≡ cond b 34 33
+  unfolding fixC
+  lead-long true = let c = caller-long in let l = front-long in length-append front caller ∙ omega arith
+  lead-long false = let l = front-long in length-append front [] ∙ omega arith
+
+  lead-parts : (take (callerEnd (form .kind)) seen ≡ front ++ callers (hasCallers (form .kind))) × (take (x .size - callerEnd (form .kind)) (drop (callerEnd (form .kind)) seen) ≡ tail) × (callerEnd (form .kind) ≤ x .size)
+  lead-parts =
+      parted seen (front ++ callers (hasCallers (form .kind))) tail (x .size) (callerEnd (form .kind))
+      (f .bytes ∙ rec-enc (form .kind) r ∙ sym (append-assoc front (callers (hasCallers (form .kind))) tail))
+      (lead-long (hasCallers (form .kind))) (f .within)
+
+  pub lead-in : (callerEnd (form .kind) ≤ length seen) × (34 ≤ length (recIn areaForm .enc r))
   unfolding formC
-  same-long t = ap length (rec-enc newest r ∙ sym (rec-enc (form .kind) r ∙ ap (λ (b : Bool). front ++ (sinceC b (beC 1) 0 .enc (r .caller) ++ recTail r)) t)) ∙ f .size
+  lead-in =
+      let a = lead-parts .2 in
+      let b = f .within in
+      let c = ap length (rec-enc newest r) ∙ length-append front (caller ++ (recMid r ++ (readsEnc newest (r .body) ++ signedEnc (r .body)))) in
+      let d = length-append caller (recMid r ++ (readsEnc newest (r .body) ++ signedEnc (r .body))) in
+      let e = front-long in
+      let g = caller-long in
+      (omega arith, omega arith)
+
+  module _ (t : hasCallers (form .kind) ≡ true) where
+    pub lead-has : callerEnd (form .kind) ≡ 34
+    lead-has = rw t
+
+    pub lead-yes : take 34 (drop 0 seen) ≡ front ++ caller
+    lead-yes = ap (λ (n : ℕ). take n seen) (sym lead-has) ∙ lead-parts .0 ∙ ap (λ (b : Bool). front ++ callers b) t
 
   module _ (t : hasCallers (form .kind) ≡ false) where
-    older-bytes : recK (form .kind) .enc r ≡ front ++ recTail r
-    unfolding fixC
-    older-bytes = rec-enc (form .kind) r ∙ ap (λ (b : Bool). front ++ (sinceC b (beC 1) 0 .enc (r .caller) ++ recTail r)) t
-
-    front-long : length front ≡ 33
-    unfolding recK mapC pairC
-    front-long = let i = spans-id .size (r .id) (f .fine .1 .0) in omega arith
+    pub lead-not : callerEnd (form .kind) ≡ 33
+    lead-not = rw t
 
     no-caller : r .caller ≡ 0
     unfolding recK mapC pairC fixC
     no-caller = let c = f .fine .1 .1 .0 in let d : sinceC false (beC 1) 0 .ok (r .caller) = rw t at c in d
 
-    older-parts : (take 33 (view (form .hex) s base) ≡ front) × (take (n - 33) (drop 33 (view (form .hex) s base)) ≡ recTail r) × (33 ≤ n)
-    older-parts = parted (view (form .hex) s base) front (recTail r) n 33 (f .bytes ∙ older-bytes) front-long (f .within)
+    pub lead-no : take 33 (drop 0 seen) ++ (0 ∷ []) ≡ front ++ caller
+    unfolding beC fixC
+    lead-no =
+        ap (λ (y : Bytes). y ++ (0 ∷ [])) (ap (λ (n : ℕ). take n seen) (sym lead-not) ∙ lead-parts .0 ∙ ap (λ (b : Bool). front ++ callers b) t)
+        ∙ append-assoc front [] (0 ∷ []) ∙ ap (λ (c : ℕ). front ++ codec.be 1 c) (sym no-caller)
 
-    pub older-enough : 33 ≤ n
-    older-enough = older-parts .2
+  -- a kind that has read ids has the same bytes
+  module _ (t : hasReads (form .kind) ≡ true) where
+    callers-too : hasCallers (form .kind) ≡ true
+    callers-too = let h = leb-true 5 (form .kind) t in le-leb 4 (form .kind) (omega arith)
 
-    pub rec-older : recIn areaForm .enc r ≡ (take 33 (drop 0 (view (form .hex) s base)) ++ (0 ∷ [])) ++ take (n - 33) (drop 33 (view (form .hex) s base))
-    unfolding formC beC
-    rec-older =
-        rec-enc newest r ∙ ap (λ (c : ℕ). front ++ (codec.be 1 c ++ recTail r)) no-caller
-        ∙ sym (two (ap (λ (x : Bytes). x ++ (0 ∷ [])) (older-parts .0)) (older-parts .1) ∙ append-assoc front (0 ∷ []) (recTail r))
+    same-enc : recK newest .enc r ≡ recK (form .kind) .enc r
+    same-enc =
+        rec-enc newest r
+        ∙ sym (rec-enc (form .kind) r ∙ ap (λ (b : Bool). front ++ (callers b ++ tail)) callers-too
+        ∙ ap (λ (b : Bool). front ++ (caller ++ (recMid r ++ (maybe [] (λ h. sinceC b idsC [] .enc (h .reads)) (r .body) ++ signedEnc (r .body))))) t)
+
+    pub rec-same : recIn areaForm .enc r ≡ take (x .size) seen
+    unfolding formC
+    rec-same = same-enc ∙ sym (f .bytes)
+
+    pub same-long : length (recIn areaForm .enc r) ≡ x .size
+    unfolding formC
+    same-long = ap length same-enc ∙ f .size
+
+  -- one that has none has no bytes for them
+  module _ (t : hasReads (form .kind) ≡ false) where
+    none-enc : (o : Option Held) → readsEnc (form .kind) o ≡ []
+    unfolding fixC
+    none-enc none = refl
+    none-enc (some h) = ap (λ (b : Bool). sinceC b idsC [] .enc (h .reads)) t
+
+    zero-enc : (o : Option Held) → readsSaid? (form .kind) o ≡ true → readsEnc newest o ≡ cond (isSome o) (0 ∷ 0 ∷ []) []
+    zero-enc none e = refl
+    zero-enc (some h) e = let z : isEmpty? (h .reads) ≡ true = rw t at e in empty (h .reads) z
       where
-        two : {a a′ b b′ : Bytes} → a ≡ a′ → b ≡ b′ → a ++ b ≡ a′ ++ b′
+        empty : (l : List Id) → isEmpty? l ≡ true → idsC .enc l ≡ 0 ∷ 0 ∷ []
+        empty l z = go l z
+          where
+            go : (l : List Id) → isEmpty? l ≡ true → idsC .enc l ≡ 0 ∷ 0 ∷ []
+            go [] z = none-ids
+            go (i ∷ l) z = false-true z
+
+    unread-enc : readsEnc newest (r .body) ≡ cond (x .facts .holder) (0 ∷ 0 ∷ []) []
+    unfolding recK mapC pairC factsOf
+    unread-enc = zero-enc (r .body) (body-said (form .kind) (r .body) (f .fine .1 .1 .1 .1 .1 .1 .1 .1 .1)) ∙ ap (λ (b : Bool). cond b (0 ∷ 0 ∷ []) []) (sym (ap (λ (y : Facts). y .holder) (w .facts)))
+
+    older-parts : (take (x .reads - callerEnd (form .kind)) (drop (callerEnd (form .kind)) seen) ≡ recMid r) × (take (x .size - x .reads) (drop (x .reads) seen) ≡ signedEnc (r .body)) × (callerEnd (form .kind) ≤ x .reads)
+    older-parts =
+        let e = callerEnd (form .kind) in
+        let a : take (x .size - e) (drop e seen) ≡ recMid r ++ signedEnc (r .body) = lead-parts .1 ∙ ap (λ (d : Bytes). recMid r ++ (d ++ signedEnc (r .body))) (none-enc (r .body)) in
+        let h = f .within in
+        let k = lead-parts .2 in
+        let l = length-drop e seen in
+        let m : length (recMid r) + length (signedEnc (r .body)) ≡ x .size - e = sym (length-append (recMid r) (signedEnc (r .body))) ∙ ap length (sym a) ∙ length-take-le (x .size - e) (drop e seen) (omega arith) in
+        let g = w .tail t in
+        let p = parted (drop e seen) (recMid r) (signedEnc (r .body)) (x .size - e) (x .reads - e) a (omega arith) (omega arith) in
+        let n : x .size - e - (x .reads - e) ≡ x .size - x .reads = omega arith in
+        let o : e + (x .reads - e) ≡ x .reads = omega arith in
+        (p .0, ap (λ (y : Bytes). take (x .size - x .reads) y) (ap (λ (i : ℕ). drop i seen) (sym o) ∙ sym (drop-drop (x .reads - e) e seen)) ∙ ap (λ (i : ℕ). take i (drop (x .reads - e) (drop e seen))) (sym n) ∙ p .1, omega arith)
+
+    pub older-in : (callerEnd (form .kind) ≤ x .reads) × (x .reads ≤ x .size) × (x .size ≤ length seen)
+    older-in = let g = w .tail t in (older-parts .2, omega arith, f .within)
+
+    pub rec-older : recIn areaForm .enc r ≡ (((front ++ caller) ++ take (x .reads - callerEnd (form .kind)) (drop (callerEnd (form .kind)) seen)) ++ cond (x .facts .holder) (0 ∷ 0 ∷ []) []) ++ take (x .size - x .reads) (drop (x .reads) seen)
+    unfolding formC
+    rec-older =
+        rec-enc newest r ∙ ap (λ (d : Bytes). front ++ (caller ++ (recMid r ++ (d ++ signedEnc (r .body))))) unread-enc
+        ∙ two (sym (older-parts .0)) (sym (older-parts .1))
+        ∙ join front caller (take (x .reads - callerEnd (form .kind)) (drop (callerEnd (form .kind)) seen)) (cond (x .facts .holder) (0 ∷ 0 ∷ []) []) (take (x .size - x .reads) (drop (x .reads) seen))
+      where
+        two : {m m′ z z′ : Bytes} → m ≡ m′ → z ≡ z′ → front ++ (caller ++ (m ++ (cond (x .facts .holder) (0 ∷ 0 ∷ []) [] ++ z))) ≡ front ++ (caller ++ (m′ ++ (cond (x .facts .holder) (0 ∷ 0 ∷ []) [] ++ z′)))
         two p q = rw (p, q)
 
-    pub older-long : length (recIn areaForm .enc r) ≡ n + 1
-    unfolding formC beC
+        join : (a b m d z : Bytes) → a ++ (b ++ (m ++ (d ++ z))) ≡ (((a ++ b) ++ m) ++ d) ++ z
+        join a b m d z = sym (simp append-assoc)
+
+    pub older-long : length (recIn areaForm .enc r) ≡ 34 + (x .reads - callerEnd (form .kind)) + cond (x .facts .holder) 2 0 + (x .size - x .reads)
     older-long =
-        let a = ap length older-bytes ∙ length-append front (recTail r) in
-        let b = f .size in
-        let c = codec.be-length 1 (r .caller) in
-        ap length (rec-enc newest r) ∙ length-append front (codec.be 1 (r .caller) ++ recTail r)
-        ∙ ap (λ (k : ℕ). length front + k) (length-append (codec.be 1 (r .caller)) (recTail r)) ∙ omega arith
+        let a = length-take-le (x .reads - callerEnd (form .kind)) (drop (callerEnd (form .kind)) seen) (omega (arith, older-in .0, older-in .1, older-in .2, length-drop (callerEnd (form .kind)) seen)) in
+        let b = length-take-le (x .size - x .reads) (drop (x .reads) seen) (omega (arith, older-in .1, older-in .2, length-drop (x .reads) seen)) in
+        ap length rec-older ∙ sizes front caller _ _ _ ∙ total front-long caller-long a (two (x .facts .holder)) b
+      where
+        sizes : (a b m d z : Bytes) → length ((((a ++ b) ++ m) ++ d) ++ z) ≡ length a + length b + length m + length d + length z
+        sizes a b m d z = simp length-append
+
+        two : (b : Bool) → length {A = ℕ} (cond b (0 ∷ 0 ∷ []) []) ≡ cond b 2 0
+        two true = refl
+        two false = refl
+
+        total : {a b m d z m′ d′ z′ : ℕ} → a ≡ 33 → b ≡ 1 → m ≡ m′ → d ≡ d′ → z ≡ z′ → a + b + m + d + z ≡ 34 + m′ + d′ + z′
+        total e f g h i = omega arith
 
 -- a header's: its kind, its limits, and what stands behind them
 module _ (form : Form) {s : Bytes} {base : ℕ} {x : HeadR} {h : Head} (w : HeadUnder (form .kind) (view (form .hex) s base) x h) (f : Framed (headK (form .kind)) (form .hex) s base (x .ok) (x .size) h) where

@@ -1,10 +1,12 @@
 -- What a queue that was read from a text says of the queue, and what the writers of the other form need and ensure.
 use mathlib.Core.Path.{_≡_}
-use mathlib.Core.Bool.{true, false}
+use mathlib.Core.Bool.{true, false, cond}
 use mathlib.Core.Option.{none, some}
+use mathlib.Core.List.{_∷_, _++_}
 use Prim.Native.Nat.{ℕ, _+_, _≤_}
 use lib.ListN.{length}
-use Rattle.queue.specs.Frames.{Head, headK, recK}
+use Rattle.queue.specs.Codec.{beC}
+use Rattle.queue.specs.Frames.{Head, idC, headK, recK}
 use Rattle.queue.specs.Forms.{Framed, Store, headIn, recIn, storeIn, areaForm, storeOf, queueC}
 use Rattle.queue.specs.Facts.{SeenUnder, HeadUnder}
 use Rattle.queue.specs.View.{view}
@@ -17,6 +19,7 @@ use Rattle.queue.specs.declared.frame.Seen.{Seen}
 use Rattle.queue.specs.declared.area.Open.{Open}
 use Rattle.queue.specs.declared.area.Area.{Area}
 use Rattle.queue.specs.paper.Records.{Bytes, Rec, Queue}
+use Rattle.queue.specs.paper.Kinds.{hasCallers}
 use Rattle.queue.specs.paper.Sound.{need, sound?}
 use Rattle.queue.specs.paper.Area.{areaBytes, imageBytes}
 use Rattle.image.specs.declared.text.Text.{Text}
@@ -52,6 +55,15 @@ pub record RecRoom (form : Form) (s : Bytes) (base : ℕ) (x : Seen) (at m : ℕ
   pub is : SeenUnder (form .kind) (view (form .hex) s base) x rec
   pub frame : Framed (recK (form .kind)) (form .hex) s base (x .ok) (x .size) rec
   pub room : at + length (recIn areaForm .enc rec) ≤ m
+
+-- how far the caller reaches in a record of that kind
+abbrev pub callerEnd : ℕ → ℕ
+callerEnd k = cond (hasCallers k) 34 33
+
+abbrev pub LeadPut : Form → Bytes → ℕ → Seen → Bytes → ℕ → ℕ → Bytes → Type 0
+LeadPut form s base x d at r d′ =
+    (y : Rec) → SeenUnder (form .kind) (view (form .hex) s base) x y → Framed (recK (form .kind)) (form .hex) s base (x .ok) (x .size) y
+    → Put d at ((2 ∷ idC .enc (y .id)) ++ beC 1 .enc (y .caller)) 34 r d′
 
 abbrev pub RecPut : Form → Bytes → ℕ → Seen → Bytes → ℕ → ℕ → Bytes → Type 0
 RecPut form s base x d at r d′ =

@@ -5,15 +5,18 @@ use queue::frame::CALLERS;
 use queue::frame::Form;
 use queue::frame::HeadR;
 use queue::frame::NEWEST;
+use queue::frame::READS;
 use queue::frame::Seen;
 use queue::frame::rec_at;
 use queue::frame::rec_in;
 use queue::head::put_limits;
 use queue::put::copy_view;
+use queue::put::put_be;
 use queue::put::put_text;
 use queue::put::put_u8;
 ghost use mathlib.Core.Path.{_≡_};
-ghost use mathlib.Core.Bool.{true};
+ghost use mathlib.Core.Bool.{true, cond};
+ghost use mathlib.Core.List.{[], _∷_};
 ghost use Prim.Native.Nat.{_+_, _*_, _≤_};
 ghost use lib.ListN.{length, take, drop};
 ghost use Rattle.queue.specs.Codec.{encs};
@@ -22,7 +25,7 @@ ghost use Rattle.queue.specs.Reads.{whole, listAt};
 ghost use Rattle.queue.specs.Splice.{Put};
 ghost use Rattle.queue.specs.paper.Area.{line};
 ghost use Rattle.queue.specs.paper.Kinds.{newest};
-ghost use Rattle.image.specs.Texts.{HeadRoom, HeadPut, RecRoom, RecPut, StoreRoom, StorePut};
+ghost use Rattle.image.specs.Texts.{HeadRoom, HeadPut, callerEnd, RecRoom, LeadPut, RecPut, StoreRoom, StorePut};
 
 // The frame of n bytes at base as a line.
 fn put_line(s: &[u8], base: usize, n: usize, dst: &mut [u8], at: usize) -> usize
@@ -72,17 +75,50 @@ fn put_head(s: &[u8], form: Form, base: usize, h: HeadR, dst: &mut [u8], at: usi
     copy_view(s, form.hex, base, from, h.size - from, dst, b)
 }
 
-// The record that was read at base, under the newest kind: the older ones have no caller, which is 0.
+// How far the caller reaches in a record of that kind: behind the frame's kind and the id, where the older ones have none.
+fn caller_end(kind: u8) -> usize
+    ensures { λ r. ⌜ r ≡ callerEnd kind ⌝ }
+{
+    if CALLERS <= kind { 34 } else { 33 }
+}
+
+// The frame's kind, the id and the caller of the record that was read at base: where it has none, 0.
+fn put_lead(s: &[u8], form: Form, base: usize, x: Seen, dst: &mut [u8], at: usize) -> usize
+    requires { ⌜ RecRoom form (now s) base x at (length (now dst)) ⌝ }
+    ensures { λ r. ⌜ LeadPut form (now (s .entry)) base x (now (dst .entry)) at r (now (dst .exit)) ⌝ }
+{
+    if CALLERS <= form.kind {
+        return copy_view(s, form.hex, base, 0, 34, dst, at);
+    }
+    let a = copy_view(s, form.hex, base, 0, 33, dst, at);
+    put_u8(dst, a, 0)
+}
+
+// That a holder reads nothing.
+fn put_unread(holder: bool, dst: &mut [u8], at: usize) -> usize
+    requires { ⌜ at + cond holder 2 0 ≤ length (now dst) ⌝ }
+    ensures { λ r. ⌜ Put (now (dst .entry)) at (cond holder (0 ∷ 0 ∷ []) []) (cond holder 2 0) r (now (dst .exit)) ⌝ }
+{
+    if holder {
+        return put_be(dst, at, 2, 0);
+    }
+    at
+}
+
+// The record that was read at base, under the newest kind: the older ones have no read ids, and some no caller.
 fn put_rec(s: &[u8], form: Form, base: usize, x: Seen, dst: &mut [u8], at: usize) -> usize
     requires { ⌜ RecRoom form (now s) base x at (length (now dst)) ⌝ }
     ensures { λ r. ⌜ RecPut form (now (s .entry)) base x (now (dst .entry)) at r (now (dst .exit)) ⌝ }
 {
-    if CALLERS <= form.kind {
+    if READS <= form.kind {
         return copy_view(s, form.hex, base, 0, x.size, dst, at);
     }
-    let a = copy_view(s, form.hex, base, 0, 33, dst, at);
-    let b = put_u8(dst, a, 0);
-    copy_view(s, form.hex, base, 33, x.size - 33, dst, b)
+    let f = x.facts;
+    let from = caller_end(form.kind);
+    let a = put_lead(s, form, base, x, dst, at);
+    let b = copy_view(s, form.hex, base, from, x.reads - from, dst, a);
+    let c = put_unread(f.holder, dst, b);
+    copy_view(s, form.hex, base, x.reads, x.size - x.reads, dst, c)
 }
 
 // The n records at `at` under the newest kind.

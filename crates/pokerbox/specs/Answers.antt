@@ -102,16 +102,17 @@ rules-good (admitting a) q room old u h f = cases (overK? (q .limits .K) a)
       id = h .0 .0;
       inputs = h .0 .1 .0;
       outputs = h .0 .1 .1 .0;
-      bytes = h .0 .1 .1 .1 .0;
+      reads = h .0 .1 .1 .1 .0;
+      bytes = h .0 .1 .1 .1 .1 .0;
       now = h .1 .0;
       time = h .1 .1 .0;
       height = h .1 .1 .1 .0;
       priority = h .1 .1 .1 .1 .0;
-      label = h .0 .1 .1 .1 .1 .0;
+      label = h .0 .1 .1 .1 .1 .1 .0;
       fee = h .1 .1 .1 .1 .1 .0;
       cost = h .1 .1 .1 .1 .1 .1 .0;
       tipHeight = h .1 .1 .1 .1 .1 .1 .1;
-      tip = h .0 .1 .1 .1 .1 .1;
+      tip = h .0 .1 .1 .1 .1 .1 .1;
     }
 rules-good (cancelling i) q room old u h f =
     worked-good entryBytes room old q (cancel i q) (whole-goods old q (cancel i q) (cancel-leaves i q f) (cancel-wholly i q))

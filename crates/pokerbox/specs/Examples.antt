@@ -12,7 +12,7 @@ use Rattle.queue.specs.paper.Records.{Bytes, Limits}
 use Rattle.queue.specs.paper.Lists.{map}
 use Rattle.queue.specs.paper.Ids.{cmpL, rise?}
 use Rattle.queue.specs.paper.Kinds.{firstShare}
-use Rattle.queue.specs.paper.Sound.{inRange, sharesRight?, limitsRight?, need, used?, clash?}
+use Rattle.queue.specs.paper.Sound.{inRange, sharesRight?, limitsRight?, need, used?, clash?, read?, crossed?}
 use Rattle.queue.specs.paper.Area.{termsBytes, placeBytes}
 use Rattle.queue.specs.paper.Changing.{committed, moved, newRec, admit, finished, finishThose, forget, cancel, reconcile, touch, releases, touchedRecs, toRelease}
 use Rattle.queue.specs.paper.Calls.{number, items, entryBytes, idsBytes, releasedBytes, Call, admitting, cancelling, reconciling, work}
@@ -26,11 +26,11 @@ m = record { P = 1; B = 4; T = 1; K = 1; shares = firstShare 1 }
 
 -- enough of each
 abbrev lent : Lent
-lent = record { next = replicate 2184 0; out = replicate 300 0; text = replicate 4372 0; other = replicate 2184 0 }
+lent = record { next = replicate 2248 0; out = replicate 300 0; text = replicate 4500 0; other = replicate 2248 0 }
 
 -- a next area too short
 abbrev short : Lent
-short = record { next = replicate 2183 0; out = replicate 300 0; text = replicate 4372 0; other = replicate 2184 0 }
+short = record { next = replicate 2247 0; out = replicate 300 0; text = replicate 4500 0; other = replicate 2248 0 }
 
 abbrev id : ℕ → Bytes
 id n = replicate 32 n
@@ -41,6 +41,7 @@ enters n = admitting (record {
   caller = 0;
   inputs = id 9;
   outputs = [];
+  reads = [];
   bytes = 1 ∷ 2 ∷ 3 ∷ [];
   now = 5;
   timeFlag = 0;
@@ -103,7 +104,7 @@ all = (map numbers (run (plainStep m) start steps .0), map shown (take 4 steps �
 -- After four steps the bound is reached, 131 to 100. After the cut before the rename the record is pending still, at 100; at the
 -- end it is cancelled, and nothing is claimed of the cursor.
 plain-says : all ≡ (wanted, ((true, (131, 100)), 0 ∷ []) ∷ ((false, (100, 100)), 0 ∷ []) ∷ ((false, (132, 100)), 4 ∷ []) ∷ [])
-unfolding plainStep work admit cancel reconcile need clash? items used? entryBytes newRec termsBytes placeBytes committed cmpL rise? touchedRecs toRelease releases touch releasedBytes idsBytes moved finished finishThose forget
+unfolding plainStep work admit cancel reconcile need clash? read? crossed? items used? entryBytes newRec termsBytes placeBytes committed cmpL rise? touchedRecs toRelease releases touch releasedBytes idsBytes moved finished finishThose forget
 plain-says = refl
 
 -- ---- the claim of this list
@@ -112,19 +113,19 @@ pub small : (n b : ℕ) → b < 256 → Small (replicate n b)
 small zero b h = tt
 small (suc n) b h = (h, small n b h)
 
-needs : need m ≡ 2184
+needs : need m ≡ 2248
 unfolding need
 needs = refl
 
 text-room : imageRoom m ≤ length (lent .text)
-text-room = let a = needs in let b = length-replicate {A = ℕ} 4372 0 in omega arith
+text-room = let a = needs in let b = length-replicate {A = ℕ} 4500 0 in omega arith
 
 other-room : need m ≤ length (lent .other)
-other-room = let a = needs in let b = length-replicate {A = ℕ} 2184 0 in omega arith
+other-room = let a = needs in let b = length-replicate {A = ℕ} 2248 0 in omega arith
 
 enters-ok : (n : ℕ) → n < 256 → CallOk (enters n)
 enters-ok n h = (
-  (small 32 n h, (small 32 9 (omega arith), (tt, ((omega arith, (omega arith, (omega arith, tt))), (tt, tt))))),
+  (small 32 n h, (small 32 9 (omega arith), (tt, (tt, ((omega arith, (omega arith, (omega arith, tt))), (tt, tt)))))),
   (omega arith, (omega arith, (omega arith, (omega arith, (omega arith, (omega arith, omega arith)))))),
 )
 
@@ -144,7 +145,7 @@ steps-ok =
     (a, (a, (b, (d, (c, (c, (other-room, (e, tt))))))))
 
 abbrev began : World
-began = world m (replicate 2184 0) none
+began = world m (replicate 2248 0) none
 
 range : limitsRight? m ≡ true
 unfolding inRange sharesRight?
@@ -152,7 +153,7 @@ range = refl
 
 pub holds : Holds m none Image steps (run (worldStep m) began steps) (run (plainStep m) start steps)
 unfolding Claim
-holds = the-claim m (replicate 2184 0) none steps range other-room (roomy m steps range steps-ok)
+holds = the-claim m (replicate 2248 0) none steps range other-room (roomy m steps range steps-ok)
 
 -- so the run on bytes says the same
 pub bytes-say : map numbers (run (worldStep m) began steps .0) ≡ wanted

@@ -54,7 +54,7 @@ unfolding imageLimitsOf
 image-limits q old shares f e h = rw (fit-image q f e, le-ltb (length shares) 64 h)
 
 -- ---- cards: document 01's worked image, under 03 and as it was under 01, and a limit of 0
-pub worked-need : (old : ℕ) → needOf (limits 2 10 1 1) old ≡ (Done Nothing, 3348)
+pub worked-need : (old : ℕ) → needOf (limits 2 10 1 1) old ≡ (Done Nothing, 3476)
 unfolding needOf inRange need
 worked-need old = refl
 
@@ -69,11 +69,11 @@ worked = record { P = 2; B = 10; T = 1; K = 1; shares = firstShare 2 }
 abbrev two : Bytes
 two = (0 ∷ 0 ∷ 0 ∷ 2 ∷ []) ++ replicate 60 0
 
-pub worked-limits : (old : Five) → imageLimitsOf (imageBytes (fresh worked)) old (replicate 64 9) ≡ (Done Nothing, ((2, (10, (1, (1, 3348)))), two))
+pub worked-limits : (old : Five) → imageLimitsOf (imageBytes (fresh worked)) old (replicate 64 9) ≡ (Done Nothing, ((2, (10, (1, (1, 3476)))), two))
 unfolding inRange sharesRight? need sharesBytes over
 worked-limits old = image-limits (fresh worked) old (replicate 64 9) (fresh-fit worked refl) refl (omega arith)
 
-pub older-limits : (old : Five) → imageLimitsOf (imageUnder 1 (fresh worked)) old (replicate 64 9) ≡ (Done Nothing, ((2, (10, (1, (1, 3348)))), two))
+pub older-limits : (old : Five) → imageLimitsOf (imageUnder 1 (fresh worked)) old (replicate 64 9) ≡ (Done Nothing, ((2, (10, (1, (1, 3476)))), two))
 unfolding imageLimitsOf inRange sharesRight? need says? cmpL sharesBytes over
 older-limits old =
     let q = fresh worked in

@@ -19,7 +19,7 @@ use Rattle.queue.specs.Areas.{readArea, readImage}
 use Rattle.queue.specs.Reconciles.{reconcileTo}
 use Rattle.queue.specs.paper.Records.{Bytes, Id, Limits, Held, Rec, Queue}
 use Rattle.queue.specs.paper.Lists.{isSome, maybe, any?, total, count, find, isEmpty?}
-use Rattle.queue.specs.paper.Sound.{inRange, sharesRight?, need, holder?, pending?, mined?, labelLen, clash?}
+use Rattle.queue.specs.paper.Sound.{inRange, sharesRight?, need, holder?, pending?, mined?, labelLen, clash?, crossed?}
 use Rattle.queue.specs.paper.Area.{imageBytes, over}
 use Rattle.queue.specs.paper.Changing.{Out, refused, done, top, topHeight, named?, reached?, Admission, pendings, pendingBytes, pendingsOf, shareOf, admitNew, admit, cancel, due?, expire, Reconciling, touch, reconcile, listed?, reopen, setCursor, ownOf, touchedRecs, toRelease}
 use Rattle.queue.specs.paper.Calls.{id?, entryBytes, idsBytes, releasedBytes, nothingBytes, items, given, Call, admitting, cancelling, expiring, reconciling, reopening, settingCursor, AdmitArgs, admission, ReconcileArgs, reconciliation, shape?, overK?, Worked, worked, rules, work, nextArea, onLent, callOf, limitsOf, freshOf, soundOf, settleShape?, settleOf, readOf, numberOf, lookUp, entryOf, signedPart, signedBytesOf}
@@ -68,12 +68,13 @@ module _ (a : AdmitArgs) (q : Queue) (room : ℕ) where
   abbrev x : Admission
   x = admission a
 
-  -- 10, 18, 11, 12, then 4
+  -- 10, 18, 11, 12, 20, then 4
   abbrev late : Checks
   late = (10, leb (q .limits .P) (pendings (q .recs)))
       ∷ (18, leb (shareOf (x .caller) (q .limits)) (pendingsOf (x .caller) (q .recs)))
       ∷ (11, ltb (q .limits .B) (pendingBytes (q .recs) + length (x .held .bytes)))
       ∷ (12, clash? (x .held .ins) (q .recs))
+      ∷ (20, crossed? (x .held .ins) (x .held .reads) (q .recs))
       ∷ (4, ltb room (length (answer entryBytes (admitNew x q)))) ∷ []
 
   new-right : Right (worked entryBytes q room (admitNew x q)) late
@@ -85,7 +86,9 @@ module _ (a : AdmitArgs) (q : Queue) (room : ℕ) where
       (λ u. rw (t, w, u) (first 11 entryBytes q room _ refl))
       (λ u. cases (clash? (x .held .ins) (q .recs))
       (λ v. rw (t, w, u, v) (first 12 entryBytes q room _ refl))
-      (λ v. rw (t, w, u, v) (recheck (last entryBytes q _ room Whole _) refl)))))
+      (λ v. cases (crossed? (x .held .ins) (x .held .reads) (q .recs))
+      (λ y. rw (t, w, u, v, y) (first 20 entryBytes q room _ refl))
+      (λ y. rw (t, w, u, v, y) (recheck (last entryBytes q _ room Whole _) refl))))))
 
   admit-right : Right (rules (admitting a) q room) (ruleChecks (admitting a) q room)
   unfolding admit

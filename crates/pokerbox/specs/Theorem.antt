@@ -64,7 +64,8 @@ same-holds m o File xs told w w′ p range s same alike file =
       opening = λ other h. (drop (length (areaBytes (restart m (p .1 .stored) .queue))) other, alike other ∙ ap (λ z. starts m z other) (r .file) ∙ starts-is m (p .1 .stored) other range (i .stored) h);
       records = i .recs;
       limits = i .limits;
-      apart = of-apart (p .1 .queue .recs) (f .apart);
+      apart = of-apart (p .1 .queue .recs) (f .apart) .0;
+      readApart = of-apart (p .1 .queue .recs) (f .apart) .1;
       holders = let z = f .fewHolders in omega arith;
       bytes = let z = f .fewBytes in omega arith;
       tombstones = let z = f .fewTombs in omega arith;
@@ -109,7 +110,8 @@ unfolding selectionAtOf selectionAt readOf
 template area q now height e f = record {
   told = λ out. rw e;
   once = ids-differ (selectedAt now height q) (selected-differ now height q (f .sound .rising));
-  apart = of-apart (selectedAt now height q) (all-apart q now height f);
+  apart = of-apart (selectedAt now height q) (all-apart q now height f) .0;
+  readApart = of-apart (selectedAt now height q) (all-apart q now height f) .1;
 }
 
 pub best-set : (area : Bytes) (q : Queue) (limit budget now height : ℕ) → readArea area ≡ some q → Fit q → BestSet area q limit budget now height
@@ -121,7 +123,8 @@ best-set area q limit budget now height e f =
       told = λ out. rw e refl;
       part = u;
       once = ids-differ s (sub-pairwise Diff u (selected-differ now height q (f .sound .rising)));
-      apart = of-apart s (sub-pairwise Apart u (all-apart q now height f));
+      apart = of-apart s (sub-pairwise Apart u (all-apart q now height f)) .0;
+      readApart = of-apart s (sub-pairwise Apart u (all-apart q now height f)) .1;
     }
 
 -- the list holds selected records, none twice
@@ -134,7 +137,8 @@ ordered area q now height e f =
       told = λ out. rw e;
       promised = parents-first now height q (f .sound .rising);
       once = ids-differ l (inside-pairwise Diff diff-sym (selectedAt now height q) (selected-differ now height q (f .sound .rising)) l (s .once) (s .chosen));
-      apart = of-apart l (inside-pairwise Apart apart-sym (selectedAt now height q) (all-apart q now height f) l (s .once) (s .chosen));
+      apart = of-apart l (inside-pairwise Apart apart-sym (selectedAt now height q) (all-apart q now height f) l (s .once) (s .chosen)) .0;
+      readApart = of-apart l (inside-pairwise Apart apart-sym (selectedAt now height q) (all-apart q now height f) l (s .once) (s .chosen)) .1;
     }
 
 -- after every list of steps

@@ -11,7 +11,7 @@ use Rattle.queue.specs.paper.Records.{Bytes, Id, Limits}
 use Rattle.queue.specs.paper.Lists.{map}
 use Rattle.queue.specs.paper.Ids.{cmpL, rise?}
 use Rattle.queue.specs.paper.Kinds.{firstShare}
-use Rattle.queue.specs.paper.Sound.{inRange, sharesRight?, limitsRight?, need, used?, clash?}
+use Rattle.queue.specs.paper.Sound.{inRange, sharesRight?, limitsRight?, need, used?, clash?, read?, crossed?}
 use Rattle.queue.specs.paper.Area.{termsBytes, placeBytes, beVal}
 use Rattle.queue.specs.paper.Changing.{committed, moved, newRec, admit, finished, finishThose, forget, cancel, due?, expire, confirm, touch, touchedRecs, releases, toRelease, reconcile, reopened, reopen}
 use Rattle.queue.specs.paper.Reading.{selectionAt}
@@ -29,7 +29,7 @@ m = record { P = 2; B = 8; T = 1; K = 1; shares = firstShare 2 }
 
 -- enough of each
 abbrev lent : Lent
-lent = record { next = replicate 3344 0; out = replicate 300 0; text = replicate 6694 0; other = replicate 3344 0 }
+lent = record { next = replicate 3472 0; out = replicate 300 0; text = replicate 6950 0; other = replicate 3472 0 }
 
 abbrev id : ℕ → Bytes
 id n = replicate 32 n
@@ -41,6 +41,7 @@ enters n = admitting (record {
   caller = 0;
   inputs = id (100 + n);
   outputs = [];
+  reads = [];
   bytes = 1 ∷ 2 ∷ 3 ∷ [];
   now = 5;
   timeFlag = 1;
@@ -136,20 +137,20 @@ wanted =
 -- rename promises nothing, one cut after it does; an admission ends it once its rename has happened; a cancellation of kind 0
 -- is none.
 pub lists-say : map shown lists ≡ wanted
-unfolding plainStep work admit cancel expire due? reconcile reopen reopened confirm need clash? items used? entryBytes newRec termsBytes placeBytes beVal committed cmpL rise? touchedRecs toRelease releases touch releasedBytes idsBytes moved finished finishThose forget selectionAt
+unfolding plainStep work admit cancel expire due? reconcile reopen reopened confirm need clash? read? crossed? items used? entryBytes newRec termsBytes placeBytes beVal committed cmpL rise? touchedRecs toRelease releases touch releasedBytes idsBytes moved finished finishThose forget selectionAt
 lists-say = refl
 
 -- ---- the theorems on two of them
 
-needs : need m ≡ 3344
+needs : need m ≡ 3472
 unfolding need
 needs = refl
 
 text-room : imageRoom m ≤ length (lent .text)
-text-room = let a = needs in let b = length-replicate {A = ℕ} 6694 0 in omega arith
+text-room = let a = needs in let b = length-replicate {A = ℕ} 6950 0 in omega arith
 
 other-room : need m ≤ length (lent .other)
-other-room = let a = needs in let b = length-replicate {A = ℕ} 3344 0 in omega arith
+other-room = let a = needs in let b = length-replicate {A = ℕ} 3472 0 in omega arith
 
 range : limitsRight? m ≡ true
 unfolding inRange sharesRight?
@@ -157,7 +158,7 @@ range = refl
 
 enters-ok : (n : ℕ) → n < 100 → CallOk (enters n)
 enters-ok n h = (
-  (small 32 n (omega arith), (small 32 (100 + n) (omega arith), (tt, ((omega arith, (omega arith, (omega arith, tt))), (tt, tt))))),
+  (small 32 n (omega arith), (small 32 (100 + n) (omega arith), (tt, (tt, ((omega arith, (omega arith, (omega arith, tt))), (tt, tt)))))),
   (omega arith, (omega arith, (omega arith, (omega arith, (omega arith, (omega arith, omega arith)))))),
 )
 
@@ -178,13 +179,13 @@ again-ok =
 
 -- where the lists begin, on bytes
 abbrev area : List Step → Bytes
-area xs = run (worldStep m) (world m (replicate 3344 0) none) xs .1 .area
+area xs = run (worldStep m) (world m (replicate 3472 0) none) xs .1 .area
 
 -- cancelled in the second step, and not admitted since
 pub again-unselected : NotSelected (area confirmedAgain) (after m confirmedAgain .queue) (id 1)
-unfolding WithdrawnStays plainStep work admit cancel reconcile reopen reopened confirm need clash? items used? entryBytes newRec termsBytes placeBytes beVal committed cmpL rise? touchedRecs toRelease releases touch releasedBytes idsBytes moved finished finishThose forget
+unfolding WithdrawnStays plainStep work admit cancel reconcile reopen reopened confirm need clash? read? crossed? items used? entryBytes newRec termsBytes placeBytes beVal committed cmpL rise? touchedRecs toRelease releases touch releasedBytes idsBytes moved finished finishThose forget
 again-unselected =
-    withdrawn-stays-withdrawn m (replicate 3344 0) none confirmedAgain range other-room (roomy m confirmedAgain range again-ok)
+    withdrawn-stays-withdrawn m (replicate 3472 0) none confirmedAgain range other-room (roomy m confirmedAgain range again-ok)
     (call (enters 1) lent kept ∷ []) (call cancels lent kept) (call (block 100) lent kept ∷ call (enters 1) lent kept ∷ call (reopening (id 1)) lent kept ∷ []) (id 1) refl refl (refl, (refl, (refl, tt)))
 
 expire-ok : All (RoomyOk m) bothExpire
@@ -192,10 +193,10 @@ expire-ok = (roomed (enters-ok 1 (omega arith)), (roomed (enters-ok 2 (omega ari
 
 -- the one that was forgotten in the same call
 pub forgotten-unselected : NotSelected (area bothExpire) (after m bothExpire .queue) (id 1)
-unfolding WithdrawnUnselected plainStep work admit expire due? need clash? items used? entryBytes newRec termsBytes placeBytes committed cmpL rise? idsBytes moved finished finishThose forget
-forgotten-unselected = withdrawn-unselected m (replicate 3344 0) none bothExpire range other-room (roomy m bothExpire range expire-ok) (id 1) refl
+unfolding WithdrawnUnselected plainStep work admit expire due? need clash? read? crossed? items used? entryBytes newRec termsBytes placeBytes committed cmpL rise? idsBytes moved finished finishThose forget
+forgotten-unselected = withdrawn-unselected m (replicate 3472 0) none bothExpire range other-room (roomy m bothExpire range expire-ok) (id 1) refl
 
 -- so on bytes: whatever the time and height, the selection answers no ids
 pub bytes-say : (now height : ℕ) (out : Bytes) → selectionAtOf (area confirmedAgain) now height out ≡ toldOut (0 ∷ 0 ∷ 0 ∷ 0 ∷ []) out
-unfolding plainStep work admit cancel reconcile reopen reopened confirm need clash? items used? entryBytes newRec termsBytes placeBytes beVal committed cmpL rise? touchedRecs toRelease releases touch releasedBytes idsBytes moved finished finishThose forget selectionAt
+unfolding plainStep work admit cancel reconcile reopen reopened confirm need clash? read? crossed? items used? entryBytes newRec termsBytes placeBytes beVal committed cmpL rise? touchedRecs toRelease releases touch releasedBytes idsBytes moved finished finishThose forget selectionAt
 bytes-say now height out = again-unselected .told now height out

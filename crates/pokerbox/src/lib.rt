@@ -96,7 +96,7 @@ pub extern "C" fn pokerbox_sound(area: &[u8]) -> u64
     number(sound(area))
 }
 
-// Admission: the entry in out, old or new. 3, 2, 5, 6, 7, 8, 9, 10, 18, 11, 12, 4.
+// Admission: the entry in out, old or new. 3, 2, 5, 6, 7, 8, 9, 10, 18, 11, 12, 20, 4.
 #[no_mangle]
 pub extern "C" fn pokerbox_admit(
     cur: &[u8],
@@ -105,6 +105,7 @@ pub extern "C" fn pokerbox_admit(
     caller: u8,
     inputs: &[u8],
     outputs: &[u8],
+    reads: &[u8],
     bytes: &[u8],
     clock: u64,
     timeflag: u8,
@@ -121,7 +122,7 @@ pub extern "C" fn pokerbox_admit(
     tip: &[u8],
     out: &mut [u8],
 ) -> u64
-    ensures { λ r. ⌜ (r, (now (next .exit), now (out .exit))) ≡ gives (callOf (admitting (admitArgs (now (id .entry)) caller (now (inputs .entry)) (now (outputs .entry)) (now (bytes .entry)) clock timeflag time heightflag height priority labelflag (now (label .entry)) fee cost tipheight tipflag (now (tip .entry)))) (now (cur .entry)) (now (next .entry)) (now (out .entry))) ⌝ }
+    ensures { λ r. ⌜ (r, (now (next .exit), now (out .exit))) ≡ gives (callOf (admitting (admitArgs (now (id .entry)) caller (now (inputs .entry)) (now (outputs .entry)) (now (reads .entry)) (now (bytes .entry)) clock timeflag time heightflag height priority labelflag (now (label .entry)) fee cost tipheight tipflag (now (tip .entry)))) (now (cur .entry)) (now (next .entry)) (now (out .entry))) ⌝ }
 {
     number(admit(
         cur,
@@ -130,6 +131,7 @@ pub extern "C" fn pokerbox_admit(
         caller,
         inputs,
         outputs,
+        reads,
         bytes,
         clock,
         timeflag,

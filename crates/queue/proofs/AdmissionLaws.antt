@@ -31,10 +31,13 @@ use Rattle.queue.specs.Writes.{TipIs}
 use Rattle.queue.specs.CallsAs.{AreaIn, FoundIn}
 use Rattle.queue.specs.ReadingAs.{FoundAs, EntryIn, entryAt, entryLen}
 use Rattle.queue.specs.Reopens.{IdsIn, idsAt}
-use Rattle.queue.specs.Admitting.{argsOf, newOf, TermsFit, HeldFit, withR, WithFrom, WithTo, roomOf, RoomIs, entryNewLen, NumbersFit, AskedIn, FreeOf, TipFor, NewTold, FoundTold, AdmitTold, ListsAre, FlagsAre, LentIn}
+use Rattle.queue.specs.Sums.{unread?}
+use Rattle.queue.specs.Clash.{clashes}
+use Rattle.queue.specs.Admitting.{argsOf, newOf, TermsFit, HeldFit, withR, WithFrom, WithTo, roomOf, RoomIs, entryNewLen, NumbersFit, AskedIn, FreeOf, LentIds, ReadIs, CrossIs, TipFor, NewTold, FoundTold, AdmitTold, ListsAre, FlagsAre, LentIn}
 use Rattle.queue.specs.paper.Records.{Bytes, Id, Rec, Queue}
-use Rattle.queue.specs.paper.Lists.{find, isEmpty?}
-use Rattle.queue.specs.paper.Sound.{need, pending?, mined?, labelLen, clash?, callerRight?}
+use Rattle.queue.specs.paper.Lists.{find, isEmpty?, any?, all?}
+use Rattle.queue.specs.paper.Sound as sound
+use Rattle.queue.specs.paper.Sound.{need, pending?, mined?, labelLen, among?, used?, clash?, read?, crossed?, callerRight?}
 use Rattle.queue.specs.paper.Area.{areaBytes, over}
 use Rattle.queue.specs.paper.Changing.{Out, refused, done, named?, reached?, Admission, newRec, committed, pendings, pendingBytes, pendingsOf, shareOf, admitNew, admit}
 use Rattle.queue.specs.Checked.{Outcome, outcome, told, admitShape?, admitOf}
@@ -94,25 +97,73 @@ room-full false true c n o e h = ap refused (sym e)
 room-full false false true n o e h = ap refused (sym e)
 room-full false false false n o e h = absurd (h e)
 
+-- ---- lent ids, and the ids of the records
+pub ids-lent : {ids : Bytes} → LentIds ids → IdsIn ids (length ids / 32) × (length ids < 4294967296)
+ids-lent {ids} l = let f = l .few in (ids-in ids (length ids / 32) (l .small) refl (l .whole), omega arith)
+
+met-is : {s : Bytes} {a : Area} (w : AreaIn s a) {ids : Bytes} (l : LentIds ids) (read : Bool) {r : Bool} → r ≡ clashes read (idsAt ids (length ids / 32)) (listAt (formC false recC) (a .open .head .count) s (a .open .start)) → r ≡ clashes read (items 32 ids) (w .q .recs)
+met-is {s} {a} w {ids} l read c = c ∙ ap (λ z. clashes read z (listAt (formC false recC) (a .open .head .count) s (a .open .start))) (ids-are ids (length ids / 32) (l .small) refl (l .whole)) ∙ ap (clashes read (items 32 ids)) (w .read .store .list)
+
+-- 20: nobody reads, no id is read, or both are looked up
+none-read : (i : Id) (l : List Rec) → all? unread? l ≡ true → read? i l ≡ false
+unfolding read?
+none-read i [] e = refl
+none-read i (r ∷ l) e =
+    let u = and-true (unread? r) (all? unread? l) e in
+    let z : sound.reads (r .body) ≡ [] = none-of (sound.reads (r .body)) (eqb-true (length (sound.reads (r .body))) 0 (u .0)) in
+    rw z (none-read i l (u .1))
+  where
+    none-of : (l : List Id) → length l ≡ 0 → l ≡ []
+    none-of [] e = refl
+    none-of (i ∷ l) e = absurd (let y : ⊥ = omega arith in y)
+
+nobody-reads : (ids : List Id) (l : List Rec) → all? unread? l ≡ true → any? (λ i. read? i l) ids ≡ false
+nobody-reads [] l e = refl
+nobody-reads (i ∷ ids) l e = rw (none-read i l e) (nobody-reads ids l e)
+
+module _ {s : Bytes} {a : Area} (w : AreaIn s a) (ins : Bytes) where
+  pub none-reads : a .open .sums .unread ≡ true → ReadIs s ins false
+  none-reads t q e =
+      let u : all? unread? (w .q .recs) ≡ true = sym (w .read .store .sums .unread ∙ ap (all? unread?) (w .read .store .list)) ∙ t in
+      rw (← (one-queue s (w .is) e)) (sym (nobody-reads (items 32 ins) (w .q .recs) u))
+
+  pub reads-by : (i : LentIds ins) {r : Bool} → r ≡ clashes true (idsAt ins (length ins / 32)) (listAt (formC false recC) (a .open .head .count) s (a .open .start)) → ReadIs s ins r
+  unfolding read? clashes
+  reads-by i c q e = rw (← (one-queue s (w .is) e)) (met-is w i true c)
+
+module _ (s ins reads : Bytes) {b : Bool} (u : ReadIs s ins b) where
+  pub cross-yes : b ≡ true → CrossIs s ins reads true
+  unfolding crossed?
+  cross-yes t q e = rw (← (u q e), t)
+
+  pub cross-none : b ≡ false → length reads / 32 ≡ 0 → CrossIs s ins reads false
+  unfolding crossed? clash? items
+  cross-none t z q e = rw (← (u q e), t, z)
+
+  pub cross-by : {a : Area} (w : AreaIn s a) (d : LentIds reads) {r : Bool} → b ≡ false → r ≡ clashes false (idsAt reads (length reads / 32)) (listAt (formC false recC) (a .open .head .count) s (a .open .start)) → CrossIs s ins reads r
+  unfolding crossed? clash? used? clashes
+  cross-by w d t c q e = rw (← (u q e), t, ← (one-queue s (w .is) e)) (met-is w d false c)
+
 -- ---- what is lent, and the area
-module _ {s : Bytes} {a : Area} (w : AreaIn s a) {x : Asked} {id ins outs bytes label tip : Bytes} (i : AskedIn x id ins outs bytes label tip (a .open .head .limits .k)) where
+module _ {s : Bytes} {a : Area} (w : AreaIn s a) {x : Asked} {id ins outs reads bytes label tip : Bytes} (i : AskedIn x id ins outs reads bytes label tip (a .open .head .limits .k)) where
   abbrev G : AdmitArgs
-  G = argsOf x id ins outs bytes label tip
+  G = argsOf x id ins outs reads bytes label tip
 
   abbrev R : Rec
-  R = newOf x id ins outs bytes label
+  R = newOf x id ins outs reads bytes label
 
   admissible : Admissible (w .q .limits .K) (admission G)
   admissible = let k : w .q .limits .K ≡ a .open .head .limits .k = head-K (w .read .store .head) in rw k (admission-ok (a .open .head .limits .k) G (i .lent) (i .shape) (i .few))
 
-  parts : ((id? id ≡ true) × (x .caller ≤ 15)) × (whole? 32 ins ≡ true) × (whole? 32 outs ≡ true) × (givenId? (x .tipflag) tip ≡ true)
+  parts : ((id? id ≡ true) × (x .caller ≤ 15)) × (whole? 32 ins ≡ true) × ((whole? 32 outs ≡ true) × (whole? 32 reads ≡ true)) × (givenId? (x .tipflag) tip ≡ true)
   parts =
-      let u = and-true ((id? id && callerRight? (x .caller)) && (whole? 32 ins && whole? 32 outs)) ((flag? (x .timeflag) && flag? (x .heightflag)) && (flag? (x .labelflag) && givenId? (x .tipflag) tip)) (i .shape) in
-      let v = and-true (id? id && callerRight? (x .caller)) (whole? 32 ins && whole? 32 outs) (u .0) in
+      let u = and-true ((id? id && callerRight? (x .caller)) && (whole? 32 ins && (whole? 32 outs && whole? 32 reads))) ((flag? (x .timeflag) && flag? (x .heightflag)) && (flag? (x .labelflag) && givenId? (x .tipflag) tip)) (i .shape) in
+      let v = and-true (id? id && callerRight? (x .caller)) (whole? 32 ins && (whole? 32 outs && whole? 32 reads)) (u .0) in
       let c = and-true (id? id) (callerRight? (x .caller)) (v .0) in
-      let y = and-true (whole? 32 ins) (whole? 32 outs) (v .1) in
+      let y = and-true (whole? 32 ins) (whole? 32 outs && whole? 32 reads) (v .1) in
+      let d = and-true (whole? 32 outs) (whole? 32 reads) (y .1) in
       let z = and-true (flag? (x .timeflag) && flag? (x .heightflag)) (flag? (x .labelflag) && givenId? (x .tipflag) tip) (u .1) in
-      ((c .0, leb-true (x .caller) 15 (c .1)), y .0, y .1, and-true (flag? (x .labelflag)) (givenId? (x .tipflag) tip) (z .1) .1)
+      ((c .0, leb-true (x .caller) 15 (c .1)), y .0, (d .0, d .1), and-true (flag? (x .labelflag)) (givenId? (x .tipflag) tip) (z .1) .1)
 
   id-32 : length id ≡ 32
   id-32 = eqb-true (length id) 32 (parts .0 .0)
@@ -128,31 +179,34 @@ module _ {s : Bytes} {a : Area} (w : AreaIn s a) {x : Asked} {id ins outs bytes 
   pub short-label : x .labelflag ≡ 1 → length label ≤ 200
   short-label e = let z : ltb 200 (length label) ≡ false = rw (eq-eqb (x .labelflag) 1 e) at (i .short) in ltb-false 200 (length label) z
 
-  pub few-ids : (length ins / 32 ≤ 128) × (length outs / 32 ≤ 128)
+  pub few-ids : (length ins / 32 ≤ 128) × (length outs / 32 ≤ 128) × (length reads / 32 ≤ 128)
   few-ids =
       let k : w .q .limits .K ≡ a .open .head .limits .k = head-K (w .read .store .head) in
       let f = fit (w .read) .sound .range .K-high in
-      let u = or-false (ltb (a .open .head .limits .k) (length ins / 32)) (ltb (a .open .head .limits .k) (length outs / 32)) (i .few) in
+      let u = or-false (ltb (a .open .head .limits .k) (length ins / 32)) (ltb (a .open .head .limits .k) (length outs / 32) || ltb (a .open .head .limits .k) (length reads / 32)) (i .few) in
+      let d = or-false (ltb (a .open .head .limits .k) (length outs / 32)) (ltb (a .open .head .limits .k) (length reads / 32)) (u .1) in
       let v = ltb-false (a .open .head .limits .k) (length ins / 32) (u .0) in
-      let y = ltb-false (a .open .head .limits .k) (length outs / 32) (u .1) in
-      (omega arith, omega arith)
+      let y = ltb-false (a .open .head .limits .k) (length outs / 32) (d .0) in
+      let z = ltb-false (a .open .head .limits .k) (length reads / 32) (d .1) in
+      (omega arith, omega arith, omega arith)
 
-  pub few-bytes : length ins < 4294967296
-  few-bytes = let f = few-ids in omega arith
+  pub ins-lent : LentIds ins
+  ins-lent = record { small = i .lent .inputs; whole = eqb-true (length ins % 32) 0 (parts .1); few = few-ids .0 }
+
+  pub reads-lent : LentIds reads
+  reads-lent = record { small = i .lent .reads; whole = eqb-true (length reads % 32) 0 (parts .2 .1); few = few-ids .2 }
 
   -- 10, 18 and 11
   pub new-room : (next out : Bytes) {r : ℕ} → RoomIs s (x .caller) (length bytes) r → (r ≡ 0 → ⊥) → NewTold s G (outcome (Refused r) next out) next out
   unfolding roomOf
   new-room next out {r} m n q e = rw (← (one-queue s (w .is) e), room-full (leb (w .q .limits .P) (pendings (w .q .recs))) (leb (shareOf (x .caller) (w .q .limits)) (pendingsOf (x .caller) (w .q .recs))) (ltb (w .q .limits .B) (pendingBytes (w .q .recs) + length bytes)) r _ (m (w .q) (w .is)) n)
 
-  pub ids-lent : IdsIn ins (length ins / 32)
-  ids-lent = ids-in ins (length ins / 32) (i .lent .inputs) refl (eqb-true (length ins % 32) 0 (parts .1))
+  clash-is : {r : Bool} → r ≡ clashes false (idsAt ins (length ins / 32)) (listAt (formC false recC) (a .open .head .count) s (a .open .start)) → clash? (items 32 ins) (w .q .recs) ≡ r
+  unfolding clash? used? clashes
+  clash-is {r} c = sym (met-is w ins-lent false c)
 
-  clash-is : {r : Bool} → r ≡ clash? (idsAt ins (length ins / 32)) (listAt (formC false recC) (a .open .head .count) s (a .open .start)) → clash? (items 32 ins) (w .q .recs) ≡ r
-  clash-is {r} c = sym (c ∙ ap (λ l. clash? l (listAt (formC false recC) (a .open .head .count) s (a .open .start))) (ids-are ins (length ins / 32) (i .lent .inputs) refl (eqb-true (length ins % 32) 0 (parts .1))) ∙ ap (clash? (items 32 ins)) (w .read .store .list))
-
-  pub free-of : {r : Bool} → r ≡ clash? (idsAt ins (length ins / 32)) (listAt (formC false recC) (a .open .head .count) s (a .open .start)) → r ≡ false → FreeOf s ins
-  free-of c t q e = rw (← (one-queue s (w .is) e)) (clash-is c ∙ t)
+  pub free-of : {r b : Bool} → r ≡ clashes false (idsAt ins (length ins / 32)) (listAt (formC false recC) (a .open .head .count) s (a .open .start)) → r ≡ false → CrossIs s ins reads b → b ≡ false → FreeOf s ins reads
+  free-of c t d u q e = (rw (← (one-queue s (w .is) e)) (clash-is c ∙ t), sym (d q e) ∙ u)
 
   module _ (m : RoomIs s (x .caller) (length bytes) 0) where
     rooms : (leb (w .q .limits .P) (pendings (w .q .recs)) ≡ false) × (leb (shareOf (x .caller) (w .q .limits)) (pendingsOf (x .caller) (w .q .recs)) ≡ false) × (ltb (w .q .limits .B) (pendingBytes (w .q .recs) + length bytes) ≡ false)
@@ -160,18 +214,25 @@ module _ {s : Bytes} {a : Area} (w : AreaIn s a) {x : Asked} {id ins outs bytes 
     rooms = room-split (leb (w .q .limits .P) (pendings (w .q .recs))) (leb (shareOf (x .caller) (w .q .limits)) (pendingsOf (x .caller) (w .q .recs))) (ltb (w .q .limits .B) (pendingBytes (w .q .recs) + length bytes)) (sym (m (w .q) (w .is)))
 
     -- 12
-    pub new-12 : (next out : Bytes) {r : Bool} → r ≡ clash? (idsAt ins (length ins / 32)) (listAt (formC false recC) (a .open .head .count) s (a .open .start)) → r ≡ true → NewTold s G (outcome (Refused 12) next out) next out
-    new-12 next out c t q e = rw (← (one-queue s (w .is) e), rooms .0, rooms .1, rooms .2, clash-is c ∙ t)
+    module _ (next out : Bytes) {r : Bool} (c : r ≡ clashes false (idsAt ins (length ins / 32)) (listAt (formC false recC) (a .open .head .count) s (a .open .start))) where
+      pub new-12 : r ≡ true → NewTold s G (outcome (Refused 12) next out) next out
+      new-12 t q e = rw (← (one-queue s (w .is) e), rooms .0, rooms .1, rooms .2, clash-is c ∙ t)
+
+      -- 20
+      pub new-20 : {b : Bool} → r ≡ false → CrossIs s ins reads b → b ≡ true → NewTold s G (outcome (Refused 20) next out) next out
+      new-20 t d u q e = let z : crossed? (items 32 ins) (items 32 reads) (w .q .recs) ≡ true = sym (d (w .q) (w .is)) ∙ u in rw (← (one-queue s (w .is) e), rooms .0, rooms .1, rooms .2, clash-is c ∙ t, z)
 
     bytes-few : length bytes ≤ 16777216
     bytes-few = let u = ltb-false (w .q .limits .B) (pendingBytes (w .q .recs) + length bytes) (rooms .2) in let v = fit (w .read) .sound .range .B-high in omega arith
 
-    pub held-fit : HeldFit ins outs bytes
+    pub held-fit : HeldFit ins outs reads bytes
     held-fit = let f = few-ids in let b = bytes-few in record {
       wholeIns = eqb-true (length ins % 32) 0 (parts .1);
-      wholeOuts = eqb-true (length outs % 32) 0 (parts .2);
+      wholeOuts = eqb-true (length outs % 32) 0 (parts .2 .0);
+      wholeReads = eqb-true (length reads % 32) 0 (parts .2 .1);
       fewIns = omega arith;
       fewOuts = omega arith;
+      fewReads = omega arith;
       fewBytes = omega arith;
     }
 
@@ -188,16 +249,16 @@ module _ {s : Bytes} {a : Area} (w : AreaIn s a) {x : Asked} {id ins outs bytes 
       cost = i .lent .cost;
     }
 
-    long : length (entryBytes R) ≡ entryNewLen x ins label
-    long = entry-long x id ins outs bytes label id-32 held-fit
+    long : length (entryBytes R) ≡ entryNewLen x ins reads label
+    long = entry-long x id ins outs reads bytes label id-32 held-fit
 
-    module _ (f : FreeOf s ins) where
+    module _ (f : FreeOf s ins reads) where
       abbrev Next : Queue
       Next = withR (cursorAfter (admission G) (w .q) (w .q .recs)) (tipAfter (admission G) (w .q) (w .q .recs)) R (w .q)
 
       new-is : admitNew (admission G) (w .q) ≡ done Whole Next R
       unfolding withR newOf newRec
-      new-is = rw (rooms .0, rooms .1, rooms .2, f (w .q) (w .is))
+      new-is = rw (rooms .0, rooms .1, rooms .2, f (w .q) (w .is) .0, f (w .q) (w .is) .1)
 
       next-fit : Fit Next
       next-fit = leaves-kept (w .q) Next (admitNew (admission G) (w .q)) Whole R (new-leaves (admission G) (w .q) (fit (w .read)) admissible (i .short)) new-is .fit
@@ -234,7 +295,7 @@ module _ {s : Bytes} {a : Area} (w : AreaIn s a) {x : Asked} {id ins outs bytes 
           small = let u = at-tip .0 in let v = next-low in omega arith;
         }
 
-        pub new-102 : (next out : Bytes) {next′ out′ : Bytes} {r : ℕ} → entryNewLen x ins label ≤ length out → WithTo s (t .height .0) (tipOf (t .has) (t .id)) R next next′ → Put out 0 (entryBytes R) (entryNewLen x ins label) r out′
+        pub new-102 : (next out : Bytes) {next′ out′ : Bytes} {r : ℕ} → entryNewLen x ins reads label ≤ length out → WithTo s (t .height .0) (tipOf (t .has) (t .id)) R next next′ → Put out 0 (entryBytes R) (entryNewLen x ins reads label) r out′
             → NewTold s G (outcome (Done Whole) next′ out′) next out
         new-102 next out {next′} {out′} h y p q e =
             let z : out′ ≡ over (entryBytes R) out = p .is ∙ sym (over-splice out (entryBytes R) (omega (arith, long))) in
@@ -242,7 +303,7 @@ module _ {s : Bytes} {a : Area} (w : AreaIn s a) {x : Asked} {id ins outs bytes 
             rw (← (one-queue s (w .is) e), new-is, le-ltb (length out) (length (entryBytes R)) (omega (arith, long)), z, v)
 
       -- 4
-      pub new-4 : (next out : Bytes) → length out < entryNewLen x ins label → NewTold s G (outcome (Refused 4) next out) next out
+      pub new-4 : (next out : Bytes) → length out < entryNewLen x ins reads label → NewTold s G (outcome (Refused 4) next out) next out
       new-4 next out h q e = rw (← (one-queue s (w .is) e), new-is, lt-ltb (length out) (length (entryBytes R)) (omega (arith, long)))
 
 -- ---- from the id on
@@ -288,12 +349,12 @@ reached-is flag d n = cases (eqb flag 1) (λ t. rw t) (λ t. rw t)
 pub label-is : (flag : ℕ) (label : Bytes) {b : Bool} → b ≡ (eqb flag 1 && ltb 200 (length label)) → b ≡ ltb 200 (labelLen (given flag label))
 label-is flag label {b} e = e ∙ cases (eqb flag 1) (λ t. rw t) (λ t. rw t)
 
-pub asked-in : {x : Asked} {id ins outs bytes label tip : Bytes} {K : ℕ} {b : Bool} → LentIn x id ins outs bytes label tip K → b ≡ ltb 200 (labelLen (given (x .labelflag) label)) → b ≡ false → AskedIn x id ins outs bytes label tip K
+pub asked-in : {x : Asked} {id ins outs reads bytes label tip : Bytes} {K : ℕ} {b : Bool} → LentIn x id ins outs reads bytes label tip K → b ≡ ltb 200 (labelLen (given (x .labelflag) label)) → b ≡ false → AskedIn x id ins outs reads bytes label tip K
 asked-in l e t = record { lent = l .lent; shape = l .shape; few = l .few; short = sym e ∙ t }
 
-module _ (s : Bytes) (x : Asked) (id ins outs bytes label tip : Bytes) (next out : Bytes) {b7 : Bool} (e7 : b7 ≡ (eqb (x .timeflag) 1 && leb (x .time .0) (x .now .0))) where
+module _ (s : Bytes) (x : Asked) (id ins outs reads bytes label tip : Bytes) (next out : Bytes) {b7 : Bool} (e7 : b7 ≡ (eqb (x .timeflag) 1 && leb (x .time .0) (x .now .0))) where
   abbrev Args : AdmitArgs
-  Args = argsOf x id ins outs bytes label tip
+  Args = argsOf x id ins outs reads bytes label tip
 
   is-7 : reached? (given (x .timeflag) (x .time .0)) (x .now .0) ≡ b7
   is-7 = reached-is (x .timeflag) (x .time .0) (x .now .0) ∙ sym e7
@@ -335,20 +396,23 @@ small-of s h = small-all s h
 and-of : {a a′ b b′ : Bool} → a ≡ a′ → b ≡ b′ → (a && b) ≡ (a′ && b′)
 and-of e f = cc
 
-pub lists-are : (id ins outs : Bytes) (caller : ℕ) {a b c : ℕ} {r t u : Bool} → r ≡ (t && u) → t ≡ (eqb a 32 && leb caller 15) → u ≡ (eqb (b % 32) 0 && eqb (c % 32) 0)
-    → a ≡ length (view false id 0) → readlaws.Small (view false id 0) → b ≡ length (view false ins 0) → readlaws.Small (view false ins 0) → c ≡ length (view false outs 0) → readlaws.Small (view false outs 0) → ListsAre id caller ins outs r
-lists-are id ins outs caller e g f la sa lb sb lc sc = (e ∙ and-of (g ∙ and-of (long-is id la) refl) (f ∙ and-of (mod-is ins lb) (mod-is outs lc)), (small-of id sa, small-of ins sb, small-of outs sc))
+pub lists-are : (id ins outs reads : Bytes) (caller : ℕ) {a b c d : ℕ} {r t u v : Bool} → r ≡ (t && u) → t ≡ (eqb a 32 && leb caller 15) → u ≡ (eqb (b % 32) 0 && v) → v ≡ (eqb (c % 32) 0 && eqb (d % 32) 0)
+    → a ≡ length (view false id 0) → readlaws.Small (view false id 0) → b ≡ length (view false ins 0) → readlaws.Small (view false ins 0) → c ≡ length (view false outs 0) → readlaws.Small (view false outs 0)
+    → d ≡ length (view false reads 0) → readlaws.Small (view false reads 0) → ListsAre id caller ins outs reads r
+lists-are id ins outs reads caller e g f h la sa lb sb lc sc ld sd =
+    (e ∙ and-of (g ∙ and-of (long-is id la) refl) (f ∙ and-of (mod-is ins lb) (h ∙ and-of (mod-is outs lc) (mod-is reads ld))), (small-of id sa, small-of ins sb, small-of outs sc, small-of reads sd))
 
 pub flags-are : (x : Asked) (bytes label tip : Bytes) {c : ℕ} {r d u v : Bool} → r ≡ (d && u) → d ≡ (leb (x .timeflag) 1 && leb (x .heightflag) 1) → u ≡ (leb (x .labelflag) 1 && v) → v ≡ (leb (x .tipflag) 1 && (eqb (x .tipflag) 0 || eqb c 32))
     → readlaws.Small (view false bytes 0) → readlaws.Small (view false label 0) → c ≡ length (view false tip 0) → readlaws.Small (view false tip 0) → FlagsAre x bytes label tip r
 flags-are x bytes label tip e f g h sb sl lt st =
     (e ∙ and-of f (g ∙ and-of {a = leb (x .labelflag) 1} refl (h ∙ and-of {a = leb (x .tipflag) 1} refl (ap (λ (k : Bool). eqb (x .tipflag) 0 || k) (long-is tip lt)))), (small-of bytes sb, small-of label sl, small-of tip st))
 
-pub lent-of : {x : Asked} {id ins outs bytes label tip : Bytes} {l f : Bool} → NumbersFit x → ListsAre id (x .caller) ins outs l → FlagsAre x bytes label tip f → AdmitLent (argsOf x id ins outs bytes label tip)
+pub lent-of : {x : Asked} {id ins outs reads bytes label tip : Bytes} {l f : Bool} → NumbersFit x → ListsAre id (x .caller) ins outs reads l → FlagsAre x bytes label tip f → AdmitLent (argsOf x id ins outs reads bytes label tip)
 lent-of n l f = record {
   id = l .1 .0;
   inputs = l .1 .1;
   outputs = l .1 .2;
+  reads = l .1 .3;
   bytes = f .1 .0;
   now = n .now;
   time = n .time;
@@ -365,15 +429,15 @@ pub admit-3 : (cur next out : Bytes) (g : AdmitArgs) → readArea cur ≡ none �
 unfolding admitOf
 admit-3 cur next out g e = rw e
 
-module _ (cur next out : Bytes) {a : Area} (i : AreaIs cur a) (t : a .ok ≡ true) (x : Asked) (id ins outs bytes label tip : Bytes) where
+module _ (cur next out : Bytes) {a : Area} (i : AreaIs cur a) (t : a .ok ≡ true) (x : Asked) (id ins outs reads bytes label tip : Bytes) where
   abbrev Given : AdmitArgs
-  Given = argsOf x id ins outs bytes label tip
+  Given = argsOf x id ins outs reads bytes label tip
 
   pub admit-2 : length next < a .need → outcome (Refused 2) next out ≡ admitOf cur next out Given
   unfolding admitOf
   admit-2 h = let g = i .good t in rw (g .1, lt-ltb (length next) (need (g .0 .limits)) (omega (arith, g .2 .need)))
 
-  module _ (h : a .need ≤ length next) {l f r : Bool} (L : ListsAre id (x .caller) ins outs l) (F : FlagsAre x bytes label tip f) (e : r ≡ (l && f)) where
+  module _ (h : a .need ≤ length next) {l f r : Bool} (L : ListsAre id (x .caller) ins outs reads l) (F : FlagsAre x bytes label tip f) (e : r ≡ (l && f)) where
     enough : ltb (length next) (need (i .good t .0 .limits)) ≡ false
     enough = le-ltb (length next) (need (i .good t .0 .limits)) (omega (arith, i .good t .2 .need))
 
@@ -384,7 +448,7 @@ module _ (cur next out : Bytes) {a : Area} (i : AreaIs cur a) (t : a .ok ≡ tru
     unfolding admitOf
     admit-5 n = let g = i .good t in rw (g .1, enough, shape-is ∙ n)
 
-    module _ (n : r ≡ true) {b : Bool} (k : b ≡ (ltb (a .open .head .limits .k) (length ins / 32) || ltb (a .open .head .limits .k) (length outs / 32))) where
+    module _ (n : r ≡ true) {b : Bool} (k : b ≡ (ltb (a .open .head .limits .k) (length ins / 32) || (ltb (a .open .head .limits .k) (length outs / 32) || ltb (a .open .head .limits .k) (length reads / 32)))) where
       over-is : overK? (i .good t .0 .limits .K) Given ≡ b
       over-is = let u : i .good t .0 .limits .K ≡ a .open .head .limits .k = head-K (i .good t .2 .store .head) in ap (λ v. overK? v Given) u ∙ sym k
 
@@ -393,17 +457,17 @@ module _ (cur next out : Bytes) {a : Area} (i : AreaIs cur a) (t : a .ok ≡ tru
       admit-6 y = let g = i .good t in rw (g .1, enough, shape-is ∙ n, over-is ∙ y)
 
       pub id-whole : length id ≡ 32
-      id-whole = eqb-true (length id) 32 (and-true (id? id) (callerRight? (x .caller)) (and-true (id? id && callerRight? (x .caller)) (whole? 32 ins && whole? 32 outs) (sym (L .0) ∙ and-true l f (sym e ∙ n) .0) .0) .0)
+      id-whole = eqb-true (length id) 32 (and-true (id? id) (callerRight? (x .caller)) (and-true (id? id && callerRight? (x .caller)) (whole? 32 ins && (whole? 32 outs && whole? 32 reads)) (sym (L .0) ∙ and-true l f (sym e ∙ n) .0) .0) .0)
 
       module _ (y : b ≡ false) {j : Id} (z : j ≡ part 32 (view false id 0) 0) where
-        pub lent-in : NumbersFit x → LentIn x j ins outs bytes label tip (a .open .head .limits .k)
+        pub lent-in : NumbersFit x → LentIn x j ins outs reads bytes label tip (a .open .head .limits .k)
         lent-in m = rw (key id-whole z) (record { lent = lent-of m L F; shape = shape-is ∙ n; few = sym k ∙ y })
 
-        pub admit-rest : {o : Outcome} → AdmitTold cur (argsOf x j ins outs bytes label tip) o next out → o ≡ admitOf cur next out Given
+        pub admit-rest : {o : Outcome} → AdmitTold cur (argsOf x j ins outs reads bytes label tip) o next out → o ≡ admitOf cur next out Given
         unfolding admitOf
         admit-rest {o} c =
             let g = i .good t in
-            let v = c (g .0) (g .1) ∙ ap (λ (u : Id). told entryBytes next out (admit (admission (argsOf x u ins outs bytes label tip)) (g .0))) (key id-whole z) in
+            let v = c (g .0) (g .1) ∙ ap (λ (u : Id). told entryBytes next out (admit (admission (argsOf x u ins outs reads bytes label tip)) (g .0))) (key id-whole z) in
             rw (g .1, enough, shape-is ∙ n, over-is ∙ y) v
 
 pub no-refusal : (s : Bytes) (c n : ℕ) {r : ℕ} → RoomIs s c n r → r ≡ 0 → RoomIs s c n 0

@@ -36,7 +36,7 @@ use Rattle.queue.specs.paper.Records.{Bytes, Id, Limits, Terms, Held, Re
 use Rattle.queue.specs.paper.Lists.{one, filter, insert, concat, count}
 use Rattle.queue.specs.paper.Ids.{cmpL, below?}
 use Rattle.queue.specs.paper.Sound.{need, holder?, pending?, mined?, content, holders, minedHolders, minedBytes}
-use Rattle.queue.specs.paper.Area.{flagged, termsBytes, placeBytes, heldBytes, recUnder, recBytes, areaBytes, over}
+use Rattle.queue.specs.paper.Area.{flagged, idListBytes, termsBytes, placeBytes, heldUnder, heldBytes, recUnder, recBytes, areaBytes, over}
 use Rattle.queue.specs.paper.Changing.{named?, put, newRec, committed, pendings, pendingBytes, pendingsOf, shareOf}
 use Rattle.queue.specs.paper.Calls.{items, pieces, numbers, given, admission, entryBytes}
 use Rattle.queue.specs.declared.admit.Asked.{Asked}
@@ -112,27 +112,35 @@ items-many : (s : Bytes) → length (items 32 s) ≡ length s / 32
 unfolding items
 items-many s = pieces-many (length s / 32) s
 
-seven : {b b′ c c′ d d′ e e′ f f′ g g′ : Bytes} → b ≡ b′ → c ≡ c′ → d ≡ d′ → e ≡ e′ → f ≡ f′ → g ≡ g′
-    → ((((((1 ∷ []) ++ b) ++ c) ++ d) ++ e) ++ f) ++ g ≡ 1 ∷ (b′ ++ (c′ ++ (d′ ++ (e′ ++ (f′ ++ g′)))))
-seven {b} {b′} {c} {c′} {d} {d′} {e} {e′} {f} {f′} {g} {g′} p q r s t u = ap (λ (y : Bytes). 1 ∷ y) (inner b c d e f g ∙ outer)
+-- a list of ids
+pub ids-put : {x x₁ x₂ : Bytes} {at p r : ℕ} (ids : Bytes) → length ids % 32 ≡ 0 → length ids / 32 < 65536
+    → Put x at (be 2 (length ids / 32)) 2 p x₁ → Put x₁ p (take (length ids) (drop 0 ids)) (length ids) r x₂ → Put x at (idListBytes (items 32 ids)) (2 + length ids) r x₂
+ids-put ids h k a b = recast (then a b) (two (be-same 2 (length ids / 32) k ∙ ap (codec.be 2) (sym (items-many ids))) (all-of ids ∙ sym (items-join ids h))) (omega arith) refl
   where
-    inner : (b c d e f g : Bytes) → ((((b ++ c) ++ d) ++ e) ++ f) ++ g ≡ b ++ (c ++ (d ++ (e ++ (f ++ g))))
-    inner b c d e f g = simp append-assoc
+    two : {b b′ c c′ : Bytes} → b ≡ b′ → c ≡ c′ → b ++ c ≡ b′ ++ c′
+    two e f = cc
 
-    outer : b ++ (c ++ (d ++ (e ++ (f ++ g)))) ≡ b′ ++ (c′ ++ (d′ ++ (e′ ++ (f′ ++ g′))))
+ids-size : (ids : Bytes) → length ids % 32 ≡ 0 → length (idListBytes (items 32 ids)) ≡ 2 + length ids
+ids-size ids h = let a = be-length 2 (length (items 32 ids)) in let b = ap length (items-join ids h) in length-append (codec.be 2 (length (items 32 ids))) (concat (items 32 ids)) ∙ omega arith
+
+five : (i o d n s : Bytes) {n′ s′ : Bytes} → n ≡ n′ → s ≡ s′ → ((((((1 ∷ []) ++ i) ++ o) ++ d) ++ n) ++ s) ≡ 1 ∷ (i ++ (o ++ (d ++ (n′ ++ s′))))
+five i o d n s {n′} {s′} p q = ap (λ (y : Bytes). 1 ∷ y) (inner i o d n s ∙ outer)
+  where
+    inner : (b c d e f : Bytes) → (((b ++ c) ++ d) ++ e) ++ f ≡ b ++ (c ++ (d ++ (e ++ f)))
+    inner b c d e f = simp append-assoc
+
+    outer : i ++ (o ++ (d ++ (n ++ s))) ≡ i ++ (o ++ (d ++ (n′ ++ s′)))
     outer = cc
 
-pub held-put : {x x₁ x₂ x₃ x₄ x₅ x₆ x₇ : Bytes} {at p1 p2 p3 p4 p5 p6 r : ℕ} (ins outs bytes : Bytes) → HeldFit ins outs bytes
-    → Put x at (1 ∷ []) 1 p1 x₁ → Put x₁ p1 (be 2 (length ins / 32)) 2 p2 x₂ → Put x₂ p2 (take (length ins) (drop 0 ins)) (length ins) p3 x₃
-    → Put x₃ p3 (be 2 (length outs / 32)) 2 p4 x₄ → Put x₄ p4 (take (length outs) (drop 0 outs)) (length outs) p5 x₅
-    → Put x₅ p5 (be 4 (length bytes)) 4 p6 x₆ → Put x₆ p6 (take (length bytes) (drop 0 bytes)) (length bytes) r x₇
-    → Put x at (flagged heldBytes (some (heldOf ins outs bytes))) (heldLen ins outs bytes) r x₇
-unfolding heldBytes
-held-put ins outs bytes f a b c d e g h =
-    recast (then (then (then (then (then (then a b) c) d) e) g) h)
-    (seven (be-same 2 (length ins / 32) (f .fewIns) ∙ ap (codec.be 2) (sym (items-many ins))) (all-of ins ∙ sym (items-join ins (f .wholeIns)))
-    (be-same 2 (length outs / 32) (f .fewOuts) ∙ ap (codec.be 2) (sym (items-many outs))) (all-of outs ∙ sym (items-join outs (f .wholeOuts)))
-    (be-same 4 (length bytes) (f .fewBytes)) (all-of bytes))
+pub held-put : {x x₁ x₂ x₃ x₄ x₅ x₆ : Bytes} {at p1 p2 p3 p4 p5 r : ℕ} (ins outs reads bytes : Bytes) → HeldFit ins outs reads bytes
+    → Put x at (1 ∷ []) 1 p1 x₁ → Put x₁ p1 (idListBytes (items 32 ins)) (2 + length ins) p2 x₂ → Put x₂ p2 (idListBytes (items 32 outs)) (2 + length outs) p3 x₃
+    → Put x₃ p3 (idListBytes (items 32 reads)) (2 + length reads) p4 x₄
+    → Put x₄ p4 (be 4 (length bytes)) 4 p5 x₅ → Put x₅ p5 (take (length bytes) (drop 0 bytes)) (length bytes) r x₆
+    → Put x at (flagged heldBytes (some (heldOf ins outs reads bytes))) (heldLen ins outs reads bytes) r x₆
+unfolding heldUnder
+held-put ins outs reads bytes f a b c d g h =
+    recast (then (then (then (then (then a b) c) d) g) h)
+    (five (idListBytes (items 32 ins)) (idListBytes (items 32 outs)) (idListBytes (items 32 reads)) _ _ (be-same 4 (length bytes) (f .fewBytes)) (all-of bytes))
     (omega arith) refl
 
 -- ---- the whole record
@@ -149,20 +157,20 @@ regroup i c t h = ap (λ (y : Bytes). 2 ∷ y) (inner i c (0 ∷ 0 ∷ []) t (re
     inner : (i c z t h : Bytes) → ((i ++ (c ++ z)) ++ t) ++ h ≡ i ++ (c ++ (z ++ (t ++ h)))
     inner i c z t h = simp append-assoc
 
-new-shape : (x : Asked) (id ins outs bytes label : Bytes) → 2 ∷ (id ++ (codec.be 1 (x .caller) ++ (0 ∷ 0 ∷ (termsBytes (newTerms x label (length bytes)) ++ (replicate 10 0 ++ flagged heldBytes (some (heldOf ins outs bytes))))))) ≡ recBytes (newOf x id ins outs bytes label)
+new-shape : (x : Asked) (id ins outs reads bytes label : Bytes) → 2 ∷ (id ++ (codec.be 1 (x .caller) ++ (0 ∷ 0 ∷ (termsBytes (newTerms x label (length bytes)) ++ (replicate 10 0 ++ flagged heldBytes (some (heldOf ins outs reads bytes))))))) ≡ recBytes (newOf x id ins outs reads bytes label)
 unfolding recUnder newOf newRec placeBytes
-new-shape x id ins outs bytes label = refl
+new-shape x id ins outs reads bytes label = refl
 
-pub new-put : {d d₁ d₂ d₃ d₄ : Bytes} {at a b c r : ℕ} (x : Asked) (id ins outs bytes label : Bytes) → x .caller < 256
+pub new-put : {d d₁ d₂ d₃ d₄ : Bytes} {at a b c r : ℕ} (x : Asked) (id ins outs reads bytes label : Bytes) → x .caller < 256
     → Put d at (leadBytes id (x .caller) 0 0) termsAt a d₁ → Put d₁ a (termsBytes (newTerms x label (length bytes))) (termsLen x label) b d₂ → Put d₂ b (replicate (b + 10 - b) 0) (b + 10 - b) c d₃
-    → Put d₃ c (flagged heldBytes (some (heldOf ins outs bytes))) (heldLen ins outs bytes) r d₄
-    → Put d at (recC .enc (newOf x id ins outs bytes label)) (newLen x ins outs bytes label) r d₄
-new-put {b = b} x id ins outs bytes label l p q s t =
+    → Put d₃ c (flagged heldBytes (some (heldOf ins outs reads bytes))) (heldLen ins outs reads bytes) r d₄
+    → Put d at (recC .enc (newOf x id ins outs reads bytes label)) (newLen x ins outs reads bytes label) r d₄
+new-put {b = b} x id ins outs reads bytes label l p q s t =
     let z : b + 10 - b ≡ 10 = omega arith in
     recast (then (then (then p q) s) t)
-    (append-assoc (leadBytes id (x .caller) 0 0 ++ termsBytes (newTerms x label (length bytes))) (replicate (b + 10 - b) 0) (flagged heldBytes (some (heldOf ins outs bytes)))
-    ∙ rw (z, lead-zero id (x .caller) l) (regroup id (codec.be 1 (x .caller)) (termsBytes (newTerms x label (length bytes))) (flagged heldBytes (some (heldOf ins outs bytes))))
-    ∙ new-shape x id ins outs bytes label ∙ sym (rec-plain (newOf x id ins outs bytes label)))
+    (append-assoc (leadBytes id (x .caller) 0 0 ++ termsBytes (newTerms x label (length bytes))) (replicate (b + 10 - b) 0) (flagged heldBytes (some (heldOf ins outs reads bytes)))
+    ∙ rw (z, lead-zero id (x .caller) l) (regroup id (codec.be 1 (x .caller)) (termsBytes (newTerms x label (length bytes))) (flagged heldBytes (some (heldOf ins outs reads bytes))))
+    ∙ new-shape x id ins outs reads bytes label ∙ sym (rec-plain (newOf x id ins outs reads bytes label)))
     (omega arith) refl
 
 -- ---- the paper's put, one record at a time
@@ -213,27 +221,27 @@ terms-size x label n =
     sizes : (a b c d e f g h : Bytes) → length (a ++ (b ++ (c ++ (d ++ (e ++ (f ++ (g ++ h))))))) ≡ length a + (length b + (length c + (length d + (length e + (length f + (length g + length h))))))
     sizes a b c d e f g h = simp length-append
 
-held-size : (ins outs bytes : Bytes) → HeldFit ins outs bytes → length (flagged heldBytes (some (heldOf ins outs bytes))) ≡ heldLen ins outs bytes
-unfolding heldBytes
-held-size ins outs bytes f =
-    let a = be-length 2 (length (items 32 ins)) in let b = ap length (items-join ins (f .wholeIns)) in let c = be-length 2 (length (items 32 outs)) in let d = ap length (items-join outs (f .wholeOuts)) in let e = be-length 4 (length bytes) in
-    ap suc (sizes (codec.be 2 (length (items 32 ins))) (concat (items 32 ins)) (codec.be 2 (length (items 32 outs))) (concat (items 32 outs)) (codec.be 4 (length bytes)) bytes) ∙ omega arith
+held-size : (ins outs reads bytes : Bytes) → HeldFit ins outs reads bytes → length (flagged heldBytes (some (heldOf ins outs reads bytes))) ≡ heldLen ins outs reads bytes
+unfolding heldUnder
+held-size ins outs reads bytes f =
+    let a = ids-size ins (f .wholeIns) in let b = ids-size outs (f .wholeOuts) in let c = ids-size reads (f .wholeReads) in let e = be-length 4 (length bytes) in
+    ap suc (sizes (idListBytes (items 32 ins)) (idListBytes (items 32 outs)) (idListBytes (items 32 reads)) (codec.be 4 (length bytes)) bytes) ∙ omega arith
   where
-    sizes : (a b c d e f : Bytes) → length (a ++ (b ++ (c ++ (d ++ (e ++ f))))) ≡ length a + (length b + (length c + (length d + (length e + length f))))
-    sizes a b c d e f = simp length-append
+    sizes : (a b c d e : Bytes) → length (a ++ (b ++ (c ++ (d ++ e)))) ≡ length a + (length b + (length c + (length d + length e)))
+    sizes a b c d e = simp length-append
 
-pub new-long : (x : Asked) (id ins outs bytes label : Bytes) → length id ≡ 32 → HeldFit ins outs bytes → length (recC .enc (newOf x id ins outs bytes label)) ≡ newLen x ins outs bytes label
-new-long x id ins outs bytes label l f =
-    let t = terms-size x label (length bytes) in let h = held-size ins outs bytes f in
-    let a = length-append id (codec.be 1 (x .caller) ++ (0 ∷ 0 ∷ (termsBytes (newTerms x label (length bytes)) ++ (replicate 10 0 ++ flagged heldBytes (some (heldOf ins outs bytes)))))) in
-    let c = length-append (codec.be 1 (x .caller)) (0 ∷ 0 ∷ (termsBytes (newTerms x label (length bytes)) ++ (replicate 10 0 ++ flagged heldBytes (some (heldOf ins outs bytes))))) in
+pub new-long : (x : Asked) (id ins outs reads bytes label : Bytes) → length id ≡ 32 → HeldFit ins outs reads bytes → length (recC .enc (newOf x id ins outs reads bytes label)) ≡ newLen x ins outs reads bytes label
+new-long x id ins outs reads bytes label l f =
+    let t = terms-size x label (length bytes) in let h = held-size ins outs reads bytes f in
+    let a = length-append id (codec.be 1 (x .caller) ++ (0 ∷ 0 ∷ (termsBytes (newTerms x label (length bytes)) ++ (replicate 10 0 ++ flagged heldBytes (some (heldOf ins outs reads bytes)))))) in
+    let c = length-append (codec.be 1 (x .caller)) (0 ∷ 0 ∷ (termsBytes (newTerms x label (length bytes)) ++ (replicate 10 0 ++ flagged heldBytes (some (heldOf ins outs reads bytes))))) in
     let e = be-length 1 (x .caller) in
-    let b = length-append (termsBytes (newTerms x label (length bytes))) (replicate 10 0 ++ flagged heldBytes (some (heldOf ins outs bytes))) in
-    ap length (rec-plain (newOf x id ins outs bytes label) ∙ sym (new-shape x id ins outs bytes label)) ∙ omega arith
+    let b = length-append (termsBytes (newTerms x label (length bytes))) (replicate 10 0 ++ flagged heldBytes (some (heldOf ins outs reads bytes))) in
+    ap length (rec-plain (newOf x id ins outs reads bytes label) ∙ sym (new-shape x id ins outs reads bytes label)) ∙ omega arith
 
-pub new-id : (x : Asked) (id ins outs bytes label : Bytes) → newOf x id ins outs bytes label .id ≡ id
+pub new-id : (x : Asked) (id ins outs reads bytes label : Bytes) → newOf x id ins outs reads bytes label .id ≡ id
 unfolding newOf newRec
-new-id x id ins outs bytes label = refl
+new-id x id ins outs reads bytes label = refl
 
 -- ---- the new record, where it is due
 pub due-yes : (r : Rec) {due : Bool} → due ≡ true → encs recC (recIf due r) ≡ recC .enc r
@@ -407,40 +415,34 @@ module _ {s : Bytes} {a : Area} (w : AreaIn s a) where
           room-0 z q f = let b : w .q .limits .B ≡ a .open .head .limits .b = head-B (w .read .store .head) in rw (← (one-queue s (w .is) f), few, free, le-ltb (w .q .limits .B) (pendingBytes (w .q .recs) + n) (omega arith))
 
 -- ---- the entry of a new record
-entry-shape : (x : Asked) (id ins outs bytes label : Bytes) → id ++ (codec.be 1 (x .caller) ++ (0 ∷ 0 ∷ (termsBytes (newTerms x label (length bytes)) ++ (0 ∷ (codec.be 2 (length (items 32 ins)) ++ concat (items 32 ins)))))) ≡ entryBytes (newOf x id ins outs bytes label)
+entry-shape : (x : Asked) (id ins outs reads bytes label : Bytes) → id ++ (codec.be 1 (x .caller) ++ (0 ∷ 0 ∷ (termsBytes (newTerms x label (length bytes)) ++ (0 ∷ (idListBytes (items 32 ins) ++ idListBytes (items 32 reads)))))) ≡ entryBytes (newOf x id ins outs reads bytes label)
 unfolding entryBytes newOf newRec placeBytes
-entry-shape x id ins outs bytes label = refl
+entry-shape x id ins outs reads bytes label = refl
 
-pub entry-long : (x : Asked) (id ins outs bytes label : Bytes) → length id ≡ 32 → HeldFit ins outs bytes → length (entryBytes (newOf x id ins outs bytes label)) ≡ entryNewLen x ins label
-entry-long x id ins outs bytes label l f =
-    let t = terms-size x label (length bytes) in let j = ap length (items-join ins (f .wholeIns)) in let b = be-length 2 (length (items 32 ins)) in
-    let u = length-append id (codec.be 1 (x .caller) ++ (0 ∷ 0 ∷ (termsBytes (newTerms x label (length bytes)) ++ (0 ∷ (codec.be 2 (length (items 32 ins)) ++ concat (items 32 ins)))))) in
-    let c = length-append (codec.be 1 (x .caller)) (0 ∷ 0 ∷ (termsBytes (newTerms x label (length bytes)) ++ (0 ∷ (codec.be 2 (length (items 32 ins)) ++ concat (items 32 ins))))) in
+pub entry-long : (x : Asked) (id ins outs reads bytes label : Bytes) → length id ≡ 32 → HeldFit ins outs reads bytes → length (entryBytes (newOf x id ins outs reads bytes label)) ≡ entryNewLen x ins reads label
+entry-long x id ins outs reads bytes label l f =
+    let t = terms-size x label (length bytes) in let j = ids-size ins (f .wholeIns) in let b = ids-size reads (f .wholeReads) in
+    let u = length-append id (codec.be 1 (x .caller) ++ (0 ∷ 0 ∷ (termsBytes (newTerms x label (length bytes)) ++ (0 ∷ (idListBytes (items 32 ins) ++ idListBytes (items 32 reads)))))) in
+    let c = length-append (codec.be 1 (x .caller)) (0 ∷ 0 ∷ (termsBytes (newTerms x label (length bytes)) ++ (0 ∷ (idListBytes (items 32 ins) ++ idListBytes (items 32 reads))))) in
     let e = be-length 1 (x .caller) in
-    let v = length-append (termsBytes (newTerms x label (length bytes))) (0 ∷ (codec.be 2 (length (items 32 ins)) ++ concat (items 32 ins))) in
-    let w = length-append (codec.be 2 (length (items 32 ins))) (concat (items 32 ins)) in
-    sym (ap length (entry-shape x id ins outs bytes label)) ∙ omega arith
+    let v = length-append (termsBytes (newTerms x label (length bytes))) (0 ∷ (idListBytes (items 32 ins) ++ idListBytes (items 32 reads))) in
+    let w = length-append (idListBytes (items 32 ins)) (idListBytes (items 32 reads)) in
+    sym (ap length (entry-shape x id ins outs reads bytes label)) ∙ omega arith
 
-pub entry-put : {d d₀ d₁ d₂ d₃ d₄ d₅ d₆ : Bytes} {p0 p1 p2 p3 p4 p5 r : ℕ} (x : Asked) (id ins outs bytes label : Bytes) → x .caller < 256 → HeldFit ins outs bytes
+pub entry-put : {d d₀ d₁ d₂ d₃ d₄ d₅ d₆ : Bytes} {p0 p1 p2 p3 p4 p5 r : ℕ} (x : Asked) (id ins outs reads bytes label : Bytes) → x .caller < 256 → HeldFit ins outs reads bytes
     → Put d 0 id 32 p0 d₀ → Put d₀ p0 (be 1 (x .caller)) 1 p1 d₁ → Put d₁ p1 (be 2 0) 2 p2 d₂ → Put d₂ p2 (termsBytes (newTerms x label (length bytes))) (termsLen x label) p3 d₃ → Put d₃ p3 (0 ∷ []) 1 p4 d₄
-    → Put d₄ p4 (be 2 (length ins / 32)) 2 p5 d₅ → Put d₅ p5 (take (length ins) (drop 0 ins)) (length ins) r d₆
-    → Put d 0 (entryBytes (newOf x id ins outs bytes label)) (entryNewLen x ins label) r d₆
-entry-put x id ins outs bytes label l f a w b c e g h =
+    → Put d₄ p4 (idListBytes (items 32 ins)) (2 + length ins) p5 d₅ → Put d₅ p5 (idListBytes (items 32 reads)) (2 + length reads) r d₆
+    → Put d 0 (entryBytes (newOf x id ins outs reads bytes label)) (entryNewLen x ins reads label) r d₆
+entry-put x id ins outs reads bytes label l f a w b c e g h =
     recast (then (then (then (then (then (then a w) b) c) e) g) h)
-    (ap (λ (y : Bytes). (((((id ++ y) ++ be 2 0) ++ termsBytes (newTerms x label (length bytes))) ++ (0 ∷ [])) ++ be 2 (length ins / 32)) ++ take (length ins) (drop 0 ins)) (be-same 1 (x .caller) l)
-    ∙ glue (id ++ codec.be 1 (x .caller)) (termsBytes (newTerms x label (length bytes))) (be-same 2 (length ins / 32) (f .fewIns) ∙ ap (codec.be 2) (sym (items-many ins))) (all-of ins ∙ sym (items-join ins (f .wholeIns)))
+    (ap (λ (y : Bytes). (((((id ++ y) ++ be 2 0) ++ termsBytes (newTerms x label (length bytes))) ++ (0 ∷ [])) ++ idListBytes (items 32 ins)) ++ idListBytes (items 32 reads)) (be-same 1 (x .caller) l)
+    ∙ inner (id ++ codec.be 1 (x .caller)) (be 2 0) (termsBytes (newTerms x label (length bytes))) (0 ∷ []) (idListBytes (items 32 ins)) (idListBytes (items 32 reads))
     ∙ append-assoc id (codec.be 1 (x .caller)) _
-    ∙ entry-shape x id ins outs bytes label)
+    ∙ entry-shape x id ins outs reads bytes label)
     (omega arith) refl
   where
     inner : (i z t y n c : Bytes) → ((((i ++ z) ++ t) ++ y) ++ n) ++ c ≡ i ++ (z ++ (t ++ (y ++ (n ++ c))))
     inner i z t y n c = simp append-assoc
-
-    two : {x x′ y y′ : Bytes} → x ≡ x′ → y ≡ y′ → x ++ y ≡ x′ ++ y′
-    two e f = cc
-
-    glue : (i t : Bytes) {n n′ c c′ : Bytes} → n ≡ n′ → c ≡ c′ → ((((i ++ be 2 0) ++ t) ++ (0 ∷ [])) ++ n) ++ c ≡ i ++ (0 ∷ 0 ∷ (t ++ (0 ∷ (n′ ++ c′))))
-    glue i t {n} {n′} {c} {c′} e f = inner i (be 2 0) t (0 ∷ []) n c ∙ ap (λ (y : Bytes). i ++ (0 ∷ 0 ∷ (t ++ (0 ∷ y)))) (two e f)
 
 -- ---- how many records there are then
 insert-long : (lt : Rec → Rec → Bool) (r : Rec) (l : List Rec) → length (insert lt r l) ≡ suc (length l)

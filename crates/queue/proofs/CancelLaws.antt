@@ -141,8 +141,8 @@ module _ {s : Bytes} {a : Area} {id : Id} {at : ℕ} (w : FoundIn s a id at) {ok
     pub held-in : y .facts .holder ≡ true → HeldIn s a id at y
     held-in h = record { q = w .q; is = w .is; read = w .read; r = w .r; found = w .found; ok = ok; seen = it; held = sym holds-is ∙ h; unmined = unmined }
 
-  pub entry-asks : (1 ≤ y .mark) × (y .mark ≤ 400) × (y .facts .ins < 65536)
-  entry-asks = let e = entry-in (w .here .0) it in (omega (arith, e .up), e .most, e .few)
+  pub entry-asks : (1 ≤ y .mark) × (y .mark ≤ 400) × (y .facts .ins < 65536) × (y .facts .reads < 65536)
+  entry-asks = let e = entry-in (w .here .0) it in (omega (arith, e .up), e .most, e .few, e .fewReads)
 
   pub put-asks : EntryIn s at y
   put-asks = entry-in (w .here .0) it
@@ -164,24 +164,24 @@ module _ {s : Bytes} {a : Area} {id : Id} {at : ℕ} {x : Seen} (w : HeldIn s a 
   unfolding view
   held-asks = let u = w .seen .0 in (omega (arith, u .up, u .upPlace), omega (arith, u .upBody, u .end, length-drop at s, u .up, u .upPlace))
 
-  end-shape : (n : ℕ) → ((((w .r .id ++ codec.be 1 (w .r .caller)) ++ (4 ∷ [])) ++ (1 ∷ [])) ++ (termsC .enc (w .r .terms) ++ placeC .enc (w .r .place))) ++ codec.be 2 0 ≡ entryBytes (finished 4 1 n (w .r))
+  end-shape : (n : ℕ) → ((((w .r .id ++ codec.be 1 (w .r .caller)) ++ (4 ∷ [])) ++ (1 ∷ [])) ++ (termsC .enc (w .r .terms) ++ placeC .enc (w .r .place))) ++ codec.be 4 0 ≡ entryBytes (finished 4 1 n (w .r))
   unfolding entryBytes finished
-  end-shape n = rw (terms-plain (w .r .terms), place-plain (w .r .place)) (rejoin (w .r .id) (codec.be 1 (w .r .caller)) (4 ∷ []) (1 ∷ []) (termsBytes (w .r .terms)) (placeBytes (w .r .place)) (codec.be 2 0))
+  end-shape n = rw (terms-plain (w .r .terms), place-plain (w .r .place)) (rejoin (w .r .id) (codec.be 1 (w .r .caller)) (4 ∷ []) (1 ∷ []) (termsBytes (w .r .terms)) (placeBytes (w .r .place)) (codec.be 2 0) (codec.be 2 0))
     where
-      rejoin : (i c a b t p n : Bytes) → ((((i ++ c) ++ a) ++ b) ++ (t ++ p)) ++ n ≡ i ++ (c ++ (a ++ (b ++ (t ++ (p ++ (n ++ []))))))
-      rejoin i c a b t p n = simp (append-assoc, append-nil)
+      rejoin : (i c a b t p n m : Bytes) → ((((i ++ c) ++ a) ++ b) ++ (t ++ p)) ++ (n ++ m) ≡ i ++ (c ++ (a ++ (b ++ (t ++ (p ++ ((n ++ []) ++ (m ++ [])))))))
+      rejoin i c a b t p n m = simp (append-assoc, append-nil)
 
   end-is : (n : ℕ) → endBytes s at x 4 1 ≡ entryBytes (finished 4 1 n (w .r))
   unfolding endBytes
-  end-is n = rw (w .seen .0 .id, caller-byte (w .seen .0), middle .0, be-same 2 0 (omega arith)) (end-shape n)
+  end-is n = rw (w .seen .0 .id, caller-byte (w .seen .0), middle .0, be-same 4 0 (omega arith)) (end-shape n)
 
-  end-long : (n : ℕ) → length (entryBytes (finished 4 1 n (w .r))) ≡ x .mark + 1
+  end-long : (n : ℕ) → length (entryBytes (finished 4 1 n (w .r))) ≡ x .mark + 3
   unfolding endBytes
   end-long n =
       let i = ap length (w .seen .0 .id) ∙ id-32 (w .r) (w .seen .1 .fine) in
       let h = held-asks in
       let m = ap length (middle .0) ∙ middle .1 in
-      let e = Rattle.queue.proofs.PutLaws.length-be 2 0 in
+      let e = Rattle.queue.proofs.PutLaws.length-be 4 0 in
       let c = Rattle.queue.proofs.PutLaws.length-be 1 (x .facts .caller) in
       sym (ap length (end-is n)) ∙ simp length-append (omega arith)
 
@@ -237,11 +237,11 @@ module _ {s : Bytes} {a : Area} {id : Id} {at : ℕ} {x : Seen} (w : HeldIn s a 
         fits = fits-need (ended (named? id) 4 1 (w .q)) (fit-sound _ done-fit) (fit-ok _ done-fit);
       }
 
-      pub held-4 : (next out : Bytes) → length out < x .mark + 1 → CancelTold s id (outcome (Refused 4) next out) next out
+      pub held-4 : (next out : Bytes) → length out < x .mark + 3 → CancelTold s id (outcome (Refused 4) next out) next out
       held-4 next out k q e =
           rw (← (one-queue s (w .is) e), cancels room, lt-ltb (length out) (length (entryBytes (finished 4 1 (w .q .counter + 1) (w .r)))) (omega (arith, end-long (w .q .counter + 1))))
 
-      pub held-102 : (next out : Bytes) {next′ out′ : Bytes} {r : ℕ} → x .mark + 1 ≤ length out → EndedTo s a Named id 4 1 next next′ → Put out 0 (endBytes s at x 4 1) (x .mark + 1) r out′ → CancelTold s id (outcome (Done Whole) next′ out′) next out
+      pub held-102 : (next out : Bytes) {next′ out′ : Bytes} {r : ℕ} → x .mark + 3 ≤ length out → EndedTo s a Named id 4 1 next next′ → Put out 0 (endBytes s at x 4 1) (x .mark + 3) r out′ → CancelTold s id (outcome (Done Whole) next′ out′) next out
       unfolding picked
       held-102 next out {next′} {out′} k t p q e =
           let n = w .q .counter + 1 in

@@ -11,7 +11,7 @@ use Rattle.queue.specs.Reads.{whole, listAt}
 use Rattle.queue.specs.ReadLaws.{none-left, false-true}
 use Rattle.queue.specs.Facts.{factsOf}
 use Rattle.queue.specs.Rules.{rightF, weight, sum}
-use Rattle.queue.specs.Sums.{noSums, Under, Added, SumsAs, Checked}
+use Rattle.queue.specs.Sums.{unread?, noSums, Under, Added, SumsAs, Checked}
 use Rattle.queue.specs.paper.Records.{Bytes, Id, Rec}
 use Rattle.queue.specs.paper.Lists.{all?, map}
 use Rattle.queue.specs.paper.Ids.{cmpL, rise?}
@@ -66,6 +66,7 @@ pub record Rest (k : ℕ) (c : Finish) (a : Sums) (prev : Id) (first : Bool) (l 
   pub minedbytes : a .minedbytes + sum MinedBytes l ≡ sum MinedBytes all
   pub right : (a .right && all? (right? k (c .0)) l) ≡ all? (right? k (c .0)) all
   pub rises : risesFrom first (a .rises) prev l ≡ rise? (map (λ r. r .id) all)
+  pub unread : (a .unread && all? unread? l) ≡ all? unread? all
 
 right-facts : (k c : ℕ) (r : Rec) → rightF k c (factsOf r) ≡ right? k c r
 unfolding rightF factsOf right?
@@ -76,11 +77,11 @@ unfolding sum
 sum-on q x r l e g h = let z = ap (weight q) e in omega arith
 
 rest-start : (k : ℕ) (c : Finish) {a : Sums} (prev : Id) (l : List Rec) → a ≡ noSums → Rest k c a prev true l l
-rest-start k c prev l e = rw e (record { holders = omega arith; bytes = omega arith; mined = omega arith; minedbytes = omega arith; right = refl; rises = rises-start prev l })
+rest-start k c prev l e = rw e (record { holders = omega arith; bytes = omega arith; mined = omega arith; minedbytes = omega arith; right = refl; rises = rises-start prev l; unread = refl })
 
 module _ {k : ℕ} {c : Finish} {a : Sums} {prev : Id} {first : Bool} {all : List Rec} where
   rest-on : (r : Rec) (l : List Rec) {a′ : Sums} {f : Facts} {id : Id} {up : Bool} → Rest k c a prev first (r ∷ l) all → f ≡ factsOf r → id ≡ r .id → up ≡ (first || eqb (cmpL prev id) 0) → Added k c a f up a′ → Rest k c a′ id false l all
-  unfolding risesFrom
+  unfolding risesFrom factsOf
   rest-on r l {a′} {f} {id} {up} x e i u d = record {
     holders = sum-on Holders (a .holders) r l e (d .holders) (x .holders);
     bytes = sum-on HeldBytes (a .bytes) r l e (d .bytes) (x .bytes);
@@ -90,27 +91,29 @@ module _ {k : ℕ} {c : Finish} {a : Sums} {prev : Id} {first : Bool} {all : Lis
         ∙ and-assoc (a .right) (right? k (c .0) r) (all? (right? k (c .0)) l) ∙ x .right;
     rises = ap (λ (b : Bool). risesFrom false b id l) (d .rises ∙ ap (λ (b : Bool). a .rises && b) u)
         ∙ ap (λ (j : Id). risesFrom false (a .rises && (first || eqb (cmpL prev j) 0)) j l) i ∙ x .rises;
+    unread = ap (λ (b : Bool). b && all? unread? l) (d .unread ∙ ap (λ (g : Facts). a .unread && eqb (g .reads) 0) e) ∙ and-assoc (a .unread) (unread? r) (all? unread? l) ∙ x .unread;
   }
 
   rest-end : Rest k c a prev first [] all → SumsAs k c a all
   unfolding risesFrom sum
-  rest-end x = record { holders = omega (arith, x .holders); bytes = omega (arith, x .bytes); mined = omega (arith, x .mined); minedbytes = omega (arith, x .minedbytes); right = sym (and-one (a .right)) ∙ x .right; rises = x .rises }
+  rest-end x = record { holders = omega (arith, x .holders); bytes = omega (arith, x .bytes); mined = omega (arith, x .mined); minedbytes = omega (arith, x .minedbytes); right = sym (and-one (a .right)) ∙ x .right; rises = x .rises; unread = sym (and-one (a .unread)) ∙ x .unread }
 
 under-more : {a : Sums} {m n : ℕ} → m ≤ n → Under a m → Under a n
 under-more h u = record { holders = omega (arith, u .holders); bytes = omega (arith, u .bytes); mined = omega (arith, u .mined); minedbytes = omega (arith, u .minedbytes) }
 
 pub added : {k : ℕ} {c : Finish} {a : Sums} {f : Facts} {up : Bool} {r : Sums}
     → r .holders ≡ a .holders + weight Holders f → r .bytes ≡ a .bytes + weight HeldBytes f → r .mined ≡ a .mined + weight MinedHolders f → r .minedbytes ≡ a .minedbytes + weight MinedBytes f
-    → r .right ≡ (a .right && rightF k (c .0) f) → r .rises ≡ (a .rises && up)
+    → r .right ≡ (a .right && rightF k (c .0) f) → r .rises ≡ (a .rises && up) → r .unread ≡ (a .unread && eqb (f .reads) 0)
     → weight Holders f < 4294967296 → weight HeldBytes f < 4294967296 → weight MinedHolders f < 4294967296 → weight MinedBytes f < 4294967296
     → Added k c a f up r
-added h b m e g u h′ b′ m′ e′ = record {
+added h b m e g u d h′ b′ m′ e′ = record {
   holders = h;
   bytes = b;
   mined = m;
   minedbytes = e;
   right = g;
   rises = u;
+  unread = d;
   under = λ n x. record { holders = omega (arith, x .holders); bytes = omega (arith, x .bytes); mined = omega (arith, x .mined); minedbytes = omega (arith, x .minedbytes) };
 }
 

@@ -21,11 +21,12 @@ use Rattle.queue.specs.ReadLaws.{Turn, false-true}
 use Rattle.queue.specs.Reopens.{idsAt}
 use Rattle.queue.specs.Filter.{hasIn}
 use Rattle.queue.specs.Suspects.{idR, upTo, Shuffled, InOrder}
-use Rattle.queue.specs.Clash.{rowHas, RowsOf, CutId, anyOf, meetsIds}
+use Rattle.queue.specs.Clash.{rowHas, RowsOf, CutId, anyOf, listOf, MeetsIs, meetsIds, clashes}
+use Rattle.queue.specs.Touching.{SeenHere}
 use Rattle.queue.specs.paper.Records.{Bytes, Id, Rec}
 use Rattle.queue.specs.paper.Ids.{cmpL, same?}
 use Rattle.queue.specs.paper.Lists.{one, any?, count}
-use Rattle.queue.specs.paper.Sound.{inputs, among?, used?, clash?}
+use Rattle.queue.specs.paper.Sound.{among?}
 use Rattle.queue.specs.declared.frame.Seen.{Seen}
 use Rattle.queue.proofs.Turns.{Scan, here, on, stop, end, ReadsRec, seen, see}
 use Rattle.queue.proofs.RowLaws.{id-short, id-long, up-by, lower-trans, rising, any-none, any-some}
@@ -159,20 +160,32 @@ module _ (ids : List Id) {v : Bytes} {n at i left : ℕ} (x : Scan idC (anyF ids
   unfolding anyF anyOf
   any-end e = end x e
 
-unfoldable pub meetF : List Id → Unit {0} → List Rec → Bool
-meetF ids u l = meetsIds ids l
+-- those of one record
+module _ (s : Bytes) (base : ℕ) (x : Seen) {read : Bool} (ids : List Id) {b : Bool} where
+  pub meets-read : read ≡ true → b ≡ anyOf ids (listAt idC (x .facts .reads) (view false s base) (x .reads)) → MeetsIs s base x read ids b
+  meets-read t e r w = e ∙ ap (anyOf ids) (w .0 .readsList) ∙ rw t
 
-module _ (ids : List Id) {s : Bytes} {n at i left : ℕ} (x : Scan (formC false recC) (meetF ids) s n at tt i left tt) where
-  module _ {m : ℕ} {ok b : Bool} {y : Seen} (h : 0 < left) (r : ReadsRec false s i ok m y) (e : b ≡ anyOf ids (listAt idC (y .facts .ins) (view false s i) (y .at))) where
-    pub meet-go : {j : ℕ} → j ≡ afterIn false s i m → b ≡ false → Scan (formC false recC) (meetF ids) s n at tt j (left - 1) tt
-    unfolding meetF meetsIds
-    meet-go g f = let t = see false x h r g in on x tt h t (rw (← (t .is .0 .insList), ← e, f))
+  pub meets-spent : read ≡ false → b ≡ anyOf ids (listAt idC (x .facts .ins) (view false s base) (x .at)) → MeetsIs s base x read ids b
+  meets-spent t e r w = e ∙ ap (anyOf ids) (w .0 .insList) ∙ rw t
 
-    pub meet-stop : b ≡ true → true ≡ meetsIds ids (listAt (formC false recC) n s at)
-    unfolding meetF meetsIds
-    meet-stop f = let t = seen false x h r in stop x t (rw (← (t .is .0 .insList), ← e, f))
+unfoldable pub meetF : Bool → List Id → Unit {0} → List Rec → Bool
+meetF read ids u l = meetsIds read ids l
 
-  pub meet-end : left ≡ 0 → false ≡ meetsIds ids (listAt (formC false recC) n s at)
+module _ (read : Bool) (ids : List Id) {s : Bytes} {n at i left : ℕ} (x : Scan (formC false recC) (meetF read ids) s n at tt i left tt) where
+  module _ {m : ℕ} {ok : Bool} {y : Seen} (h : 0 < left) (r : ReadsRec false s i ok m y) where
+    pub meet-seen : SeenHere s i y
+    meet-seen = let t = seen false x h r in (t .item, (t .is .0, t .is .1 .fine))
+
+    module _ {b : Bool} (e : MeetsIs s i y read ids b) where
+      pub meet-go : {j : ℕ} → j ≡ afterIn false s i m → b ≡ false → Scan (formC false recC) (meetF read ids) s n at tt j (left - 1) tt
+      unfolding meetF meetsIds
+      meet-go g f = let t = see false x h r g in on x tt h t (rw (← (e (t .item) (t .is .0, t .is .1 .fine)), f))
+
+      pub meet-stop : b ≡ true → true ≡ meetsIds read ids (listAt (formC false recC) n s at)
+      unfolding meetF meetsIds
+      meet-stop f = let t = seen false x h r in stop x t (rw (← (e (t .item) (t .is .0, t .is .1 .fine)), f))
+
+  pub meet-end : left ≡ 0 → false ≡ meetsIds read ids (listAt (formC false recC) n s at)
   unfolding meetF meetsIds
   meet-end e = end x e
 
@@ -200,10 +213,7 @@ any-swap : (a b : List Id) → any? (λ i. among? i b) a ≡ any? (λ z. among? 
 any-swap [] b = sym (any-never b)
 any-swap (x ∷ a) b = rw (any-swap a b) (ap (λ (k : Bool). k || any? (λ z. among? z a) b) (any-ext (same? x) (λ z. same? z x) (λ z. same-sym x z) b) ∙ sym (any-or (λ z. same? z x) (λ z. among? z a) b))
 
-pub meets-clash : (ids : List Id) (l : List Rec) → meetsIds ids l ≡ clash? ids l
-unfolding meetsIds anyOf clash? used?
-meets-clash ids [] = sym (any-never ids)
-meets-clash ids (r ∷ l) = rw (meets-clash ids l, ← any-swap ids (inputs (r .body))) (sym (any-or (hasIn-of r) (λ i. used? i l) ids))
-  where
-    hasIn-of : Rec → Id → Bool
-    hasIn-of r i = among? i (inputs (r .body))
+pub meets-clash : (read : Bool) (ids : List Id) (l : List Rec) → meetsIds read ids l ≡ clashes read ids l
+unfolding meetsIds anyOf clashes
+meets-clash read ids [] = sym (any-never ids)
+meets-clash read ids (r ∷ l) = rw (meets-clash read ids l, ← any-swap ids (listOf read r)) (sym (any-or (λ i. among? i (listOf read r)) (λ i. any? (λ y. among? i (listOf read y)) l) ids))

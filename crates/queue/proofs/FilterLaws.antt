@@ -185,17 +185,17 @@ walk-end : {K : Type 0} {has : K → Rec → Bool} {hash : K → ℕ} {all : Lis
 walk-end w x = let h = w .few x in omega arith
 
 -- ---- inputs by counts
-among-more : (x y : Id) (l : List Id) → among? x l ≡ true → among? x (y ∷ l) ≡ true
+pub among-more : (x y : Id) (l : List Id) → among? x l ≡ true → among? x (y ∷ l) ≡ true
 among-more x y l h = cases (same? x y) (λ t. rw t) (λ t. rw t h)
 
-used-none : (x : Id) (l : List Rec) → count (hasIn x) l ≡ 0 → used? x l ≡ false
+pub used-none : (x : Id) (l : List Rec) → count (hasIn x) l ≡ 0 → used? x l ≡ false
 unfolding used?
 used-none x [] e = refl
 used-none x (r ∷ l) e = cases (hasIn x r)
     (λ t. let f = rw t at e in absurd (let z : ⊥ = omega arith in z))
     (λ t. let f = rw t at e in rw t (used-none x l (omega arith)))
 
-used-some : (x : Id) (l : List Rec) → 0 < count (hasIn x) l → used? x l ≡ true
+pub used-some : (x : Id) (l : List Rec) → 0 < count (hasIn x) l → used? x l ≡ true
 unfolding used?
 used-some x [] e = absurd (let z : ⊥ = omega arith in z)
 used-some x (r ∷ l) e = cases (hasIn x r)
@@ -207,7 +207,7 @@ unfolding clash?
 clash-none l [] k = refl
 clash-none l (x ∷ i) k = rw (k x (rw (same-self x))) (clash-none l i (λ y h. k y (among-more y x i h)))
 
-clash-some : (l : List Rec) (x : Id) (i : List Id) → among? x i ≡ true → used? x l ≡ true → clash? i l ≡ true
+pub clash-some : (l : List Rec) (x : Id) (i : List Id) → among? x i ≡ true → used? x l ≡ true → clash? i l ≡ true
 unfolding clash?
 clash-some l x [] e u = false-true e
 clash-some l x (y ∷ i) e u = cases (same? x y)

@@ -13,7 +13,7 @@ use lib.Seq.{drop-cons, take-at}
 use borrow.Author.Tests.{lt-ltb, eq-eqb, ne-eqb}
 use Rattle.queue.specs.Codec.{Bytes, Got, fail, got, _>>=_, Codec, cases, byteC, be, beDec, beC, pairDec, pairC, mapC, optEnc, optC, decs, vecC, countedC, encs, vec-bwd}
 use Rattle.queue.specs.paper.Records.{Id, Limits, Terms, Held, Rec}
-use Rattle.queue.specs.Frames.{tagC, tagDec, idC, labelC, termsC, termsOf, termsTuple, heldC, heldOf, heldTuple, bodyC, placeC, markSince, markC, restK, recK, recOf, recTuple, Four, fourC, sixteenC, sharesC, limitsFrom, limitsTuple, limitsK, Head, headK, headOf, headTuple}
+use Rattle.queue.specs.Frames.{tagC, tagDec, idC, labelC, termsC, termsOf, termsTuple, heldK, heldOf, heldTuple, idsC, readsC, bodyK, signedEnc, placeC, markSince, markC, restK, recK, recOf, recTuple, Four, fourC, sixteenC, sharesC, limitsFrom, limitsTuple, limitsK, Head, headK, headOf, headTuple}
 use Rattle.queue.specs.Choice.{fixC, sinceC, guardDec, guardC, thenDec, thenC}
 use Rattle.queue.specs.Kinds.{mark-enc, mark-up}
 use Rattle.queue.specs.Splice as written
@@ -22,11 +22,12 @@ use Rattle.queue.specs.Shares.{pos256}
 use Rattle.queue.specs.Lists.{and-true}
 use Rattle.queue.specs.Reads.{Reads, Span, flagDec, flagC, Counted, OptSpan, whole, listAt}
 use Rattle.queue.specs.ReadLaws.{drop-none, false-true, pair, mapped, weaken, OptW, opt-absent, opt-present, Small, beAt, be-here, Spans, short, spanned, spans-be, spans-byte, spans-pair, spans-vec, spans-id, counted, opt-span, none-left}
-use Rattle.queue.specs.Facts.{termsUnder, optNum, placeHeight, factsOf, TagAt, MarkAt, CallerAt, NumAt, OptAt, PlaceAs, TermsAs, BodyAs, RestAs, Bounded, SeenFrom, SeenUnder, LimAs, limitsIn, SharesAs, SharesAt, LimitsAs, limitsLen, HeadUnder}
+use Rattle.queue.specs.Facts.{termsUnder, optNum, placeHeight, factsOf, ListAs, TagAt, MarkAt, CallerAt, ReadsAt, NumAt, OptAt, PlaceAs, TermsAs, BodyAs, RestAs, Bounded, SeenFrom, SeenUnder, LimAs, limitsIn, SharesAs, SharesAt, LimitsAs, limitsLen, HeadUnder}
 use Rattle.queue.specs.paper.Lists.{isSome}
-use Rattle.queue.specs.paper.Kinds.{hasMark3, markSaid?, hasCallers, firstShare}
-use Rattle.queue.specs.paper.Sound.{labelLen, inputs, outputs, content}
+use Rattle.queue.specs.paper.Kinds.{hasMark3, markSaid?, hasCallers, hasReads, firstShare}
+use Rattle.queue.specs.paper.Sound.{labelLen, inputs, outputs, reads, content}
 use Rattle.queue.specs.declared.frame.Facts.{Facts}
+use Rattle.queue.specs.declared.frame.Items.{Items}
 use Rattle.queue.specs.declared.frame.TermsR.{TermsR}
 use Rattle.queue.specs.declared.frame.PlaceR.{PlaceR}
 use Rattle.queue.specs.declared.frame.BodyR.{BodyR}
@@ -249,14 +250,34 @@ unfolding placeC
 place-some r x z y p o e1 = something (pairC (beC 4) idC) (PlaceAs r) (λ a w. record { has = sym e1; height = w .0; small = y .1 }) x z (pair (y .0) (spanned spans-id p)) o
 
 -- ---- a body
-pub body-none : {s : Bytes} {at n : ℕ} {ok has : Bool} (r : BodyR) → Reads flagC s at ok n (λ b. has ≡ b) → has ≡ false
-    → r .holder ≡ false → r .ins ≡ 0 → r .outs ≡ 0 → r .bytes ≡ 0 → r .at ≡ n → r .to ≡ n → r .content ≡ n → Reads bodyC s at ok n (BodyAs s r)
-unfolding bodyC
-body-none {s} {at} {n} {ok} {has} r x z e1 e2 e3 e4 e5 e6 e7 = nothing heldC (BodyAs s r)
-    (λ v. let y = none-left idC s (r .ins) (r .at) e2 in let u = none-left idC s (r .outs) (r .to) e3 in record {
+-- the read ids where the kind has them
+pub reads-yes : (k : ℕ) {s : Bytes} {at : ℕ} (y : Items) → hasReads k ≡ true → Counted s at 2 32 (y .ok) (y .len) (y .start) (y .next) → ReadsAt k s at y
+reads-yes k {s} {at} y t x = (
+  rw t (weaken (ListAs s y) (listed spans-id x) (λ a d u v w.
+      let p = whole-of idC s (y .len) (y .start) a (drop (y .next) s) (w .1) in
+      record { len = w .0; all = p .0; list = p .1; inside = w .2; small = w .3 })),
+  λ f. false-true (sym f ∙ t),
+)
+
+pub reads-no : (k : ℕ) {s : Bytes} {at : ℕ} (y : Items) → hasReads k ≡ false → y .ok ≡ true → y .len ≡ 0 → y .start ≡ at → y .next ≡ at → ReadsAt k s at y
+unfolding fixC
+reads-no k {s} {at} y f e1 e2 e3 e4 = (
+  rw (f, e1, e4) (record {
+    good = λ h _. ([], refl, omega arith, h, let p = none-left idC s (y .len) (y .start) e2 in record { len = sym e2; all = p .1; list = p .0; inside = omega arith; small = omega arith });
+    bad = λ h z. false-true (sym z);
+  }),
+  λ _. (e3, e4),
+)
+
+pub body-none : {s : Bytes} {at n : ℕ} {ok has : Bool} (k : ℕ) (r : BodyR) → Reads flagC s at ok n (λ b. has ≡ b) → has ≡ false
+    → r .holder ≡ false → r .ins ≡ 0 → r .outs ≡ 0 → r .reads ≡ 0 → r .bytes ≡ 0 → r .at ≡ n → r .to ≡ n → r .seen ≡ n → r .content ≡ n → r .next ≡ n → Reads (bodyK k) s at ok n (BodyAs k s r)
+unfolding bodyK
+body-none {s} {at} {n} {ok} {has} k r x z e1 e2 e3 e8 e4 e5 e6 e9 e7 e10 = nothing (heldK k) (BodyAs k s r)
+    (λ v. let y = none-left idC s (r .ins) (r .at) e2 in let u = none-left idC s (r .outs) (r .to) e3 in let d = none-left idC s (r .reads) (r .seen) e8 in record {
       holder = sym e1;
       ins = sym e2;
       outs = sym e3;
+      readLen = sym e8;
       bytes = sym e4;
       insAll = y .1;
       insList = y .0;
@@ -264,44 +285,56 @@ body-none {s} {at} {n} {ok} {has} r x z e1 e2 e3 e4 e5 e6 e7 = nothing heldC (Bo
       outsAll = u .1;
       outsList = u .0;
       outsIn = omega arith;
+      readsAll = d .1;
+      readsList = d .0;
+      readsIn = omega arith;
       signed = ap (λ (k : ℕ). take k (drop (r .content) s)) e4;
       signedIn = omega arith;
       insSmall = omega arith;
       outsSmall = omega arith;
+      readsSmall = omega arith;
       bytesSmall = omega arith;
+      tail = λ _. omega arith;
     }) x z
 
-pub body-some : {s : Bytes} {at m ni no nb : ℕ} {ok₁ oki oko okb has : Bool} (r : BodyR) → Reads flagC s at ok₁ m (λ b. has ≡ b) → has ≡ true
-    → Counted s m 2 32 oki (r .ins) (r .at) ni → Counted s ni 2 32 oko (r .outs) (r .to) no → Counted s no 4 1 okb (r .bytes) (r .content) nb
-    → r .ok ≡ (ok₁ && (oki && (oko && okb))) → r .holder ≡ true → Reads bodyC s at (r .ok) nb (BodyAs s r)
-unfolding bodyC heldC
-body-some {s} {at} {m} {ni} {no} {nb} {ok₁} {oki} {oko} {okb} {has} r x z i o b e e1 =
-    something heldC (BodyAs s r) {W = HW} go x z (mapped heldOf heldTuple (λ t. refl) (λ t. refl) HW (pair (listed spans-id i) (pair (listed spans-id o) (listed spans-byte b))) (λ t _ _ _ w. (w .0, w .1 .0, w .1 .1))) e
+pub body-some : {s : Bytes} {at m ni no nb : ℕ} {ok₁ oki oko okb has : Bool} (k : ℕ) (y : Items) (r : BodyR) → Reads flagC s at ok₁ m (λ b. has ≡ b) → has ≡ true
+    → Counted s m 2 32 oki (r .ins) (r .at) ni → Counted s ni 2 32 oko (r .outs) (r .to) no → ReadsAt k s no y → Counted s (y .next) 4 1 okb (r .bytes) (r .content) nb
+    → r .ok ≡ (ok₁ && (oki && (oko && (y .ok && okb)))) → r .holder ≡ true → r .reads ≡ y .len → r .seen ≡ y .start → r .next ≡ nb → Reads (bodyK k) s at (r .ok) nb (BodyAs k s r)
+unfolding bodyK heldK
+body-some {s} {at} {m} {ni} {no} {nb} {ok₁} {oki} {oko} {okb} {has} k y r x z i o d b e e1 e2 e3 e4 =
+    something (heldK k) (BodyAs k s r) {W = HW} go x z (mapped heldOf heldTuple (λ t. refl) (λ t. refl) HW (pair (listed spans-id i) (pair (listed spans-id o) (pair (d .0) (stands (listed spans-byte b))))) (λ t _ _ _ w. (w .0, w .1 .0, w .1 .1 .0, w .1 .1 .1))) e
   where
     HW : Held → Type 0
-    HW h = Listed idC s 2 (r .ins) (r .at) ni (h .ins) × Listed idC s 2 (r .outs) (r .to) no (h .outs) × Listed byteC s 4 (r .bytes) (r .content) nb (h .bytes)
+    HW h = Listed idC s 2 (r .ins) (r .at) ni (h .ins) × Listed idC s 2 (r .outs) (r .to) no (h .outs) × ListAs s y (h .reads) × Stands (countedC byteC 4) s (y .next) nb (Listed byteC s 4 (r .bytes) (r .content) nb) (h .bytes)
 
-    go : (h : Held) → HW h → BodyAs s r (some h)
+    go : (h : Held) → HW h → BodyAs k s r (some h)
     go h w =
         let p = whole-of idC s (r .ins) (r .at) (h .ins) (drop ni s) (w .0 .1) in
         let q = whole-of idC s (r .outs) (r .to) (h .outs) (drop no s) (w .1 .1) in
-        let c = bytes-of s (r .bytes) (r .content) (h .bytes) (drop nb s) (w .2 .2) (w .2 .1) in
+        let c = bytes-of s (r .bytes) (r .content) (h .bytes) (drop nb s) (w .3 .0 .2) (w .3 .0 .1) in
+        let f = w .2 in
         record {
           holder = sym e1;
           ins = w .0 .0;
           outs = w .1 .0;
-          bytes = w .2 .0;
+          readLen = f .len ∙ sym e2;
+          bytes = w .3 .0 .0;
           insAll = p .0;
           insList = p .1;
           insIn = w .0 .2;
           outsAll = q .0;
           outsList = q .1;
           outsIn = w .1 .2;
+          readsAll = rw (e2, e3) (f .all);
+          readsList = rw (e2, e3) (f .list);
+          readsIn = rw e3 (f .inside);
           signed = c .0;
           signedIn = c .1;
           insSmall = w .0 .3;
           outsSmall = w .1 .3;
-          bytesSmall = w .2 .3;
+          readsSmall = rw e2 (f .small);
+          bytesSmall = w .3 .0 .3;
+          tail = λ u. let p = d .1 u in let n = w .3 .2 in omega arith;
         }
 
 -- a flag takes a byte
@@ -310,9 +343,9 @@ unfolding optC optEnc
 opt-long 𝓐 none = omega arith
 opt-long 𝓐 (some a) = omega arith
 
-pub body-long : (o : Option Held) → 1 ≤ length (bodyC .enc o)
-unfolding bodyC
-body-long o = opt-long heldC o
+pub body-long : (k : ℕ) (o : Option Held) → 1 ≤ length (bodyK k .enc o)
+unfolding bodyK
+body-long k o = opt-long (heldK k) o
 
 -- ---- what stands behind the terms
 -- what is read and passes a test that the value decides
@@ -337,22 +370,23 @@ mark-read k {s} {at} {next} {v} {ok} x e f = (ok-as (f ∙ rw e) (go (hasMark3 k
     go false = guarded (λ m. not (eqb m 3)) (λ m. m ≡ v) (not (eqb v 3)) (λ m w. rw w) (x .0)
 
 pub rest-read : {s : Bytes} {at na nb nc nd : ℕ} {oka okb okc okd : Bool} (k : ℕ) (pr : PlaceR) (r : RestR)
-    → Reads placeC s at oka na (PlaceAs pr) → MarkAt k s na okb nb (r .mark) → NumAt 8 s nb okc nc (r .finish .0) → Reads bodyC s nc okd nd (BodyAs s (r .held))
-    → r .ok ≡ (oka && (okb && (okc && okd))) → r .placed ≡ pr .has → r .mined .0 ≡ pr .height .0 → r .marks ≡ na → r .body ≡ nc → r .next ≡ nd → Reads (restK k) s at (r .ok) nd (RestAs s at r)
-rest-read {s} {at} {na} {nb} {nc} {nd} k pr r a b c d o e1 e2 e3 e4 e5 = ok-as o (weaken (RestAs s at r)
+    → Reads placeC s at oka na (PlaceAs pr) → MarkAt k s na okb nb (r .mark) → NumAt 8 s nb okc nc (r .finish .0) → Reads (bodyK k) s nc okd nd (BodyAs k s (r .held))
+    → r .ok ≡ (oka && (okb && (okc && okd))) → r .placed ≡ pr .has → r .mined .0 ≡ pr .height .0 → r .marks ≡ na → r .body ≡ nc → r .next ≡ nd → r .held .next ≡ nd → Reads (restK k) s at (r .ok) nd (RestAs k s at r)
+rest-read {s} {at} {na} {nb} {nc} {nd} k pr r a b c d o e1 e2 e3 e4 e5 e6 = ok-as o (weaken (RestAs k s at r)
     (pair (stands a) (pair (sized 1 (mark-size k) (b .0)) (pair (sized 8 (spans-be 8 .size) (c .0)) (stands d))))
     (λ t _ _ _ w.
     let p = w .0 in
     let m = w .1 .0 in
     let f = w .1 .1 .0 in
     let h = w .1 .1 .1 in
-    let lh = body-long (t .1 .1 .1) in
+    let lh = body-long k (t .1 .1 .1) in
     record {
       placed = p .0 .has ∙ sym e1;
       mined = p .0 .height ∙ sym e2;
       mark = m .0;
       finish = f .0;
       held = h .0;
+      heldEnd = e6 ∙ sym e5;
       place = rw e3 (p .1);
       marks = rw (e3, e4) (m .1 ∙ ap (λ (z : Bytes). markC k .enc (t .1 .0) ++ z) (f .1) ∙ rw (mark-enc k (t .1 .0)));
       body = rw (e4, e5) (h .1);
@@ -366,8 +400,8 @@ rest-read {s} {at} {na} {nb} {nc} {nd} k pr r a b c d o e1 e2 e3 e4 e5 = ok-as o
     }))
 
 -- ---- a record
-unfoldable facts : ℕ → ℕ → ℕ → ℕ → Bool → ℕ → Bool → ℕ → ℕ → ℕ → ℕ → Bool → ℕ → ℕ → ℕ → Bool → ℕ → ℕ → ℕ → Facts
-facts w a b c d e f g h i j k l m n o p q r = record {
+unfoldable facts : ℕ → ℕ → ℕ → ℕ → Bool → ℕ → Bool → ℕ → ℕ → ℕ → ℕ → Bool → ℕ → ℕ → ℕ → Bool → ℕ → ℕ → ℕ → ℕ → Facts
+facts w a b c d e f g h i j k l m n o p q r s = record {
   caller = w;
   state = a;
   reason = b;
@@ -386,7 +420,8 @@ facts w a b c d e f g h i j k l m n o p q r = record {
   holder = o;
   ins = p;
   outs = q;
-  bytes = r;
+  reads = r;
+  bytes = s;
 }
 
 -- the facts read, part by part
@@ -410,19 +445,20 @@ factsFrom w a b t r = record {
   holder = r .held .holder;
   ins = r .held .ins;
   outs = r .held .outs;
+  reads = r .held .reads;
   bytes = r .held .bytes;
 }
 
-facts-from : (w a b : ℕ) (t : TermsR) (r : RestR) → factsFrom w a b t r ≡ facts w a b (t .created .0) (t .timed) (t .due .0) (t .heighted) (t .dueheight .0) (t .priority) (t .label) (t .size) (r .placed) (r .mined .0) (r .mark) (r .finish .0) (r .held .holder) (r .held .ins) (r .held .outs) (r .held .bytes)
+facts-from : (w a b : ℕ) (t : TermsR) (r : RestR) → factsFrom w a b t r ≡ facts w a b (t .created .0) (t .timed) (t .due .0) (t .heighted) (t .dueheight .0) (t .priority) (t .label) (t .size) (r .placed) (r .mined .0) (r .mark) (r .finish .0) (r .held .holder) (r .held .ins) (r .held .outs) (r .held .reads) (r .held .bytes)
 unfolding facts
 facts-from w a b t r = refl
 
-facts-of : (x : Rec) → factsOf x ≡ facts (x .caller) (x .state) (x .reason) (x .terms .created) (isSome (x .terms .due)) (optNum (x .terms .due)) (isSome (x .terms .dueHeight)) (optNum (x .terms .dueHeight)) (x .terms .priority) (labelLen (x .terms .label)) (x .terms .size) (isSome (x .place)) (placeHeight (x .place)) (x .mark) (x .finish) (isSome (x .body)) (length (inputs (x .body))) (length (outputs (x .body))) (length (content (x .body)))
+facts-of : (x : Rec) → factsOf x ≡ facts (x .caller) (x .state) (x .reason) (x .terms .created) (isSome (x .terms .due)) (optNum (x .terms .due)) (isSome (x .terms .dueHeight)) (optNum (x .terms .dueHeight)) (x .terms .priority) (labelLen (x .terms .label)) (x .terms .size) (isSome (x .place)) (placeHeight (x .place)) (x .mark) (x .finish) (isSome (x .body)) (length (inputs (x .body))) (length (outputs (x .body))) (length (reads (x .body))) (length (content (x .body)))
 unfolding facts factsOf
 facts-of x = refl
 
-facts-is : (v : Bytes) (at w a b : ℕ) (t : TermsR) (r : RestR) (x : Rec) → x .caller ≡ w → x .state ≡ a → x .reason ≡ b → TermsAs t (x .terms) → RestAs v at r (x .place, (x .mark, (x .finish, x .body))) → factsFrom w a b t r ≡ factsOf x
-facts-is v at w a b t r x g e f p q = facts-from w a b t r ∙ cc (facts-of x)
+facts-is : (i : ℕ) (v : Bytes) (at w a b : ℕ) (t : TermsR) (r : RestR) (x : Rec) → x .caller ≡ w → x .state ≡ a → x .reason ≡ b → TermsAs t (x .terms) → RestAs i v at r (x .place, (x .mark, (x .finish, x .body))) → factsFrom w a b t r ≡ factsOf x
+facts-is i v at w a b t r x g e f p q = facts-from w a b t r ∙ cc (facts-of x)
 
 -- a caller takes a byte where the kind has it
 caller-size : (has : Bool) (c : ℕ) → sinceC has (beC 1) 0 .ok c → length (sinceC has (beC 1) 0 .enc c) ≡ cond has 1 0
@@ -438,12 +474,12 @@ unfolding fixC
 caller-no k f = (rw f (record { good = λ h _. (0, refl, omega arith, h, refl); bad = λ h z. false-true (sym z) }), omega arith)
 
 pub rec-read : {s : Bytes} {na nb nw nc nd ne nf vw vc vd : ℕ} {va : Id} {oka okb okw okc okd oke okf : Bool} (k : ℕ) (t : TermsR) (x : RestR) (r : Seen)
-    → TagAt 2 s 0 oka na → Reads idC s na okb nb (λ x. x ≡ va) → CallerAt k s nb okw nw vw → NumAt 1 s nw okc nc vc → NumAt 1 s nc okd nd vd → Reads termsC s nd oke ne (TermsAs t) → Reads (restK k) s ne okf nf (RestAs s ne x)
+    → TagAt 2 s 0 oka na → Reads idC s na okb nb (λ x. x ≡ va) → CallerAt k s nb okw nw vw → NumAt 1 s nw okc nc vc → NumAt 1 s nc okd nd vd → Reads termsC s nd oke ne (TermsAs t) → Reads (restK k) s ne okf nf (RestAs k s ne x)
     → r .ok ≡ (oka && (okb && (okw && (okc && (okd && (oke && okf)))))) → r .id ≡ va → r .facts ≡ factsFrom vw vc vd t x
-    → r .after ≡ ne → r .mark ≡ x .marks → r .body ≡ x .body → r .at ≡ x .held .at → r .outs ≡ x .held .to → r .content ≡ x .held .content → r .size ≡ nf → x .next ≡ nf
+    → r .after ≡ ne → r .mark ≡ x .marks → r .body ≡ x .body → r .at ≡ x .held .at → r .outs ≡ x .held .to → r .reads ≡ x .held .seen → r .content ≡ x .held .content → r .size ≡ nf → x .next ≡ nf
     → Reads (recK k) s 0 (r .ok) nf (SeenUnder k s r)
 unfolding recK
-rec-read {s} {na} {nb} {nw} {nc} {nd} {ne} {nf} {vw} {vc} {vd} {va} k t x r a b cw c d e f o e1 e2 e3 e4 e5 e6 e7 e8 e9 e10 = ok-as o (mapped recOf recTuple (λ t. refl) (λ t. refl) (SeenUnder k s r)
+rec-read {s} {na} {nb} {nw} {nc} {nd} {ne} {nf} {vw} {vc} {vd} {va} k t x r a b cw c d e f o e1 e2 e3 e4 e5 e6 e7 e11 e8 e9 e10 = ok-as o (mapped recOf recTuple (λ t. refl) (λ t. refl) (SeenUnder k s r)
     (pair (sized 1 (tag-size 2) a) (pair (sized 32 (spans-id .size) b) (pair (sized (cond (hasCallers k) 1 0) (caller-size (hasCallers k)) (cw .0)) (pair (sized 1 (spans-be 1 .size) (c .0)) (pair (sized 1 (spans-be 1 .size) (d .0)) (pair (stands e) f))))))
     (λ y _ _ _ w.
     let p1 = w .0 .2 in
@@ -457,10 +493,11 @@ rec-read {s} {na} {nb} {nw} {nc} {nd} {ne} {nf} {vw} {vc} {vd} {va} k t x r a b 
     let at-terms : termsUnder k ≡ nd = lead-at (hasCallers k) ∙ omega arith in
     let ins : r .facts .ins ≡ x .held .ins = rw e2 in
     let outs : r .facts .outs ≡ x .held .outs = rw e2 in
+    let reads′ : r .facts .reads ≡ x .held .reads = rw e2 in
     let bytes : r .facts .bytes ≡ x .held .bytes = rw e2 in
     record {
       id = e1 ∙ sym (w .1 .0 .0);
-      facts = e2 ∙ facts-is s ne vw vc vd t x (recOf y) (w .1 .1 .0 .0) (w .1 .1 .1 .0 .0) (w .1 .1 .1 .1 .0 .0) (tw .0) xw;
+      facts = e2 ∙ facts-is k s ne vw vc vd t x (recOf y) (w .1 .1 .0 .0) (w .1 .1 .1 .0 .0) (w .1 .1 .1 .1 .0 .0) (tw .0) xw;
       small = rw e2 (record {
         caller = cw .1;
         state = c .1;
@@ -476,6 +513,7 @@ rec-read {s} {na} {nb} {nw} {nc} {nd} {ne} {nf} {vw} {vc} {vd} {va} k t x r a b 
         finish = xw .finishSmall;
         ins = hw .insSmall;
         outs = hw .outsSmall;
+        reads = hw .readsSmall;
         bytes = hw .bytesSmall;
       });
       terms = ap (λ (j : ℕ). drop j s) at-terms ∙ rw e3 (tw .1);
@@ -493,8 +531,12 @@ rec-read {s} {na} {nb} {nw} {nc} {nd} {ne} {nf} {vw} {vc} {vd} {va} k t x r a b 
       outsAll = rw (outs, e7) (hw .outsAll);
       outsList = rw (outs, e7) (hw .outsList);
       outsIn = rw e7 (hw .outsIn);
+      readsAll = rw (reads′, e11) (hw .readsAll);
+      readsList = rw (reads′, e11) (hw .readsList);
+      readsIn = rw e11 (hw .readsIn);
       signed = rw (bytes, e8) (hw .signed);
       signedIn = rw (bytes, e8) (hw .signedIn);
+      tail = λ u. let p = hw .tail u in let q = xw .heldEnd in omega arith;
     }))
   where
     lead-at : (has : Bool) → _≡_ {A = ℕ} (cond has 36 35) (35 + cond has 1 0)
@@ -617,6 +659,6 @@ head-read {s} {na} {nr} {nc} {ni} {nf} {nn} k m r a b c d e f g o e1 e5 e6 e7 = 
     }))
 
 -- a record's caller, as it is written again
-pub caller-byte : {v : Bytes} {x : Seen} {r : Rec} {from : ℕ} → SeenFrom from v x r → written.be 1 (x .facts .caller) ≡ be 1 (r .caller)
+pub caller-byte : {v : Bytes} {x : Seen} {r : Rec} {from k : ℕ} → SeenFrom from k v x r → written.be 1 (x .facts .caller) ≡ be 1 (r .caller)
 unfolding factsOf
 caller-byte {x = x} w = be-same 1 (x .facts .caller) (w .small .caller) ∙ ap (λ (f : Facts). be 1 (f .caller)) (w .facts)

@@ -7,6 +7,7 @@ pub mod ScanLaws
 pub mod FilterLaws
 pub mod RowLaws
 pub mod SuspectLaws
+pub mod CrossLaws
 pub mod NumberLaws
 pub mod CheckLaws
 pub mod ClashLaws

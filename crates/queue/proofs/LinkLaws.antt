@@ -7,8 +7,8 @@ use native.Mathlib.Omega.{arith}
 use native.Mathlib.Numerals.{add-one}
 use native.Mathlib.Nat.{le-of-suc-le-suc}
 use lib.Dec.{ltb, leb, eqb}
-use lib.ListN.{length, take, getD, set, length-set, length-take, List·getD-eq-default}
-use lib.Seq.{getD-set-same, getD-set-other, take-suc, take-suc-set, take-all, getD-take}
+use lib.ListN.{length, drop, take, getD, set, length-set, length-take, List·getD-eq-default}
+use lib.Seq.{length-take-le, drop-drop, getD-set-same, getD-set-other, take-suc, take-suc-set, take-all, getD-take}
 use borrow.Author.Tests.{eqb-true, eqb-false, eq-eqb, ne-eqb, ltb-true, ltb-false, lt-ltb, le-ltb, leb-true, le-leb, lt-leb, not-true, not-false}
 use Rattle.queue.specs.Codec.{All, cases}
 use Rattle.queue.specs.Ids.{part}
@@ -25,13 +25,14 @@ use Rattle.queue.specs.fees.Told.{recAt, Known}
 use Rattle.queue.specs.paper.Records.{Bytes, Id, Rec}
 use Rattle.queue.specs.paper.Ids.{cmpL, same?}
 use Rattle.queue.specs.paper.Lists.{any?, all?}
-use Rattle.queue.specs.paper.Sound.{inputs, outputs, among?}
-use Rattle.queue.specs.parents.Links.{hashAll, wantsAt, outsAt, Short, Joined, hit, inLine, Zero, Cleared, Kept, Held, Rowed, Linked, outputsLinked, Begins}
+use Rattle.queue.specs.paper.Sound.{inputs, outputs, reads, wanted, among?}
+use Rattle.queue.specs.parents.Links.{Again, Thinner, Thinned, hashAll, wantsAt, outsAt, Short, Joined, hit, inLine, Zero, Cleared, Kept, Held, Rowed, Linked, outputsLinked, Begins}
 use Rattle.queue.specs.declared.frame.Seen.{Seen}
 use Rattle.queue.proofs.Turns.{Scan, start, here, on, ReadsRec}
 use Rattle.queue.proofs.FilterLaws.{mark-size, mark-here, mark-old, slot-in}
 use Rattle.queue.proofs.RowLaws.{id-long, any-none, any-some, later-no, later-yes, later-behind, rising}
 use Rattle.queue.proofs.SuspectLaws.{id-bytes, all-at, all-append, shuffled-all}
+use Rattle.queue.proofs.TouchLaws.{among-append}
 use Rattle.queue.proofs.OwnLaws.{shuffled-any, any-append}
 use Rattle.queue.proofs.FeeLaws.{the-turn, rec-is, known-at}
 use Rattle.queue.proofs.BitLaws.{or-no, or-group, spread, joined-none, joined-to, joined-then}
@@ -282,6 +283,18 @@ module _ {s : Bytes} {j : ℕ} {b : Bytes} {c at : ℕ} {slots₀ t₀ rows₀ :
     by = λ own o. held-to (λ n z. ap (λ (q : Bool). own n z || (eqb n j && q)) (sym (or-no (x .done z)) ∙ sym (x .split z ∙ ap (λ (k : List Id). x .done z || among? z k) (none-left idC b left i e .0)))) (x .by own o);
   }
 
+-- rows for two lists of ids
+pub rowed-both : {s : Bytes} {j : ℕ} (a b : List Id) {slots t rows slots₁ t₁ rows₁ slots₂ t₂ rows₂ : List ℕ} → Rowed s j a slots t rows slots₁ t₁ rows₁ → Rowed s j b slots₁ t₁ rows₁ slots₂ t₂ rows₂ → Rowed s j (a ++ b) slots t rows slots₂ t₂ rows₂
+rowed-both {s} {j} a b x y = record {
+  sizes = (y .sizes .0 ∙ x .sizes .0, y .sizes .1 ∙ x .sizes .1);
+  by = λ own o. held-to (λ i z. mix (own i z) (eqb i j) (among? z a) (among? z b) ∙ ap (λ (q : Bool). own i z || (eqb i j && q)) (sym (among-append z a b))) (y .by (λ i z. own i z || (eqb i j && among? z a)) (x .by own o));
+}
+  where
+    mix : (o e p q : Bool) → ((o || (e && p)) || (e && q)) ≡ (o || (e && (p || q)))
+    mix true e p q = refl
+    mix false true p q = refl
+    mix false false p q = refl
+
 -- ---- a record that stands at a place, as it was read
 module _ (s : Bytes) (at : List ℕ) (i : ℕ) {m : ℕ} {ok : Bool} {y : Seen} (all : All (Known s) at) (h : i < length at) (rd : ReadsRec false s (getD at i 0) ok m y) where
   abbrev stands : Known s (getD at i 0)
@@ -296,19 +309,27 @@ module _ (s : Bytes) (at : List ℕ) (i : ℕ) {m : ℕ} {ok : Bool} {y : Seen} 
   pub outs-here : (y .outs ≤ length (view false s (getD at i 0))) × (whole idC (y .facts .outs) (view false s (getD at i 0)) (y .outs) ≡ true)
   outs-here = (its .outsIn, its .outsAll)
 
-  pub ins-are : listAt idC (y .facts .ins) (view false s (getD at i 0)) (y .at) ≡ wantsAt s at i
-  ins-are = its .insList ∙ ap (λ (r : Rec). inputs (r .body)) (sym (rec-is s (getD at i 0) (stands .stands) rd))
+  pub reads-here : (y .reads ≤ length (view false s (getD at i 0))) × (whole idC (y .facts .reads) (view false s (getD at i 0)) (y .reads) ≡ true)
+  reads-here = (its .readsIn, its .readsAll)
+
+  pub wants-are : listAt idC (y .facts .ins) (view false s (getD at i 0)) (y .at) ++ listAt idC (y .facts .reads) (view false s (getD at i 0)) (y .reads) ≡ wantsAt s at i
+  wants-are = two (its .insList) (its .readsList) ∙ ap (λ (r : Rec). wanted (r .body)) (sym (rec-is s (getD at i 0) (stands .stands) rd))
+    where
+      two : {a a′ b b′ : List Id} → a ≡ a′ → b ≡ b′ → a ++ b ≡ a′ ++ b′
+      two e f = cc
 
   pub outs-are : listAt idC (y .facts .outs) (view false s (getD at i 0)) (y .outs) ≡ outsAt s at i
   outs-are = its .outsList ∙ ap (λ (r : Rec). outputs (r .body)) (sym (rec-is s (getD at i 0) (stands .stands) rd))
 
-  pub ins-few : All (Short s) at → y .facts .ins ≤ 128
+  pub wants-few : All (Short s) at → (y .facts .ins ≤ 128) × (y .facts .reads ≤ 128)
   unfolding factsOf
-  ins-few short =
+  wants-few short =
       let e : y .facts .ins ≡ length (inputs (the-turn s (getD at i 0) (stands .stands) rd .item .body)) = ap (λ f. f .ins) (its .facts) in
-      let q : length (inputs (recAt s (getD at i 0) .body)) ≤ 128 = all-get at i short h in
+      let d : y .facts .reads ≡ length (reads (the-turn s (getD at i 0) (stands .stands) rd .item .body)) = ap (λ f. f .reads) (its .facts) in
+      let q = all-get at i short h in
       let z = ap (λ (r : Rec). length (inputs (r .body))) (rec-is s (getD at i 0) (stands .stands) rd) in
-      omega arith
+      let u = ap (λ (r : Rec). length (reads (r .body))) (rec-is s (getD at i 0) (stands .stands) rd) in
+      (omega (arith, q .0), omega (arith, q .1))
     where
       all-get : (l : List ℕ) (i : ℕ) → All (Short s) l → i < length l → Short s (getD l i 0)
       all-get [] i a h = absurd (let z : ⊥ = omega arith in z)
@@ -346,7 +367,7 @@ records-go s at a b {ids} h e x r = held-to (λ j z. both j z) (r .by (wantedIn 
             apart j b q k = cases (eqb j b) (λ u. absurd (q (eqb-true j b u))) (λ u. cases (ltb b j) (λ w. ltb-true b j w) (λ w. let o = ltb-false b j w in absurd (q (let z : j ≡ b = omega arith in z))))
 
 -- there was room for one
-pub grew : {a b : ℕ} (k n : ℕ) → a ≤ b → (b ≡ a → k ≡ 0) → 128 ≤ n → n - k < 128 → a < b
+pub grew : {a b : ℕ} (k n : ℕ) → a ≤ b → (b ≡ a → k ≡ 0) → 256 ≤ n → n - k < 256 → a < b
 grew {a} {b} k n h f g l = cases (ltb a b)
     (λ t. ltb-true a b t)
     (λ t. let o = ltb-false a b t in let z = f (omega arith) in absurd (let y : ⊥ = omega arith in y))
@@ -533,8 +554,100 @@ pub lines-end : {w : ℕ} (i : ℕ) {s : Bytes} (at : List ℕ) {slots t v bits�
 unfolding linesTo outputsLinked
 lines-end i at e x = record { by = λ own o. joined-to (λ k j. rw e) (x .by own o) }
 
-pub linked-order : {w : ℕ} {s : Bytes} (at : List ℕ) {slots t v v′ bits bits′ : List ℕ} → Shuffled v v′ → Linked w s slots t v′ bits bits′ (outputsLinked s at) → Linked w s slots t v bits bits′ (outputsLinked s at)
-linked-order at k x = record { by = λ own o. x .by own (held-order k o) }
+-- ---- rows that stand again
+hit-same : (s : Bytes) (j : ℕ) (z : Id) (x y : ℕ) → idR false s x ≡ idR false s y → noR x ≡ noR y → hit s j z x ≡ hit s j z y
+unfolding hit later
+hit-same s j z x y e f = rw (e, f)
+
+pub again-is : {s : Bytes} {v : List ℕ} {k x : ℕ} {c : ℕ} {b : Bool} → (k ≡ 0 → ⊥) → c ≡ cmpL (idR false s (getD v (k - 1) 0)) (idR false s x) → b ≡ (eqb c 1 && eqb (getD v (k - 1) 0 % 4294967296) (x % 4294967296)) → b ≡ true → Again s v k x
+unfolding noR
+again-is {s} {v} {k} {x} {c} {b} n e f t =
+    let u = and-true (eqb c 1) (eqb (getD v (k - 1) 0 % 4294967296) (x % 4294967296)) (sym f ∙ t) in
+    record { some = pos k n; id = same-is (idR false s (getD v (k - 1) 0)) (idR false s x) (eq-eqb (cmpL (idR false s (getD v (k - 1) 0)) (idR false s x)) 1 (sym e ∙ eqb-true c 1 (u .0))); number = eqb-true _ _ (u .1) }
+  where
+    pos : (k : ℕ) → (k ≡ 0 → ⊥) → 0 < k
+    pos zero n = absurd (n refl)
+    pos (suc k) n = omega arith
+
+pub thinner-not : {s : Bytes} (v : List ℕ) (k x : ℕ) → k < length v → Again s v k x → Thinner s v k x k v
+thinner-not {s} v k x h a = record {
+  size = refl;
+  up = omega arith;
+  rest = refl;
+  same = λ j i. cases (hit s j i x)
+      (λ t. let q : k - 1 < k = let z = a .some in omega arith in
+      let g : hit s j i (getD (take k v) (k - 1) 0) ≡ true = ap (hit s j i) (getD-take k v (k - 1) 0 q) ∙ hit-same s j i (getD v (k - 1) 0) x (a .id) (a .number) ∙ t in
+      let y = any-some (hit s j i) (take k v) (k - 1) (omega (arith, length-take-le k v (omega arith))) g in
+      rw (t, y))
+      (λ t. rw t (sym (or-no (any? (hit s j i) (take k v)))));
+  some = λ p e _. e;
+}
+
+pub thinner-new : {s : Bytes} (v : List ℕ) (k x : ℕ) {v′ : List ℕ} → k < length v → v′ ≡ set v k x → Thinner s v k x (k + 1) v′
+thinner-new {s} v k x {v′} h e =
+    let t : take (k + 1) v′ ≡ take k v ++ (x ∷ []) = ap (take (k + 1)) e ∙ rw add-one (take-suc-set v k x h) in
+    record {
+      size = ap length e ∙ length-set v k x;
+      up = omega arith;
+      rest = ap (drop (k + 1)) e ∙ rw add-one (drop-set v k x);
+      same = λ j i. ap (any? (hit s j i)) t ∙ any-append (hit s j i) (take k v) (x ∷ []) ∙ ap (λ (q : Bool). any? (hit s j i) (take k v) || q) (or-no (hit s j i x));
+      some = λ p a b. ap (all? p) t ∙ all-append p (take k v) (x ∷ []) ∙ rw (a, b);
+    }
+  where
+    drop-set : (v : List ℕ) (k x : ℕ) → drop (suc k) (set v k x) ≡ drop (suc k) v
+    drop-set [] k x = refl
+    drop-set (a ∷ v) zero x = refl
+    drop-set (a ∷ v) (suc k) x = drop-set v k x
+
+-- those before i are thinned to k
+pub record Thinning (s : Bytes) (v₀ : List ℕ) (i k : ℕ) (v : List ℕ) : Type 0 where
+  pub within : i ≤ length v₀
+  pub up : k ≤ i
+  pub size : length v ≡ length v₀
+  pub rest : drop i v ≡ drop i v₀
+  pub thin : Thinned s (take i v₀) (take k v)
+
+pub thinning : (s : Bytes) (v : List ℕ) → Thinning s v 0 0 v
+thinning s v = record { within = omega arith; up = omega arith; size = refl; rest = refl; thin = record { same = λ j i. refl; some = λ p e. e } }
+
+pub thinning-go : {s : Bytes} {v₀ : List ℕ} {i k : ℕ} {v : List ℕ} {r : ℕ} {v′ : List ℕ} → Thinning s v₀ i k v → i < length v₀ → Thinner s v k (getD v i 0) r v′ → Thinning s v₀ (i + 1) r v′
+thinning-go {s} {v₀} {i} {k} {v} {r} {v′} x h g =
+    let here : getD v i 0 ≡ getD v₀ i 0 = get-drop v i ∙ ap (λ (l : List ℕ). getD l 0 0) (x .rest) ∙ sym (get-drop v₀ i) in
+    let tk : take (i + 1) v₀ ≡ take i v₀ ++ (getD v₀ i 0 ∷ []) = rw add-one (take-suc v₀ i 0 h) in
+    record {
+      within = omega arith;
+      up = let a = g .up in let b = x .up in omega arith;
+      size = g .size ∙ x .size;
+      rest = let d : k + 1 + (i - k) ≡ i + 1 = let b = x .up in omega arith in
+          ap (λ (n : ℕ). drop n v′) (sym d) ∙ sym (drop-drop (i - k) (k + 1) v′) ∙ ap (drop (i - k)) (g .rest) ∙ drop-drop (i - k) (k + 1) v ∙ ap (λ (n : ℕ). drop n v) d
+          ∙ sym (drop-drop 1 i v) ∙ ap (drop 1) (x .rest) ∙ drop-drop 1 i v₀;
+      thin = record {
+        same = λ j z. g .same j z ∙ ap (λ (b : Bool). b || hit s j z (getD v i 0)) (x .thin .same j z) ∙ ap (λ (n : ℕ). any? (hit s j z) (take i v₀) || hit s j z n) here
+            ∙ sym (ap (any? (hit s j z)) tk ∙ any-append (hit s j z) (take i v₀) (getD v₀ i 0 ∷ []) ∙ ap (λ (q : Bool). any? (hit s j z) (take i v₀) || q) (or-no (hit s j z (getD v₀ i 0))));
+        some = λ p e.
+            let u = and-true (all? p (take i v₀)) (all? p (getD v₀ i 0 ∷ [])) (sym (all-append p (take i v₀) (getD v₀ i 0 ∷ [])) ∙ ap (all? p) (sym tk) ∙ e) in
+            g .some p (x .thin .some p (u .0)) (ap p here ∙ and-true (p (getD v₀ i 0)) true (u .1) .0);
+      };
+    }
+  where
+    get-drop : (v : List ℕ) (i : ℕ) → getD v i 0 ≡ getD (drop i v) 0 0
+    get-drop [] zero = refl
+    get-drop [] (suc i) = refl
+    get-drop (a ∷ v) zero = refl
+    get-drop (a ∷ v) (suc i) = get-drop v i
+
+pub thinning-end : {s : Bytes} {v₀ : List ℕ} {i k : ℕ} {v : List ℕ} → Thinning s v₀ i k v → length v₀ ≤ i → Thinned s v₀ (take k v) × (k ≤ length v₀)
+thinning-end {s} {v₀} {i} {k} {v} x h = (rw (take-all i v₀ h) at (x .thin), let a = x .up in let b = x .within in omega arith)
+
+held-thin : {s : Bytes} {slots t v z : List ℕ} {own : ℕ → Id → Bool} → Thinned s v z → Held s slots t v own → Held s slots t z own
+held-thin {s} {slots} {t} n x = record {
+  has = λ j i. ap (λ (b : Bool). any? (hit s j i) slots || b) (n .same j i) ∙ x .has j i;
+  placed = x .placed;
+  noted = n .some (λ y. marked t (hashAll (idR false s y))) (x .noted);
+}
+
+pub linked-thin : {w : ℕ} {s : Bytes} (at : List ℕ) {slots t v v′ z bits bits′ : List ℕ} → Shuffled v v′ → Thinned s v′ z → Linked w s slots t z bits bits′ (outputsLinked s at) → Linked w s slots t v bits bits′ (outputsLinked s at)
+linked-thin at k n x = record { by = λ own o. x .by own (held-thin n (held-order k o)) }
 
 -- ---- all blocks: those of the records before a are through
 abbrev pub wantedTo : Bytes → List ℕ → ℕ → ℕ → Id → Bool

@@ -24,7 +24,7 @@ use Rattle.queue.specs.Opens.{needMost, StoreAs, soundL, sound-list, fil
 use Rattle.queue.specs.paper.Ids.{rise?}
 use Rattle.queue.specs.paper.Records.{Bytes, Limits, Rec, Queue}
 use Rattle.queue.specs.paper.Lists.{one, all?, map}
-use Rattle.queue.specs.paper.Sound.{inRange, need, holder?, holders, holderBytes, minedHolders, minedBytes, tombstones, right?, counts?, distinct?, apart?, sound?, sharesRight?, limitsRight?}
+use Rattle.queue.specs.paper.Sound.{inRange, need, holder?, holders, holderBytes, minedHolders, minedBytes, tombstones, right?, counts?, distinct?, apart?, readApart?, sound?, sharesRight?, limitsRight?}
 use Rattle.queue.specs.declared.frame.HeadR.{HeadR}
 use Rattle.queue.specs.declared.frame.Form.{Form}
 use Rattle.queue.specs.declared.frame.Finish.{Finish}
@@ -58,8 +58,8 @@ ranged m e =
     record { p1 = leb-true _ _ (y0 .0); p2 = leb-true _ _ (y0 .1); b1 = leb-true _ _ (y1 .0); b2 = leb-true _ _ (y1 .1); t1 = leb-true _ _ (z0 .0); t2 = leb-true _ _ (z0 .1); k1 = leb-true _ _ (z1 .0); k2 = leb-true _ _ (z1 .1) }
 
 -- the product in an area's need is small
-pub product : (p k : ℕ) → p ≤ 1024 → k ≤ 128 → 2 * p * (512 + 64 * k) ≤ 2048 * 8704
-product p k h g = let a : 2 * p ≤ 2048 = omega arith in let b : 512 + 64 * k ≤ 8704 = omega arith in mul-le-mul a b
+pub product : (p k : ℕ) → p ≤ 1024 → k ≤ 128 → 2 * p * (512 + 96 * k) ≤ 2048 * 12800
+product p k h g = let a : 2 * p ≤ 2048 = omega arith in let b : 512 + 96 * k ≤ 12800 = omega arith in mul-le-mul a b
 
 -- ---- counts
 pub list-length : {A : Type 0} (𝓐 : Codec A) (n : ℕ) (s : Bytes) (at : ℕ) → whole 𝓐 n s at ≡ true → length (listAt 𝓐 n s at) ≡ n
@@ -129,7 +129,7 @@ module _ (m : Limits) (n : ℕ) (c : Finish) (a : Sums) (l : List Rec) (s : Sums
     module _ (f : x ≡ true) {y : Bool} (h : y ≡ (a .right && a .rises)) where
       pub sound-wrong : y ≡ false → false ≡ soundL m (c .0) l
       unfolding soundL
-      sound-wrong z = rw (r, sym counts-is ∙ sym e ∙ f) (deny (all? (right? (m .K) (c .0)) l) (rise? (map (λ r. r .id) l)) (distinct? l && apart? l) (sym (h ∙ two (s .right) (s .rises)) ∙ z))
+      sound-wrong z = rw (r, sym counts-is ∙ sym e ∙ f) (deny (all? (right? (m .K) (c .0)) l) (rise? (map (λ r. r .id) l)) (distinct? l && (apart? l && readApart? l)) (sym (h ∙ two (s .right) (s .rises)) ∙ z))
         where
           two : {u v u′ v′ : Bool} → u ≡ u′ → v ≡ v′ → (u && v) ≡ (u′ && v′)
           two i j = rw (i, j)
@@ -139,7 +139,7 @@ module _ (m : Limits) (n : ℕ) (c : Finish) (a : Sums) (l : List Rec) (s : Sums
           deny true false w q = refl
           deny false v w q = refl
 
-      pub sound-in : {d o z : Bool} → y ≡ true → d ≡ distinct? l → o ≡ apart? l → z ≡ (d && o) → z ≡ soundL m (c .0) l
+      pub sound-in : {d o z : Bool} → y ≡ true → d ≡ distinct? l → o ≡ (apart? l && readApart? l) → z ≡ (d && o) → z ≡ soundL m (c .0) l
       unfolding soundL
       sound-in {d} {o} {z} q i j w =
           let u = and-true (a .right) (a .rises) (sym h ∙ q) in

@@ -19,19 +19,18 @@ use Rattle.queue.specs.Reads.{Reads, whole, listAt}
 use Rattle.queue.specs.ReadLaws.{Turn, none-left, false-true}
 use Rattle.queue.specs.Facts.{factsOf, SeenAs}
 use Rattle.queue.specs.Suspects.{idR, noR, later, Shuffled}
-use Rattle.queue.specs.Reserving.{inputsOf}
 use Rattle.queue.specs.Touching.{ownIds}
-use Rattle.queue.specs.Owning.{set?, ownF, markAll, flagsOf, FlagsAre, FlagsFrom, Covering, Settled, Taken, QuickFor}
+use Rattle.queue.specs.Owning.{wantedOf, wantedAt, set?, ownF, markAll, flagsOf, FlagsAre, FlagsFrom, Covering, Settled, Taken, QuickFor}
 use Rattle.queue.specs.paper.Records.{Bytes, Id, Rec}
 use Rattle.queue.specs.paper.Lists.{one, any?, all?, total, count, map}
 use Rattle.queue.specs.paper.Ids.{same?}
-use Rattle.queue.specs.paper.Sound.{inputs, outputs, among?}
+use Rattle.queue.specs.paper.Sound.{inputs, outputs, reads, wanted, among?}
 use Rattle.queue.specs.paper.Changing.{queuedOutputs}
 use Rattle.queue.specs.declared.frame.Seen.{Seen}
 use Rattle.queue.proofs.Turns.{Scan, start, here, on, stop, end, SeenIn, ReadsRec, seen, see}
 use Rattle.queue.proofs.ScanLaws.{nothingF}
 use Rattle.queue.proofs.SuspectLaws.{id-bytes}
-use Rattle.queue.proofs.TouchLaws.{among-append, outF, out-turn}
+use Rattle.queue.proofs.TouchLaws.{among-append, outF, out-turn, wanted-is}
 
 -- ---- flags by place
 set-there : (pre : List ℕ) (b x : ℕ) (r : List ℕ) → set (pre ++ (b ∷ r)) (length pre) x ≡ pre ++ (x ∷ r)
@@ -295,52 +294,60 @@ mark-append p [] b f g = let e : g + 0 ≡ g = omega arith in rw e
 mark-append p (z ∷ a) b f g = let e : g + 1 + length a ≡ g + suc (length a) = omega arith in mark-append p a b (set f g (one (p (getD f g 0) z))) (g + 1) ∙ rw e
 
 unfoldable pub markR : (ℕ → Id → Bool) → List ℕ × ℕ → List Rec → List ℕ
-markR p st l = markAll p (inputsOf l) (st .0) (st .1)
+markR p st l = markAll p (wantedOf l) (st .0) (st .1)
 
-pub ins-long : {s : Bytes} {y : Seen} {r : Rec} → SeenAs s y r → y .facts .ins ≡ length (inputs (r .body))
+pub wants-long : {s : Bytes} {y : Seen} {r : Rec} → SeenAs s y r → y .facts .ins + y .facts .reads ≡ length (wanted (r .body))
 unfolding factsOf
-ins-long w = ap (λ q. q .ins) (w .facts)
+wants-long {r = r} w = let a = ap (λ q. q .ins) (w .facts) in let b = ap (λ q. q .reads) (w .facts) in let c = length-append (inputs (r .body)) (reads (r .body)) in omega arith
 
-inputs-cut : (r : Rec) (l : List Rec) → inputsOf (r ∷ l) ≡ inputs (r .body) ++ inputsOf l
-unfolding inputsOf
-inputs-cut r l = refl
+pub ins-long : {s : Bytes} {y : Seen} {r : Rec} → SeenAs s y r → length (listAt idC (y .facts .ins) s (y .at)) ≡ y .facts .ins
+unfolding factsOf
+ins-long w = ap length (w .insList) ∙ sym (ap (λ q. q .ins) (w .facts))
+
+wanted-cut : (r : Rec) (l : List Rec) → wantedOf (r ∷ l) ≡ wanted (r .body) ++ wantedOf l
+unfolding wantedOf
+wanted-cut r l = refl
 
 module _ (p : ℕ → Id → Bool) {s : Bytes} {n at i left g : ℕ} {f f₀ : List ℕ} (x : Scan (formC false recC) (markR p) s n at (f₀, 0) i left (f, g)) where
   module _ (h : 0 < left) {m : ℕ} {ok : Bool} {y : Seen} (r : ReadsRec false s i ok m y) where
-    pub marks-room : {j : ℕ} → j ≡ afterIn false s i m → length (inputsOf (listAt (formC false recC) left s i)) ≡ y .facts .ins + length (inputsOf (listAt (formC false recC) (left - 1) s j))
+    pub marks-room : {j : ℕ} → j ≡ afterIn false s i m → length (wantedOf (listAt (formC false recC) left s i)) ≡ y .facts .ins + y .facts .reads + length (wantedOf (listAt (formC false recC) (left - 1) s j))
     marks-room {j} q =
         let t = see false x h r q in
         let l = listAt (formC false recC) (left - 1) s j in
-        ap (λ k. length (inputsOf k)) (t .list) ∙ ap length (inputs-cut (t .item) l) ∙ length-append (inputs (t .item .body)) (inputsOf l) ∙ ap (λ k. k + length (inputsOf l)) (sym (ins-long (t .is .0)))
+        ap (λ k. length (wantedOf k)) (t .list) ∙ ap length (wanted-cut (t .item) l) ∙ length-append (wanted (t .item .body)) (wantedOf l) ∙ ap (λ k. k + length (wantedOf l)) (sym (wants-long (t .is .0)))
 
-    pub marks-go : {j : ℕ} {f′ : List ℕ} → j ≡ afterIn false s i m → f′ ≡ markAll p (listAt idC (y .facts .ins) (view false s i) (y .at)) f g → Scan (formC false recC) (markR p) s n at (f₀, 0) j (left - 1) (f′, g + y .facts .ins)
+    pub marks-go : {j : ℕ} {f′ f″ : List ℕ} → j ≡ afterIn false s i m → f′ ≡ markAll p (listAt idC (y .facts .ins) (view false s i) (y .at)) f g → f″ ≡ markAll p (listAt idC (y .facts .reads) (view false s i) (y .reads)) f′ (g + y .facts .ins)
+        → Scan (formC false recC) (markR p) s n at (f₀, 0) j (left - 1) (f″, g + y .facts .ins + y .facts .reads)
     unfolding markR
-    marks-go {j} {f′} q e =
+    marks-go {j} {f′} {f″} q e d =
         let t = see false x h r q in
-        on x (f′, g + y .facts .ins) h t (ap (λ k. markAll p k f g) (inputs-cut (t .item) (listAt (formC false recC) (left - 1) s j)) ∙ mark-append p (inputs (t .item .body)) (inputsOf (listAt (formC false recC) (left - 1) s j)) f g ∙ two (inputsOf (listAt (formC false recC) (left - 1) s j)) (sym (e ∙ ap (λ k. markAll p k f g) (t .is .0 .insList))) (ap (λ k. g + k) (sym (ins-long (t .is .0)))))
+        let w = t .is .0 in
+        let both : f″ ≡ markAll p (wanted (t .item .body)) f g = d ∙ two (listAt idC (y .facts .reads) (view false s i) (y .reads)) e (ap (λ k. g + k) (sym (ins-long w))) ∙ sym (mark-append p (listAt idC (y .facts .ins) (view false s i) (y .at)) (listAt idC (y .facts .reads) (view false s i) (y .reads)) f g) ∙ ap (λ k. markAll p k f g) (wanted-is w) in
+        let n : g + y .facts .ins + y .facts .reads ≡ g + length (wanted (t .item .body)) = let z = wants-long w in omega arith in
+        on x (f″, g + y .facts .ins + y .facts .reads) h t (ap (λ k. markAll p k f g) (wanted-cut (t .item) (listAt (formC false recC) (left - 1) s j)) ∙ mark-append p (wanted (t .item .body)) (wantedOf (listAt (formC false recC) (left - 1) s j)) f g ∙ two (wantedOf (listAt (formC false recC) (left - 1) s j)) (sym both) (sym n))
       where
         two : (l : List Id) {a a′ : List ℕ} {b b′ : ℕ} → a ≡ a′ → b ≡ b′ → markAll p l a b ≡ markAll p l a′ b′
         two l e f = cc
 
-  pub marks-end : left ≡ 0 → f ≡ markAll p (inputsOf (listAt (formC false recC) n s at)) f₀ 0
-  unfolding markR markAll inputsOf
+  pub marks-end : left ≡ 0 → f ≡ markAll p (wantedOf (listAt (formC false recC) n s at)) f₀ 0
+  unfolding markR markAll wantedOf
   marks-end e = end x e
 
--- ---- how many inputs
-unfoldable pub inputsFrom : ℕ → List Rec → ℕ
-inputsFrom acc l = acc + length (inputsOf l)
+-- ---- how many wanted ids
+unfoldable pub wantedFrom : ℕ → List Rec → ℕ
+wantedFrom acc l = acc + length (wantedOf l)
 
-module _ {s : Bytes} {n at i left acc : ℕ} (x : Scan (formC false recC) inputsFrom s n at 0 i left acc) where
-  pub inputs-go : {m j : ℕ} {ok : Bool} {y : Seen} → 0 < left → ReadsRec false s i ok m y → j ≡ afterIn false s i m → Scan (formC false recC) inputsFrom s n at 0 j (left - 1) (acc + y .facts .ins)
-  unfolding inputsFrom
-  inputs-go {m} {j} {ok} {y} h r g =
+module _ {s : Bytes} {n at i left acc : ℕ} (x : Scan (formC false recC) wantedFrom s n at 0 i left acc) where
+  pub wanted-go : {m j : ℕ} {ok : Bool} {y : Seen} → 0 < left → ReadsRec false s i ok m y → j ≡ afterIn false s i m → Scan (formC false recC) wantedFrom s n at 0 j (left - 1) (acc + (y .facts .ins + y .facts .reads))
+  unfolding wantedFrom
+  wanted-go {m} {j} {ok} {y} h r g =
       let t = see false x h r g in
       let l = listAt (formC false recC) (left - 1) s j in
-      on x (acc + y .facts .ins) h t (let a = ap length (inputs-cut (t .item) l) in let b = length-append (inputs (t .item .body)) (inputsOf l) in let c = ins-long (t .is .0) in omega arith)
+      on x (acc + (y .facts .ins + y .facts .reads)) h t (let a = ap length (wanted-cut (t .item) l) in let b = length-append (wanted (t .item .body)) (wantedOf l) in let c = wants-long (t .is .0) in omega arith)
 
-  pub inputs-end : left ≡ 0 → acc ≡ length (inputsOf (listAt (formC false recC) n s at))
-  unfolding inputsFrom inputsOf
-  inputs-end e = let k = end x e in omega arith
+  pub wanted-end : left ≡ 0 → acc ≡ length (wantedOf (listAt (formC false recC) n s at))
+  unfolding wantedFrom wantedOf
+  wanted-end e = let k = end x e in omega arith
 
 -- ---- are flags set
 set-cut : (f : List ℕ) (i left : ℕ) → 0 < left → i < length f → all? set? (take left (drop i f)) ≡ (eqb (getD f i 0) 1 && all? set? (take (left - 1) (drop (i + 1) f)))
@@ -380,24 +387,24 @@ module _ (c : Id → Bool) (b : List Id) where
 pub flags-from : (own : List Id) (l : List Id) (flags : List ℕ) → FlagsAre (λ z. among? z own) l flags → FlagsFrom own l flags 0
 flags-from own l flags g = record { up = omega arith; are = g }
 
-module _ (own : List Id) (flags : List ℕ) (g : ℕ) (quick : Bool) {s : Bytes} {n at i left : ℕ} (x : Scan (formC false recC) nothingF s n at tt i left tt) (q : quick ≡ true → FlagsFrom own (inputsOf (listAt (formC false recC) left s i)) flags g) (h : 0 < left) {m : ℕ} {ok : Bool} {y : Seen} (r : ReadsRec false s i ok m y) where
+module _ (own : List Id) (flags : List ℕ) (g : ℕ) (quick : Bool) {s : Bytes} {n at i left : ℕ} (x : Scan (formC false recC) nothingF s n at tt i left tt) (q : quick ≡ true → FlagsFrom own (wantedOf (listAt (formC false recC) left s i)) flags g) (h : 0 < left) {m : ℕ} {ok : Bool} {y : Seen} (r : ReadsRec false s i ok m y) where
   module _ {j : ℕ} (e : j ≡ afterIn false s i m) (t : quick ≡ true) where
     its : Turn (formC false recC) s left i j (SeenIn false s i ok m y)
     its = see false x h r e
 
-    cut-here : (all? set? (take (y .facts .ins) (drop g flags)) ≡ all? (λ z. among? z own) (inputs (its .item .body))) × FlagsAre (λ z. among? z own) (inputsOf (listAt (formC false recC) (left - 1) s j)) (drop (y .facts .ins) (drop g flags)) × (y .facts .ins ≤ length (drop g flags))
+    cut-here : (all? set? (take (y .facts .ins + y .facts .reads) (drop g flags)) ≡ all? (λ z. among? z own) (wanted (its .item .body))) × FlagsAre (λ z. among? z own) (wantedOf (listAt (formC false recC) (left - 1) s j)) (drop (y .facts .ins + y .facts .reads) (drop g flags)) × (y .facts .ins + y .facts .reads ≤ length (drop g flags))
     cut-here =
         let l = listAt (formC false recC) (left - 1) s j in
-        let f : inputsOf (listAt (formC false recC) left s i) ≡ inputs (its .item .body) ++ inputsOf l = ap inputsOf (its .list) ∙ inputs-cut (its .item) l in
-        flags-cut (λ z. among? z own) (inputsOf l) (inputs (its .item .body)) (drop g flags) (y .facts .ins) (ins-long (its .is .0)) (rw f at (q t .are))
+        let f : wantedOf (listAt (formC false recC) left s i) ≡ wanted (its .item .body) ++ wantedOf l = ap wantedOf (its .list) ∙ wanted-cut (its .item) l in
+        flags-cut (λ z. among? z own) (wantedOf l) (wanted (its .item .body)) (drop g flags) (y .facts .ins + y .facts .reads) (wants-long (its .is .0)) (rw f at (q t .are))
 
-    pub quick-next : FlagsFrom own (inputsOf (listAt (formC false recC) (left - 1) s j)) flags (g + y .facts .ins)
-    quick-next = record { up = omega (arith, q t .up, cut-here .2, length-drop g flags); are = rw (← (drop-drop (y .facts .ins) g flags)) (cut-here .1) }
+    pub quick-next : FlagsFrom own (wantedOf (listAt (formC false recC) (left - 1) s j)) flags (g + (y .facts .ins + y .facts .reads))
+    quick-next = record { up = omega (arith, q t .up, cut-here .2, length-drop g flags); are = rw (← (drop-drop (y .facts .ins + y .facts .reads) g flags)) (cut-here .1) }
 
-  pub quick-here : QuickFor quick own (listAt idC (y .facts .ins) (view false s i) (y .at)) flags g (y .facts .ins)
+  pub quick-here : QuickFor quick own (wantedAt (view false s i) y) flags g (y .facts .ins + y .facts .reads)
   quick-here = record {
     room = λ t. omega (arith, q t .up, cut-here refl t .2, length-drop g flags);
-    says = λ t. cut-here refl t .0 ∙ ap (all? (λ z. among? z own)) (sym (its refl t .is .0 .insList));
+    says = λ t. cut-here refl t .0 ∙ ap (all? (λ z. among? z own)) (sym (wanted-is (its refl t .is .0)));
   }
 
 pub owned-by : {quick : Bool} (own ins : List Id) {flags : List ℕ} {g c : ℕ} {r : Bool} → QuickFor quick own ins flags g c → quick ≡ true → r ≡ all? set? (take c (drop g flags)) → r ≡ all? (λ i. among? i own) ins
@@ -408,6 +415,9 @@ small-is caught n k total room {b} {r} e f t =
     let u = and-true caught b (sym e ∙ t) in
     let v = and-true (ltb n k) (leb total room) (sym f ∙ u .1) in
     (ltb-true n k (v .0), leb-true total room (v .1))
+
+pub part-fits : {n m k : ℕ} → k ≡ m → n ≤ m → n ≤ k
+part-fits e h = omega arith
 
 pub part-holds : {n m k : ℕ} (v : List ℕ) → length v ≡ m → n ≤ m → k ≤ n → k ≤ length (take n v)
 part-holds {n} v e h p = let l = length-take-le n v (omega arith) in omega arith

@@ -637,7 +637,7 @@ module _ {s : Bytes} {x : Area} (now height : ℕ) {q : Queue} (a : AreaAs s x q
   pub chosen-modest : All Modest (chosen now height s (x .open .head .count) (x .open .start))
   chosen-modest =
       let u = sound-of q (a .sound) in
-      rw (chosen-is now height a) (sub-all Modest (filter-sub (selected? now height) (q .recs)) (all-map (q .recs) (λ r h. let k = h .ins in let m = u .range .K-high in omega arith) (u .right)))
+      rw (chosen-is now height a) (sub-all Modest (filter-sub (selected? now height) (q .recs)) (all-map (q .recs) (λ r h. let k = h .ins in let l = h .reads in let m = u .range .K-high in (omega arith, omega arith)) (u .right)))
 
   pub parents-100 : (out : Bytes) {w : Written} → readArea s ≡ some q → w ≡ toldOut (idsBytes (map (λ (r : Rec). r .id) (parentsFirst waitsFor? (sort first? (chosen now height s (x .open .head .count) (x .open .start)))))) out
       → w ≡ parentsFirstOf s now height out

@@ -29,8 +29,8 @@ use Rattle.queue.specs.ReadingAs.{Here, FoundAs, FoundEnd, Look, off, hi
 use Rattle.queue.specs.paper.Records.{Bytes, Id, Terms, Held, Rec, Queue}
 use Rattle.queue.specs.paper.Lists.{isSome, maybe, one, any?, find, concat, isEmpty?}
 use Rattle.queue.specs.paper.Ids.{cmpL}
-use Rattle.queue.specs.paper.Sound.{inputs, content, labelLen, pending?}
-use Rattle.queue.specs.paper.Area.{over, termsBytes, placeBytes, headBytes, recBytes, flagged, heldBytes, recUnder}
+use Rattle.queue.specs.paper.Sound.{inputs, reads, content, labelLen, pending?}
+use Rattle.queue.specs.paper.Area.{over, termsBytes, placeBytes, headBytes, recBytes, flagged, idListBytes, heldUnder, heldBytes, recUnder}
 use Rattle.queue.specs.paper.Changing.{named?, reached?, due?}
 use Rattle.queue.specs.Checked.{Written, written}
 use Rattle.queue.specs.paper.Calls.{id?, entryBytes, cursorBytes, toldOut, lookUp, entryOf, endOf, signedPart, signedBytesOf, numberOf, readOf}
@@ -191,14 +191,17 @@ holder-is x = sym (ap (λ f. f .holder) (x .facts))
 
 -- the signed bytes end a frame
 held-long : (o : Option Held) → length (content o) ≤ length (flagged heldBytes o)
-unfolding heldBytes
+unfolding heldUnder
 held-long none = omega arith
 held-long (some h) =
-    let a = length-append (codec.be 2 (length (h .ins))) (concat (h .ins) ++ (codec.be 2 (length (h .outs)) ++ (concat (h .outs) ++ (codec.be 4 (length (h .bytes)) ++ h .bytes)))) in
-    let b = length-append (concat (h .ins)) (codec.be 2 (length (h .outs)) ++ (concat (h .outs) ++ (codec.be 4 (length (h .bytes)) ++ h .bytes))) in
-    let c = length-append (codec.be 2 (length (h .outs))) (concat (h .outs) ++ (codec.be 4 (length (h .bytes)) ++ h .bytes)) in
-    let d = length-append (concat (h .outs)) (codec.be 4 (length (h .bytes)) ++ h .bytes) in
-    let e = length-append (codec.be 4 (length (h .bytes))) (h .bytes) in
+    let i = idListBytes (h .ins) in
+    let o = idListBytes (h .outs) in
+    let d = idListBytes (h .reads) in
+    let b = codec.be 4 (length (h .bytes)) ++ h .bytes in
+    let a1 = length-append i (o ++ (d ++ b)) in
+    let a2 = length-append o (d ++ b) in
+    let a3 = length-append d b in
+    let a4 = length-append (codec.be 4 (length (h .bytes))) (h .bytes) in
     omega arith
 
 bytes-in : {v : Bytes} {y : Seen} {r : Rec} → SeenAs v y r → (length (content (r .body)) ≡ y .facts .bytes) × (y .facts .bytes ≤ y .size)
@@ -206,7 +209,7 @@ unfolding factsOf
 bytes-in {v} {y} {r} x =
     let e : length (content (r .body)) ≡ y .facts .bytes = sym (ap (λ f. f .bytes) (x .facts)) in
     let l = ap length (x .body) ∙ length-append (bodyC .enc (r .body)) (drop (y .size) v) in
-    let b = ap length (body-plain (r .body)) in
+    let b = ap length (body-plain newest (r .body)) in
     (e, omega (arith, e, l, b, held-long (r .body), length-drop (y .body) v, length-drop (y .size) v, x .end))
 
 -- what is told of a record, by its body
@@ -335,11 +338,11 @@ ids-here v n at w = go (decs idC n (drop at v)) refl w
         let k = ap length (u .0) ∙ length-append (encs idC l) r in
         (ap (take (n * 32)) (u .0) ∙ take-at (encs idC l) r (n * 32) z ∙ ids-plain l, omega arith, u .1 .1)
 
-glue : {a a′ b b′ c c′ : Bytes} → a ≡ a′ → b ≡ b′ → c ≡ c′ → a ++ (b ++ c) ≡ a′ ++ (b′ ++ c′)
-glue p q r = cc
+glue : {a a′ b b′ c c′ d d′ e e′ : Bytes} → a ≡ a′ → b ≡ b′ → c ≡ c′ → d ≡ d′ → e ≡ e′ → a ++ (b ++ (c ++ (d ++ e))) ≡ a′ ++ (b′ ++ (c′ ++ (d′ ++ e′)))
+glue p q r s t = cc
 
-regroup : (i w a b t p n c : Bytes) → ((i ++ (w ++ (a ++ b))) ++ (t ++ p)) ++ (n ++ c) ≡ i ++ (w ++ (a ++ (b ++ (t ++ (p ++ (n ++ c))))))
-regroup i w a b t p n c = simp append-assoc
+regroup : (i w a b t p n c d : Bytes) → ((i ++ (w ++ (a ++ b))) ++ (t ++ p)) ++ (n ++ (c ++ d)) ≡ i ++ (w ++ (a ++ (b ++ (t ++ (p ++ ((n ++ c) ++ d))))))
+regroup i w a b t p n c d = simp append-assoc
 
 place-one : (o : Option (ℕ × Id)) → 1 ≤ length (placeBytes o)
 unfolding placeBytes
@@ -434,12 +437,16 @@ module _ {s : Bytes} {base m : ℕ} {ok : Bool} {y : Seen} {r : Rec} (h : base �
       let g = place-most (r .place) (p .place) in
       let i = ids-here v (y .facts .ins) (y .at) (w .insAll) .1 in
       let j = length-drop (y .at) v in
+      let k = ids-here v (y .facts .reads) (y .reads) (w .readsAll) .1 in
+      let m = length-drop (y .reads) v in
       record {
         up = omega (arith, w .up, w .upPlace);
         most = omega (arith, w .up, w .upPlace);
         within = omega (arith, w .upBody, w .end);
         ins = omega (arith, w .insIn);
+        reads = omega (arith, w .readsIn);
         few = w .small .ins;
+        fewReads = w .small .reads;
       }
 
   pub entry-is : entryAt s base y ≡ entryBytes r
@@ -452,8 +459,11 @@ module _ {s : Bytes} {base m : ℕ} {ok : Bool} {y : Seen} {r : Rec} (h : base �
       let b = ids-here v (y .facts .ins) (y .at) (w .insAll) in
       let b′ : take (y .facts .ins * 32) (drop (base + y .at) s) ≡ concat (inputs (r .body)) = ap (take (y .facts .ins * 32)) (sym (drop-drop (y .at) base s) ∙ ap (drop (y .at)) (sym view-is)) ∙ b .0 ∙ ap concat (w .insList) in
       let k : length (inputs (r .body)) ≡ y .facts .ins = ap length (sym (w .insList)) ∙ b .2 in
-      glue a′ (be-same 2 (y .facts .ins) (w .small .ins) ∙ ap (codec.be 2) (sym k)) b′
-      ∙ regroup (r .id) (codec.be 1 (r .caller)) (codec.be 1 (r .state)) (codec.be 1 (r .reason)) (termsBytes (r .terms)) (placeBytes (r .place)) (codec.be 2 (length (inputs (r .body)))) (concat (inputs (r .body)))
+      let c = ids-here v (y .facts .reads) (y .reads) (w .readsAll) in
+      let c′ : take (y .facts .reads * 32) (drop (base + y .reads) s) ≡ concat (reads (r .body)) = ap (take (y .facts .reads * 32)) (sym (drop-drop (y .reads) base s) ∙ ap (drop (y .reads)) (sym view-is)) ∙ c .0 ∙ ap concat (w .readsList) in
+      let m : length (reads (r .body)) ≡ y .facts .reads = ap length (sym (w .readsList)) ∙ c .2 in
+      glue a′ (be-same 2 (y .facts .ins) (w .small .ins) ∙ ap (codec.be 2) (sym k)) b′ (be-same 2 (y .facts .reads) (w .small .reads) ∙ ap (codec.be 2) (sym m)) c′
+      ∙ regroup (r .id) (codec.be 1 (r .caller)) (codec.be 1 (r .state)) (codec.be 1 (r .reason)) (termsBytes (r .terms)) (placeBytes (r .place)) (codec.be 2 (length (inputs (r .body)))) (concat (inputs (r .body))) (idListBytes (reads (r .body)))
 
   pub entry-size : length (entryBytes r) ≡ entryLen y
   unfolding entryAt
@@ -461,7 +471,8 @@ module _ {s : Bytes} {base m : ℕ} {ok : Bool} {y : Seen} {r : Rec} (h : base �
       let i = entry-in in
       let a : length (take (y .mark - 1) (drop (base + 1) s)) ≡ y .mark - 1 = length-take-le _ _ (omega (arith, length-drop (base + 1) s, i .within, i .up)) in
       let b : length (take (y .facts .ins * 32) (drop (base + y .at) s)) ≡ y .facts .ins * 32 = length-take-le _ _ (omega (arith, length-drop (base + y .at) s, i .ins)) in
-      ap length (sym entry-is) ∙ rw (length-append, length-append, length-be 2 (y .facts .ins), a, b)
+      let c : length (take (y .facts .reads * 32) (drop (base + y .reads) s)) ≡ y .facts .reads * 32 = length-take-le _ _ (omega (arith, length-drop (base + y .reads) s, i .reads)) in
+      ap length (sym entry-is) ∙ rw (length-append, length-append, length-append, length-append, length-be 2 (y .facts .ins), length-be 2 (y .facts .reads), a, b, c) (omega arith)
 
 -- ---- an output: too short, or written
 pub told-4 : (bs out : Bytes) → length out < length bs → toldOut bs out ≡ written (Refused 4) out

@@ -35,6 +35,7 @@ use Rattle.queue.specs.Reopens.{IdsIn, idsAt, listedS, again, againQ, st
 use Rattle.queue.specs.paper.Records.{Bytes, Id, Limits, Rec, Queue, queued, cancelled, expired}
 use Rattle.queue.specs.paper.Lists.{any?, map, concat}
 use Rattle.queue.specs.paper.Ids.{cmpL, rise?}
+use Rattle.queue.specs.paper.Kinds.{newest}
 use Rattle.queue.specs.paper.Sound.{need, holder?, mined?, among?}
 use Rattle.queue.specs.paper.Area.{flagged, termsBytes, placeBytes, heldBytes, recBytes, areaBytes, over, recUnder}
 use Rattle.queue.specs.paper.Changing.{Out, refused, done, committed, reopened, listed?, reopen}
@@ -225,7 +226,7 @@ module _ (s : Bytes) (base : ℕ) {x : Seen} {r : Rec} (w : SeenAs (view false s
       let e : drop (x .mark + 1) (drop base s) ≡ (codec.be 8 (r .finish) ++ bodyC .enc (r .body)) ++ drop (x .size) (drop base s) = k ∙ ap (λ (y : Bytes). codec.be 8 (r .finish) ++ y) (w .body) ∙ sym (append-assoc (codec.be 8 (r .finish)) (bodyC .enc (r .body)) (drop (x .size) (drop base s))) in
       ap (take (x .size - (x .mark + 1))) (sym (drop-drop (x .mark + 1) base s))
       ∙ between (drop base s) (codec.be 8 (r .finish) ++ bodyC .enc (r .body)) (x .mark + 1) (x .size) e (omega (arith, w .upBody)) (w .end) .0
-      ∙ ap (λ (y : Bytes). codec.be 8 (r .finish) ++ y) (body-plain (r .body))
+      ∙ ap (λ (y : Bytes). codec.be 8 (r .finish) ++ y) (body-plain newest (r .body))
 
   state-is : stateF (x .facts) ≡ reopenedState r
   unfolding stateF factsOf

@@ -2,6 +2,7 @@
 use mathlib.Core.Path.{_≡_, refl, ap, sym, _∙_, subst}
 use mathlib.Core.Bool.{Bool, true, false, cond, not, _&&_, _||_}
 use mathlib.Core.List.{List, [], _∷_, _++_}
+use mathlib.Core.Logic.{inl, inr, ⊎-elim}
 use Prim.Native.Nat.{ℕ, zero, suc, _+_, _-_, _*_, _≤_, _<_}
 use native.Mathlib.Omega.{arith}
 use native.Mathlib.Numerals.{add-one}
@@ -19,18 +20,17 @@ use Rattle.queue.specs.View.{view}
 use Rattle.queue.specs.Reads.{Reads, whole, listAt}
 use Rattle.queue.specs.ReadLaws.{Turn, turn, none-left, false-true, spans-id}
 use Rattle.queue.specs.Filter.{hashL, marked, markL, hasIn}
-use Rattle.queue.specs.Suspects.{idR, noR, later, meets, crosses, held?, first?, Shuffled, Looked, Grown, Noted, Said, Owned}
+use Rattle.queue.specs.Suspects.{idR, noR, later, meets, crosses, held?, first?, Shuffled, Grown, Noted, Said, Marks, Owned}
 use Rattle.queue.specs.paper.Records.{Bytes, Id, Rec}
 use Rattle.queue.specs.paper.Ids.{same?}
 use Rattle.queue.specs.paper.Lists.{one, any?, all?, total, count}
-use Rattle.queue.specs.paper.Sound.{inputs, among?, apart?}
+use Rattle.queue.specs.paper.Sound.{inputs, among?, used?, apart?}
 use Rattle.queue.specs.declared.frame.Form.{Form}
 use Rattle.queue.specs.declared.frame.Seen.{Seen}
 use Rattle.queue.proofs.FrameLaws.{bytes-enc}
 use Rattle.queue.proofs.Turns.{Scan, here, on, stop, end, ReadsForm, seen-in, see-in}
 use Rattle.queue.proofs.ScanLaws.{nothingF}
-use Rattle.queue.proofs.RowLaws.{shuffled-self}
-use Rattle.queue.proofs.FilterLaws.{mark-size, mark-here, mark-old, apart-yes, apart-no}
+use Rattle.queue.proofs.FilterLaws.{mark-size, mark-here, mark-old, used-none, apart-yes, apart-no}
 
 -- ---- an id that is read: its bytes
 pub id-bytes : {v : Bytes} {n i next : ℕ} {y : Id} → Turn idC v n i next (λ w. w ≡ y) → (part 32 v i ≡ y) × (i + 32 ≤ length v)
@@ -52,7 +52,7 @@ module _ (p : ℕ → Bool) where
   any-by [] e k = false-true e
   any-by (x ∷ v) e k = or-true (p x) (any? p v) e (λ t. k 0 (omega arith) t) (λ _ t. any-by v t (λ i h. k (suc i) (omega arith)))
 
-  all-each : (v : List ℕ) → ((i : ℕ) → i < length v → p (getD v i 0) ≡ true) → all? p v ≡ true
+  pub all-each : (v : List ℕ) → ((i : ℕ) → i < length v → p (getD v i 0) ≡ true) → all? p v ≡ true
   all-each [] k = refl
   all-each (x ∷ v) k = and-both (p x) (all? p v) (k 0 (omega arith)) (all-each v (λ i h. k (suc i) (omega arith)))
 
@@ -70,6 +70,16 @@ module _ (p : ℕ → Bool) where
 
   pub shuffled-all : {v w : List ℕ} → Shuffled v w → all? p w ≡ all? p v
   shuffled-all {v} {w} s = all-count w ∙ ap (λ (n : ℕ). eqb n 0) (s .same (λ a. one (not (p a)))) ∙ sym (all-count v)
+
+  any-count : (v : List ℕ) → any? p v ≡ ltb 0 (count p v)
+  any-count [] = refl
+  any-count (x ∷ v) =
+      let n = count p v in
+      let e : n ≡ 0 + n = omega arith in
+      cases (p x) (λ t. rw t (sym (lt-ltb 0 (1 + n) (omega arith)))) (λ t. rw t (any-count v ∙ ap (λ (m : ℕ). ltb 0 m) e))
+
+  shuffled-any : {v w : List ℕ} → Shuffled v w → any? p w ≡ any? p v
+  shuffled-any {v} {w} s = any-count w ∙ ap (λ (n : ℕ). ltb 0 n) (s .same (λ a. one (p a))) ∙ sym (any-count v)
 
   pub all-append : (a b : List ℕ) → all? p (a ++ b) ≡ (all? p a && all? p b)
   all-append [] b = refl
@@ -96,7 +106,7 @@ module _ (hex : Bool) (s : Bytes) (v : List ℕ) where
       let g : same? z (idR hex s x) ≡ false = cases (same? z (idR hex s x)) (λ t. false-true (sym (rw (t, lt-ltb k (noR x) l) at q))) (λ t. t) in
       rw (same-sym (idR hex s x) z, g) (meets-no k ids i (u .1) h l)
 
-  meets-yes : {X : Type 0} (k : ℕ) (ids : List Id) → meets hex s v k ids ≡ true → ((i : ℕ) → i < length v → among? (idR hex s (getD v i 0)) ids ≡ true → k < noR (getD v i 0) → X) → X
+  pub meets-yes : {X : Type 0} (k : ℕ) (ids : List Id) → meets hex s v k ids ≡ true → ((i : ℕ) → i < length v → among? (idR hex s (getD v i 0)) ids ≡ true → k < noR (getD v i 0) → X) → X
   unfolding meets later
   meets-yes k [] e f = false-true e
   meets-yes k (z ∷ ids) e f = or-true (any? (later hex s z k) v) (meets hex s v k ids) e
@@ -149,16 +159,34 @@ module _ (hex : Bool) (s : Bytes) (v : List ℕ) where
       sym (apart-no all z (omega arith))))
       (λ _ t. crosses-yes all a (k + 1) l (drop-next k all d) t)
 
-pub looked : {hex : Bool} {s : Bytes} {all : List Rec} {v v′ : List ℕ} {b : Bool} → Shuffled v v′ → b ≡ crosses hex s v′ 0 all → Looked hex s all v b v′
-looked {hex} {s} {all} {v} {v′} {b} k e = record {
-  kept = k;
-  yes = λ t a. crosses-yes hex s v′ all (shuffled-all (held? hex s all) k ∙ a) 0 all refl (sym e ∙ t);
-  no = λ t. sym (shuffled-all (first? hex s all) k) ∙ all-first hex s v′ all (sym e ∙ t);
-}
+-- rows in another order, and no rows
+module _ (hex : Bool) (s : Bytes) where
+  meets-shuffled : {v w : List ℕ} → Shuffled v w → (k : ℕ) (ids : List Id) → meets hex s w k ids ≡ meets hex s v k ids
+  unfolding meets
+  meets-shuffled q k [] = refl
+  meets-shuffled q k (z ∷ ids) = rw (shuffled-any (later hex s z k) q, meets-shuffled q k ids)
 
-pub looked-none : {hex : Bool} {s : Bytes} {all : List Rec} (v : List ℕ) → length v ≡ 0 → Looked hex s all v false v
-looked-none [] e = record { kept = shuffled-self []; yes = λ t. false-true t; no = λ _. refl }
-looked-none (x ∷ v) e = absurd (let z : ⊥ = omega arith in z)
+  crosses-shuffled : {v w : List ℕ} → Shuffled v w → (k : ℕ) (l : List Rec) → crosses hex s w k l ≡ crosses hex s v k l
+  unfolding crosses
+  crosses-shuffled q k [] = refl
+  crosses-shuffled q k (r ∷ l) = rw (meets-shuffled q k (inputs (r .body)), crosses-shuffled q (k + 1) l)
+
+  meets-none : (k : ℕ) (ids : List Id) → meets hex s [] k ids ≡ false
+  unfolding meets
+  meets-none k [] = refl
+  meets-none k (z ∷ ids) = meets-none k ids
+
+  crosses-none : (k : ℕ) (l : List Rec) → crosses hex s [] k l ≡ false
+  unfolding crosses
+  crosses-none k [] = refl
+  crosses-none k (r ∷ l) = rw (meets-none k (inputs (r .body))) (crosses-none (k + 1) l)
+
+  pub looked : (all : List Rec) {v v′ : List ℕ} {b : Bool} → Shuffled v v′ → b ≡ crosses hex s v′ 0 all → b ≡ crosses hex s v 0 all
+  looked all q e = e ∙ crosses-shuffled q 0 all
+
+  pub looked-none : (all : List Rec) (v : List ℕ) → length v ≡ 0 → false ≡ crosses hex s v 0 all
+  looked-none all [] e = sym (crosses-none 0 all)
+  looked-none all (x ∷ v) e = absurd (let z : ⊥ = omega arith in z)
 
 -- ---- the loops of a look
 unfoldable pub meetsF : Bool → Bytes → List ℕ → ℕ → Unit {0} → List Id → Bool
@@ -197,32 +225,31 @@ module _ (form : Form) (w : List ℕ) {s : Bytes} {n at i left k : ℕ} (x : Sca
 
 -- ---- a row more
 module _ {last hex : Bool} {s : Bytes} {all : List Rec} {w : ℕ} where
-  pub grown-room : (v : List ℕ) {v′ : List ℕ} (m : ℕ) → m < length v → all? (held? hex s all) (take m v) ≡ true → held? hex s all w ≡ true → v′ ≡ set v m w → Grown last hex s all (take m v) w true (take (m + 1) v′)
-  grown-room v {v′} m h a b e =
-      let t : take (m + 1) v′ ≡ take m v ++ (w ∷ []) = ap (take (m + 1)) e ∙ rw add-one (take-suc-set v m w h) in
-      record {
-        bad = λ z _. false-true (sym z);
-        held = λ _. rw (t, all-append (held? hex s all) (take m v) (w ∷ []), a, b);
-        first = λ _ f.
-            let u = and-true (all? (first? hex s all) (take m v)) (all? (first? hex s all) (w ∷ [])) (rw (t, all-append (first? hex s all) (take m v) (w ∷ [])) at f) in
-            (u .0, and-true (first? hex s all w) true (u .1) .0);
-      }
+  pub grown-room : (v : List ℕ) {v′ : List ℕ} (m : ℕ) → m < length v → v′ ≡ set v m w → Grown last hex s all (take m v) w true (take (m + 1) v′)
+  grown-room v m h e = record { bad = λ z _. false-true (sym z); good = λ _. inl (ap (take (m + 1)) e ∙ rw add-one (take-suc-set v m w h)) }
 
   pub grown-out : {z z′ : List ℕ} → last ≡ false → Grown last hex s all z w false z′
-  grown-out e = record { bad = λ _ t. false-true (sym e ∙ t); held = λ z. false-true z; first = λ z. false-true z }
+  grown-out e = record { bad = λ _ t. false-true (sym e ∙ t); good = λ z. false-true z }
 
-  module _ {v v′ : List ℕ} {b : Bool} (l : Looked hex s all v b v′) (m : ℕ) (h : length v ≤ m) where
-    pub grown-bad : {z′ : List ℕ} → b ≡ true → all? (held? hex s all) (take m v) ≡ true → Grown last hex s all (take m v) w false z′
-    grown-bad t a = record { bad = λ _ _. l .yes t (rw (take-all m v h) at a); held = λ z. false-true z; first = λ z. false-true z }
+  module _ (v : List ℕ) {b : Bool} (l : b ≡ crosses hex s v 0 all) (m : ℕ) (h : length v ≤ m) where
+    pub grown-bad : {z′ : List ℕ} → b ≡ true → Grown last hex s all (take m v) w false z′
+    grown-bad t = record { bad = λ _ _. rw (take-all m v h) (sym l ∙ t); good = λ z. false-true z }
 
-    pub grown-new : {v″ : List ℕ} → b ≡ false → held? hex s all w ≡ true → 0 < length v′ → v″ ≡ set v′ 0 w → Grown last hex s all (take m v) w true (take 1 v″)
-    grown-new {v″} t a p e =
-        let q : take 1 v″ ≡ w ∷ [] = ap (take 1) e ∙ take-suc-set v′ 0 w p in
-        record {
-          bad = λ z _. false-true (sym z);
-          held = λ _. rw (q, a);
-          first = λ _ f. (rw (take-all m v h) (l .no t), and-true (first? hex s all w) true (rw q at f) .0);
-        }
+    pub grown-new : {v′ v″ : List ℕ} → Shuffled v v′ → b ≡ false → 0 < length v′ → v″ ≡ set v′ 0 w → Grown last hex s all (take m v) w true (take 1 v″)
+    grown-new {v′} _ t p e = record { bad = λ z _. false-true (sym z); good = λ _. inr (ap (take 1) e ∙ take-suc-set v′ 0 w p, rw (take-all m v h) (sym l ∙ t)) }
+
+  -- what holds of each row; and what holds of each once the rows are looked through
+  module _ {z z′ : List ℕ} {ok : Bool} (g : Grown last hex s all z w ok z′) (f : ok ≡ true) where
+    pub grown-all : (p : ℕ → Bool) → all? p z ≡ true → p w ≡ true → all? p z′ ≡ true
+    grown-all p a b =
+        let o : all? p (w ∷ []) ≡ true = rw b in
+        ⊎-elim (λ e. ap (all? p) e ∙ all-append p z (w ∷ []) ∙ and-both (all? p z) (all? p (w ∷ [])) a o) (λ e. ap (all? p) (e .0) ∙ o) (g .good f)
+
+    pub grown-back : (q : ℕ → Bool) → (crosses hex s z 0 all ≡ false → all? q z ≡ true) → all? q z′ ≡ true → (all? q z ≡ true) × (q w ≡ true)
+    grown-back q k a = ⊎-elim
+        (λ e. let u = and-true (all? q z) (all? q (w ∷ [])) (sym (ap (all? q) e ∙ all-append q z (w ∷ [])) ∙ a) in (u .0, and-true (q w) true (u .1) .0))
+        (λ e. (k (e .1), and-true (q w) true (sym (ap (all? q) (e .0)) ∙ a) .0))
+        (g .good f)
 
 -- ---- one id
 pub held-row : (hex : Bool) (s : Bytes) (all : List Rec) (k w : ℕ) (y : Id) → idR hex s w ≡ y → noR w ≡ k → Owned all k (same? y) → held? hex s all w ≡ true
@@ -230,17 +257,19 @@ unfolding held?
 held-row hex s all k w y e f o = rw (e, f) (lt-ltb 0 (count (hasIn y) (drop k all)) (o y (same-self y)))
 
 module _ {last hex : Bool} {s : Bytes} {all : List Rec} {k : ℕ} (y : Id) {t z : List ℕ} {h : ℕ} (e : h ≡ hashL y) {b : Bool} (q : b ≡ marked t h) where
-  pub note-seen : {w : ℕ} {ok : Bool} {z′ : List ℕ} → b ≡ true → idR hex s w ≡ y → noR w ≡ k → Grown last hex s all z w ok z′ → Noted last hex s all k (same? y) t z ok t z′
+  pub note-seen : {w : ℕ} {ok : Bool} {z′ : List ℕ} → b ≡ true → idR hex s w ≡ y → noR w ≡ k → all? (held? hex s all) z ≡ true → held? hex s all w ≡ true → Grown last hex s all z w ok z′ → Noted last hex s all k (same? y) t z ok t z′
   unfolding first?
-  note-seen {w} f i n g = record {
-    size = refl;
-    old = λ _ m. m;
-    bad = g .bad;
-    held = g .held;
-    back = λ o a. g .first o a .0;
-    one = λ o a x u _. subst (λ (d : Id). count (hasIn d) all ≤ count (hasIn d) (drop k all)) (same-is y x u) (leb-true (count (hasIn y) all) (count (hasIn y) (drop k all)) (rw (i, n) at (g .first o a .1)));
-    new = λ o x u. subst (λ (d : Id). marked t (hashL d) ≡ true) (same-is y x u) (sym (q ∙ ap (marked t) e) ∙ f);
-  }
+  note-seen {w} {ok} {z′} f i n a d g =
+      let back : ok ≡ true → all? (first? hex s all) z′ ≡ true → (all? (first? hex s all) z ≡ true) × (first? hex s all w ≡ true) = λ o c. grown-back g o (first? hex s all) (all-first hex s z all) c in
+      record {
+        size = refl;
+        old = λ _ m. m;
+        bad = λ o l. crosses-yes hex s z all a 0 all refl (g .bad o l);
+        held = λ o. grown-all g o (held? hex s all) a d;
+        back = λ o c. back o c .0;
+        one = λ o c x u _. subst (λ (d : Id). count (hasIn d) all ≤ count (hasIn d) (drop k all)) (same-is y x u) (leb-true (count (hasIn y) all) (count (hasIn y) (drop k all)) (rw (i, n) at (back o c .1)));
+        new = λ o x u. subst (λ (d : Id). marked t (hashL d) ≡ true) (same-is y x u) (sym (q ∙ ap (marked t) e) ∙ f);
+      }
 
   pub note-new : {t′ : List ℕ} → b ≡ false → 0 < length t → t′ ≡ markL t h → all? (held? hex s all) z ≡ true → Noted last hex s all k (same? y) t z true t′ z
   note-new {t′} f p g a = record {
@@ -344,9 +373,17 @@ module _ {last hex : Bool} {s : Bytes} {all : List Rec} (r : Rec) (l : List Rec)
     held = g .held f;
   }
 
-gone-end : {hex : Bool} {s : Bytes} {all : List Rec} {t z z′ : List ℕ} {b : Bool} → Gone hex s all [] t z → Looked hex s all z b z′ → not b ≡ apart? all
-gone-end {hex} {s} {all} {b = true} w l = sym (l .yes refl (w .held))
-gone-end {hex} {s} {all} {b = false} w l = apart-yes all (λ x. let h = w .few (l .no refl) x in omega arith)
+gone-end : {hex : Bool} {s : Bytes} {all : List Rec} {t z : List ℕ} {b : Bool} → Gone hex s all [] t z → b ≡ crosses hex s z 0 all → not b ≡ apart? all
+gone-end {hex} {s} {all} {t} {z} {b = true} w l = sym (crosses-yes hex s z all (w .held) 0 all refl (sym l))
+gone-end {hex} {s} {all} {t} {z} {b = false} w l = apart-yes all (λ x. let h = w .few (all-first hex s z all (sym l)) x in omega arith)
+
+used-count : (x : Id) (l : List Rec) → used? x l ≡ true → 0 < count (hasIn x) l
+used-count x l u = cases (ltb 0 (count (hasIn x) l))
+    (λ t. ltb-true 0 (count (hasIn x) l) t)
+    (λ t. let h = ltb-false 0 (count (hasIn x) l) t in false-true (sym (used-none x l (omega arith)) ∙ u))
+
+gone-all : {hex : Bool} {s : Bytes} {all : List Rec} {t z : List ℕ} → Gone hex s all [] t z → Marks all t
+gone-all {all = all} w = record { each = λ x u. w .met x (used-count x all u) }
 
 -- ---- the loop over the records
 noted-own : {last hex : Bool} {s : Bytes} {all : List Rec} {k : ℕ} {own : Id → Bool} (own′ : Id → Bool) {t z t′ z′ : List ℕ} {b : Bool} → ((x : Id) → own x ≡ own′ x) → Noted last hex s all k own t z b t′ z′ → Noted last hex s all k own′ t z b t′ z′
@@ -371,29 +408,46 @@ module _ (form : Form) {s : Bytes} {n at i left : ℕ} (k : ℕ) (x : Scan (recI
             gone-go (u .item) (listAt (recIn form) (left - 1) s j) (d ∙ u .list) (rw (u .list) at w) (noted-own (λ c. hasIn c (u .item)) (λ c. ap (among? c) (u .is .0 .insList)) g) f,
           )
 
-  pub gone-last : {t z z′ : List ℕ} {b : Bool} → left ≡ 0 → Gone (form .hex) s (listAt (recIn form) n s at) (listAt (recIn form) left s i) t z → Looked (form .hex) s (listAt (recIn form) n s at) z b z′ → not b ≡ apart? (listAt (recIn form) n s at)
-  gone-last e w l = gone-end (rw (none-left (recIn form) s left i e .0) at w) l
+  module _ {t z : List ℕ} (e : left ≡ 0) (w : Gone (form .hex) s (listAt (recIn form) n s at) (listAt (recIn form) left s i) t z) where
+    pub gone-last : {b : Bool} → b ≡ crosses (form .hex) s z 0 (listAt (recIn form) n s at) → not b ≡ apart? (listAt (recIn form) n s at)
+    gone-last l = gone-end (rw (none-left (recIn form) s left i e .0) at w) l
+
+    pub gone-marks : Marks (listAt (recIn form) n s at) t
+    gone-marks = gone-all (rw (none-left (recIn form) s left i e .0) at w)
 
 -- ---- what is said in the end
-module _ {last : Bool} {all : List Rec} where
-  pub said-no : apart? all ≡ false → Said last all 0
+module _ {last c : Bool} where
+  pub said-no : c ≡ false → Said last c 0
   said-no e = record { yes = λ z. absurd (let y : ⊥ = omega arith in y); no = λ _. sym e; sure = λ _. omega arith }
 
-  pub said-out : last ≡ false → Said last all 2
+  pub said-out : last ≡ false → Said last c 2
   said-out e = record { yes = λ z. absurd (let y : ⊥ = omega arith in y); no = λ z. absurd (let y : ⊥ = omega arith in y); sure = λ t. false-true (sym e ∙ t) }
 
-  pub said-any : {r : ℕ} → Said last all r → Said false all r
+  pub said-yes : c ≡ true → Said last c 1
+  said-yes e = record { yes = λ _. sym e; no = λ z. absurd (let y : ⊥ = omega arith in y); sure = λ _. omega arith }
+
+  pub said-any : {r : ℕ} → Said last c r → Said false c r
   said-any s = record { yes = s .yes; no = s .no; sure = λ t. false-true t }
 
-  module _ {b : Bool} (e : not b ≡ apart? all) where
-    pub said-crossed : b ≡ true → Said last all 0
+  module _ {b : Bool} (e : not b ≡ c) where
+    pub said-crossed : b ≡ true → Said last c 0
     said-crossed t = said-no (sym e ∙ ap not t)
 
-    pub said-clear : b ≡ false → Said last all 1
-    said-clear t = record { yes = λ _. sym (ap not t) ∙ e; no = λ z. absurd (let y : ⊥ = omega arith in y); sure = λ _. omega arith }
+    pub said-clear : b ≡ false → Said last c 1
+    said-clear t = said-yes (sym e ∙ ap not t)
 
-pub said-is : {all : List Rec} {r : ℕ} → Said true all r → eqb r 1 ≡ apart? all
-said-is {all} {r} s = cases (eqb r 1)
+  -- one test, then another
+  pub said-then : (d : Bool) {r : ℕ} → c ≡ true → Said last d r → Said last (c && d) r
+  said-then d e s = rw e s
+
+  pub said-first : (d : Bool) {r : ℕ} → (r ≡ 1 → ⊥) → Said last c r → Said last (c && d) r
+  said-first d {r} n s = record { yes = λ e. absurd (n e); no = λ e. rw (← (s .no e)); sure = s .sure }
+
+pub no-marks : {all : List Rec} {t : List ℕ} (r : ℕ) → eqb r 1 ≡ false → r ≡ 1 → Marks all t
+no-marks r n e = absurd (eqb-false r 1 n e)
+
+pub said-is : {c : Bool} {r : ℕ} → Said true c r → eqb r 1 ≡ c
+said-is {c} {r} s = cases (eqb r 1)
     (λ t. t ∙ s .yes (eqb-true r 1 t))
     (λ t. let h = s .sure refl in let n = eqb-false r 1 t in t ∙ s .no (zero-only r h n))
   where

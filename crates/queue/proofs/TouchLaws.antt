@@ -23,11 +23,12 @@ use Rattle.queue.specs.Forms.{formC, afterIn}
 use Rattle.queue.specs.Facts.{factsOf, placeHeight, SeenAs}
 use Rattle.queue.specs.Plain.{place-plain}
 use Rattle.queue.specs.Sounds.{fields-of}
+use Rattle.queue.specs.Owning.{wantedAt}
 use Rattle.queue.specs.Touching.{entryIn, appliedIn, entryIds, EntriesRise, EntryAs, SeenOf, SeenHere, ConfirmedIs, ownIds, judgeF, asTouched, verdictOf, InEntry, TouchIs, VerdictOn, Judged, changed?, changes?}
 use Rattle.queue.specs.paper.Records.{Bytes, Id, Rec, queued, conflicted}
 use Rattle.queue.specs.paper.Lists.{isSome, any?, all?, find, map, concat}
 use Rattle.queue.specs.paper.Ids.{cmpL, same?, rise?}
-use Rattle.queue.specs.paper.Sound.{pending?, mined?, among?, inputs, outputs}
+use Rattle.queue.specs.paper.Sound.{pending?, mined?, among?, wanted, outputs}
 use Rattle.queue.specs.paper.Area.{beVal, placeBytes}
 use Rattle.queue.specs.paper.Changing.{Applied, confirmed?, confirm, judge, queuedOutputs, touchFound}
 use Rattle.queue.specs.paper.Calls.{pieces, appliedOf}
@@ -259,6 +260,27 @@ module _ (own : List Id) {v : Bytes} {n at i left : ℕ} (x : Scan idC (fineF ow
   unfolding fineF
   fine-end e = end x e
 
+-- ---- what a record wants: its inputs and its read ids
+pub wanted-is : {v : Bytes} {x : Seen} {r : Rec} → SeenAs v x r → wantedAt v x ≡ wanted (r .body)
+wanted-is w = two (w .insList) (w .readsList)
+  where
+    two : {a a′ b b′ : List Id} → a ≡ a′ → b ≡ b′ → a ++ b ≡ a′ ++ b′
+    two e f = cc
+
+all-both : (p : Id → Bool) (a b : List Id) → all? p (a ++ b) ≡ (all? p a && all? p b)
+all-both p [] b = refl
+all-both p (i ∷ a) b = cases (p i) (λ t. rw t (all-both p a b)) (λ t. rw t)
+
+module _ (own : List Id) (v : Bytes) (x : Seen) {r : Bool} (e : r ≡ all? (λ i. among? i own) (listAt idC (x .facts .ins) v (x .at))) where
+  wanted-both : all? (λ i. among? i own) (wantedAt v x) ≡ (r && all? (λ i. among? i own) (listAt idC (x .facts .reads) v (x .reads)))
+  wanted-both = all-both (λ i. among? i own) (listAt idC (x .facts .ins) v (x .at)) (listAt idC (x .facts .reads) v (x .reads)) ∙ rw (← e)
+
+  pub fine-not : r ≡ false → false ≡ all? (λ i. among? i own) (wantedAt v x)
+  fine-not f = sym (wanted-both ∙ rw f)
+
+  pub fine-both : {q : Bool} → r ≡ true → q ≡ all? (λ i. among? i own) (listAt idC (x .facts .reads) v (x .reads)) → q ≡ all? (λ i. among? i own) (wantedAt v x)
+  fine-both f g = g ∙ sym (wanted-both ∙ rw f)
+
 -- ---- the verdict
 judge-is : (t : Bytes) (fine : Bool) (r : Rec) → cond fine (judge queued 0 r) (judge conflicted 5 r) ≡ asTouched t (record { what = judgeF fine (factsOf r); at = 0 }) r
 unfolding judgeF asTouched factsOf
@@ -329,20 +351,20 @@ module _ (s : Bytes) (at n base : ℕ) (x : Seen) (t : Bytes) (k : ℕ) (caught 
     verdict-confirm y = record { is = λ r w. found-is r w ∙ rw (y, verdict-1 (f .at)); within = λ z. rw (digits-div (f .at) {m = 4} {r = 1} (omega arith)) (e .good g .0) }
 
   module _ (g : f .found ≡ false) {u : Bool} (c : u ≡ (caught && pending? (x .facts .state))) where
-    missing-is : (r : Rec) → SeenOf s base x r → touchFound caught own r (find (λ a. same? (r .id) (a .id)) (appliedIn t k)) ≡ cond u (cond (all? (λ i. among? i own) (inputs (r .body))) (judge queued 0 r) (judge conflicted 5 r)) none
+    missing-is : (r : Rec) → SeenOf s base x r → touchFound caught own r (find (λ a. same? (r .id) (a .id)) (appliedIn t k)) ≡ cond u (cond (all? (λ i. among? i own) (wanted (r .body))) (judge queued 0 r) (judge conflicted 5 r)) none
     unfolding factsOf
     missing-is r w =
         ap (touchFound caught own r) (by-id r w ∙ e .bad g)
-        ∙ ap (λ v. cond v (cond (all? (λ i. among? i own) (inputs (r .body))) (judge queued 0 r) (judge conflicted 5 r)) none) (sym (c ∙ ap (λ v. caught && pending? (v .state)) (w .0 .facts)))
+        ∙ ap (λ v. cond v (cond (all? (λ i. among? i own) (wanted (r .body))) (judge queued 0 r) (judge conflicted 5 r)) none) (sym (c ∙ ap (λ v. caught && pending? (v .state)) (w .0 .facts)))
 
     pub verdict-none : u ≡ false → TouchIs s at n base x t k caught ids 0
     unfolding asTouched
     verdict-none y = record { is = λ r w. missing-is r w ∙ rw (y, verdict-0); within = λ z. absurd (let v : ⊥ = omega arith in v) }
 
-    pub verdict-judge : {a : Bool} {j : ℕ} → u ≡ true → a ≡ all? (λ i. among? i (ownIds ids (listAt (formC false recC) n s at))) (listAt idC (x .facts .ins) (view false s base) (x .at)) → j ≡ judgeF a (x .facts) → TouchIs s at n base x t k caught ids j
+    pub verdict-judge : {a : Bool} {j : ℕ} → u ≡ true → a ≡ all? (λ i. among? i (ownIds ids (listAt (formC false recC) n s at))) (wantedAt (view false s base) x) → j ≡ judgeF a (x .facts) → TouchIs s at n base x t k caught ids j
     verdict-judge {a} {j} y h i = record {
       is = λ r w.
-          let z : all? (λ i. among? i own) (inputs (r .body)) ≡ a = sym (h ∙ ap (all? (λ i. among? i own)) (w .0 .insList)) in
+          let z : all? (λ i. among? i own) (wanted (r .body)) ≡ a = sym (h ∙ ap (all? (λ i. among? i own)) (wanted-is (w .0))) in
           missing-is r w ∙ rw y (ap (λ v. cond v (judge queued 0 r) (judge conflicted 5 r)) z ∙ judge-is t a r ∙ ap (λ v. asTouched t v r) (sym (verdict-judged a (factsOf r)) ∙ ap (λ v. verdictOf (judgeF a v)) (sym (w .0 .facts)) ∙ ap verdictOf (sym i)));
       within = λ z. absurd (judge-not a (x .facts) (ap (λ v. v % 4) (sym i) ∙ z));
     }

@@ -9,12 +9,12 @@ use lib.Dec.{ltb, leb, eqb}
 use lib.ListN.{length}
 use borrow.Author.Tests.{ltb-false, leb-false, le-ltb, eqb-true, eq-eqb, not-true}
 use Rattle.queue.specs.Codec.{cases, All, byteC, beC, pairC, mapC, optC, countedC}
-use Rattle.queue.specs.Frames.{idC, labelC, termsC, heldC, placeC, bodyC}
+use Rattle.queue.specs.Frames.{idC, labelC, termsC, heldK, placeC, bodyK}
 use Rattle.queue.specs.Lists.{all-map, total-split, sub-all, sub-pairwise, sub-total}
 use Rattle.queue.specs.ReadLaws.{false-true}
 use Rattle.queue.specs.Order.{below-trans, below-total, or-true}
 use Rattle.queue.specs.ListLaws.{one-le, and-false, all-every, filter-sub, filter-all, find-all, insert-all, insert-total, insert-apart, insert-rising}
-use Rattle.queue.specs.Sounds.{Right, Before, Distinct, distinct-sym, Apart, apart-sym, free-of, each-in, Sound, Fields, Fit}
+use Rattle.queue.specs.Sounds.{Right, Before, Distinct, distinct-sym, Apart, apart-sym, apart-from, Sound, Fields, Fit}
 use Rattle.queue.specs.Forget.{core-sound}
 use Rattle.queue.specs.Keeps.{Leaves, Wholly, same-kept, committed-kept, pending-mined}
 use Rattle.queue.specs.declared.Kind.{Kind}
@@ -22,7 +22,7 @@ use Rattle.queue.specs.declared.Kind.the-variants.{Nothing, Memory, Whol
 use Rattle.queue.specs.paper.Records.{Bytes, Held, Rec, Queue, queued, mined, conflicted, cancelled, expired}
 use Rattle.queue.specs.paper.Lists.{isSome, one, total, filter, find, isEmpty?, maybe}
 use Rattle.queue.specs.paper.Ids.{below?}
-use Rattle.queue.specs.paper.Sound.{holder?, pending?, mined?, inputs, content, labelLen, among?, clash?, heldRight?}
+use Rattle.queue.specs.paper.Sound.{holder?, pending?, mined?, inputs, content, labelLen, clash?, crossed?, heldRight?}
 use Rattle.queue.specs.paper.Changing.{named?, Admission, reached?, newRec, put, pendings, pendingBytes, pendingsOf, shareOf, admitNew, admit, Out, refused, done, committed, WithinShare}
 
 abbrev pub LabelBytes : Option Bytes → Type 0
@@ -42,9 +42,11 @@ pub record Admissible (K : ℕ) (a : Admission) : Type 0 where
   pub cost : a .cost < 256 ^ 8
   pub ins : All (idC .ok) (a .held .ins)
   pub outs : All (idC .ok) (a .held .outs)
+  pub reads : All (idC .ok) (a .held .reads)
   pub bytes : All (λ b. b < 256) (a .held .bytes)
   pub few-ins : length (a .held .ins) ≤ K
   pub few-outs : length (a .held .outs) ≤ K
+  pub few-reads : length (a .held .reads) ≤ K
   pub tipHeight : a .tipHeight < 256 ^ 4
   pub tip : optC idC .ok (a .tip)
 
@@ -99,16 +101,18 @@ module _ (a : Admission) (q : Queue) (f : Fit q) (o : Admissible (q .limits .K) 
     label = ltb-false 200 (labelLen (a .label)) r9;
     ins = o .few-ins;
     outs = o .few-outs;
+    reads = o .few-reads;
     size = eq-eqb (length (a .held .bytes)) (length (a .held .bytes)) refl;
   }
 
   new-fields : length (a .held .bytes) ≤ q .limits .B → Fields (newRec a)
-  unfolding newRec termsC heldC bodyC placeC mapC pairC beC optC countedC byteC
+  unfolding newRec termsC heldK bodyK placeC mapC pairC beC optC countedC byteC
   new-fields h =
       let n = f .sound .range .B-high in
       let k = f .sound .range .K-high in
       let i = o .few-ins in
       let j = o .few-outs in
+      let l = o .few-reads in
       record {
         id = o .id;
         caller = let c = o .caller in omega arith;
@@ -118,13 +122,13 @@ module _ (a : Admission) (q : Queue) (f : Fit q) (o : Admissible (q .limits .K) 
         place = tt;
         mark = omega arith;
         finish = omega arith;
-        body = ((o .ins, omega arith), ((o .outs, omega arith), (o .bytes, omega arith)));
+        body = ((o .ins, omega arith), ((o .outs, omega arith), ((o .reads, omega arith), (o .bytes, omega arith))));
       }
 
   put-sound : pendings (q .recs) < q .limits .P → pendingBytes (q .recs) + length (a .held .bytes) ≤ q .limits .B → clash? (a .held .ins) (q .recs) ≡ false
-      → Sound (q .limits) (q .counter) (put (newRec a) (q .recs))
+      → crossed? (a .held .ins) (a .held .reads) (q .recs) ≡ false → Sound (q .limits) (q .counter) (put (newRec a) (q .recs))
   unfolding newRec
-  put-sound r10 r11 r12 =
+  put-sound r10 r11 r12 r20 =
       let s = f .sound in
       let u = filter-sub (λ x. not (named? (newRec a .id) x)) (q .recs) in
       core-sound (q .limits) (q .counter) (put (newRec a) (q .recs)) (record {
@@ -148,7 +152,7 @@ module _ (a : Admission) (q : Queue) (f : Fit q) (o : Admissible (q .limits .K) 
             (sub-pairwise Before u (s .rising));
         distinct = insert-apart lt Distinct distinct-sym (newRec a) rest (all-every _ (λ x e. false-true (sym e)) rest) (sub-pairwise Distinct u (s .distinct));
         apart = insert-apart lt Apart apart-sym (newRec a) rest
-            (sub-all (Apart (newRec a)) u (each-in (λ i. among? i (a .held .ins) ≡ true) (λ i s. among? i (inputs (s .body)) ≡ false) (q .recs) (free-of (a .held .ins) (q .recs) r12)))
+            (sub-all (Apart (newRec a)) u (apart-from (a .held .ins) (a .held .reads) (q .recs) r12 r20))
             (sub-pairwise Apart u (s .apart));
       }) (let x = put-total (newRec a) (q .recs) (λ r. one (not (holder? r))) in let z = s .fewTombs in omega arith)
 
@@ -165,12 +169,14 @@ module _ (a : Admission) (q : Queue) (f : Fit q) (o : Admissible (q .limits .K) 
       (λ y. rw (x, v, y) tt)
       (λ y. cases (clash? (a .held .ins) (q .recs))
       (λ z. rw (x, v, y, z) tt)
-      (λ z. let r10 = leb-false (q .limits .P) (pendings (q .recs)) x in
+      (λ z. cases (crossed? (a .held .ins) (a .held .reads) (q .recs))
+      (λ w. rw (x, v, y, z, w) tt)
+      (λ w. let r10 = leb-false (q .limits .P) (pendings (q .recs)) x in
       let r11 = ltb-false (q .limits .B) (pendingBytes (q .recs) + length (a .held .bytes)) y in
       let c = cursor-ok (q .recs) in
-      rw (x, v, y, z) (committed-kept _ _ (q .counter) (put (newRec a) (q .recs)) q f (c .0) (c .1) (f .counter)
-      (put-sound r10 r11 z)
-      (insert-all lt Fields (newRec a) rest (new-fields (omega arith)) (sub-all Fields (filter-sub (λ x. not (named? (newRec a .id) x)) (q .recs)) (f .recs))))))))
+      rw (x, v, y, z, w) (committed-kept _ _ (q .counter) (put (newRec a) (q .recs)) q f (c .0) (c .1) (f .counter)
+      (put-sound r10 r11 z w)
+      (insert-all lt Fields (newRec a) rest (new-fields (omega arith)) (sub-all Fields (filter-sub (λ x. not (named? (newRec a .id) x)) (q .recs)) (f .recs)))))))))
 
   found-leaves : (x : Option Rec) → Leaves q (maybe (admitNew a q) (λ r. cond (pending? (r .state) || mined? r) (done Nothing q r) (admitNew a q)) x)
   found-leaves none = new-leaves
@@ -203,7 +209,9 @@ admit-wholly a q = cases (reached? (a .due) (a .now))
         (λ v. rw (x, v) tt)
         (λ v. cases (ltb (q .limits .B) (pendingBytes (q .recs) + length (a .held .bytes)))
         (λ y. rw (x, v, y) tt)
-        (λ y. cases (clash? (a .held .ins) (q .recs)) (λ z. rw (x, v, y, z) tt) (λ z. rw (x, v, y, z) tt))))
+        (λ y. cases (clash? (a .held .ins) (q .recs))
+        (λ z. rw (x, v, y, z) tt)
+        (λ z. cases (crossed? (a .held .ins) (a .held .reads) (q .recs)) (λ w. rw (x, v, y, z, w) tt) (λ w. rw (x, v, y, z, w) tt)))))
 
     found : (x : Option Rec) → Wholly (maybe (admitNew a q) (λ r. cond (pending? (r .state) || mined? r) (done Nothing q r) (admitNew a q)) x)
     found none = free
@@ -247,15 +255,17 @@ within-share a q x r e = cases (reached? (a .due) (a .now))
         (λ v. no-entry (rw (t, u, v) at e))
         (λ v. cases (clash? (a .held .ins) (q .recs))
         (λ w. no-entry (rw (t, u, v, w) at e))
-        (λ w.
-        let d = rw (t, u, v, w) at e in
+        (λ w. cases (crossed? (a .held .ins) (a .held .reads) (q .recs))
+        (λ y. no-entry (rw (t, u, v, w, y) at e))
+        (λ y.
+        let d = rw (t, u, v, w, y) at e in
         let recs : put (newRec a) (q .recs) ≡ x .recs = ap entered d in
         let i = leb-false (q .limits .P) (pendings (q .recs)) t in
         let j = leb-false (shareOf (a .caller) (q .limits)) (pendingsOf (a .caller) (q .recs)) u in
         let k = put-total (newRec a) (q .recs) (λ y. one (pending? (y .state))) in
         let l = put-total (newRec a) (q .recs) (λ y. one (pending? (y .state) && eqb (y .caller) (a .caller))) in
         let m = one-le (eqb (a .caller) (a .caller)) in
-        rw (← recs) (omega arith, omega arith)))))
+        rw (← recs) (omega arith, omega arith))))))
 
     found : (o : Option Rec) → maybe (admitNew a q) (λ y. cond (pending? (y .state) || mined? y) (done Nothing q y) (admitNew a q)) o ≡ done Whole x r → (pendingsOf (a .caller) (x .recs) ≤ shareOf (a .caller) (q .limits)) × (pendings (x .recs) ≤ q .limits .P)
     found none e = new e

@@ -17,8 +17,8 @@ use Rattle.queue.specs.Areas.{readArea}
 use Rattle.queue.specs.Opens.{AreaAs}
 use Rattle.queue.specs.declared.Kind.the-variants.{Nothing}
 use Rattle.queue.specs.paper.Records.{Bytes, Id, Terms, Held, Rec, Queue}
-use Rattle.queue.specs.paper.Lists.{filter, find, maybe}
-use Rattle.queue.specs.paper.Sound.{need, labelLen, clash?, pending?, mined?, callerRight?}
+use Rattle.queue.specs.paper.Lists.{any?, filter, find, maybe}
+use Rattle.queue.specs.paper.Sound.{need, labelLen, clash?, read?, crossed?, pending?, mined?, callerRight?}
 use Rattle.queue.specs.paper.Area.{flagged, areaBytes, over}
 use Rattle.queue.specs.paper.Changing.{named?, put, newRec, committed, pendings, pendingBytes, pendingsOf, shareOf, admitNew, admit, done}
 use Rattle.queue.specs.Checked.{admitShape?, Outcome, told}
@@ -28,12 +28,13 @@ use Rattle.queue.specs.declared.admit.Tip.{Tip}
 use Rattle.queue.specs.declared.frame.HeadR.{HeadR}
 use Rattle.queue.specs.declared.area.Area.{Area}
 
-abbrev pub argsOf : Asked → Bytes → Bytes → Bytes → Bytes → Bytes → Bytes → AdmitArgs
-argsOf x id ins outs bytes label tip = record {
+abbrev pub argsOf : Asked → Bytes → Bytes → Bytes → Bytes → Bytes → Bytes → Bytes → AdmitArgs
+argsOf x id ins outs reads bytes label tip = record {
   id = id;
   caller = x .caller;
   inputs = ins;
   outputs = outs;
+  reads = reads;
   bytes = bytes;
   now = x .now .0;
   timeFlag = x .timeflag;
@@ -51,8 +52,8 @@ argsOf x id ins outs bytes label tip = record {
 }
 
 -- the record that comes of them; the tip has no part in it
-unfoldable pub newOf : Asked → Bytes → Bytes → Bytes → Bytes → Bytes → Rec
-newOf x id ins outs bytes label = newRec (admission (argsOf x id ins outs bytes label []))
+unfoldable pub newOf : Asked → Bytes → Bytes → Bytes → Bytes → Bytes → Bytes → Rec
+newOf x id ins outs reads bytes label = newRec (admission (argsOf x id ins outs reads bytes label []))
 
 -- how long its parts are
 abbrev pub optLen : ℕ → ℕ → ℕ
@@ -64,11 +65,11 @@ labelSize flag label = cond (eqb flag 1) (2 + length label) 1
 abbrev pub termsLen : Asked → Bytes → ℕ
 termsLen x label = 32 + (optLen (x .timeflag) 8 + (optLen (x .heightflag) 4 + labelSize (x .labelflag) label))
 
-abbrev pub heldLen : Bytes → Bytes → Bytes → ℕ
-heldLen ins outs bytes = 9 + (length ins + (length outs + length bytes))
+abbrev pub heldLen : Bytes → Bytes → Bytes → Bytes → ℕ
+heldLen ins outs reads bytes = 11 + (length ins + (length outs + (length reads + length bytes)))
 
-abbrev pub newLen : Asked → Bytes → Bytes → Bytes → Bytes → ℕ
-newLen x ins outs bytes label = 46 + (termsLen x label + heldLen ins outs bytes)
+abbrev pub newLen : Asked → Bytes → Bytes → Bytes → Bytes → Bytes → ℕ
+newLen x ins outs reads bytes label = 46 + (termsLen x label + heldLen ins outs reads bytes)
 
 abbrev pub newTerms : Asked → Bytes → ℕ → Terms
 newTerms x label n = record {
@@ -82,8 +83,8 @@ newTerms x label n = record {
   cost = x .cost;
 }
 
-abbrev pub heldOf : Bytes → Bytes → Bytes → Held
-heldOf ins outs bytes = record { ins = items 32 ins; outs = items 32 outs; bytes = bytes }
+abbrev pub heldOf : Bytes → Bytes → Bytes → Bytes → Held
+heldOf ins outs reads bytes = record { ins = items 32 ins; outs = items 32 outs; reads = items 32 reads; bytes = bytes }
 
 -- they fit their fields
 pub record TermsFit (x : Asked) (label : Bytes) (n : ℕ) : Type 0 where
@@ -97,11 +98,13 @@ pub record TermsFit (x : Asked) (label : Bytes) (n : ℕ) : Type 0 where
   pub size : n < 256 ^ 4
   pub cost : x .cost < 256 ^ 8
 
-pub record HeldFit (ins outs bytes : Bytes) : Type 0 where
+pub record HeldFit (ins outs reads bytes : Bytes) : Type 0 where
   pub wholeIns : length ins % 32 ≡ 0
   pub wholeOuts : length outs % 32 ≡ 0
+  pub wholeReads : length reads % 32 ≡ 0
   pub fewIns : length ins / 32 < 65536
   pub fewOuts : length outs / 32 < 65536
+  pub fewReads : length reads / 32 < 65536
   pub fewBytes : length bytes < 256 ^ 4
 
 -- the paper's put, one record at a time: placed says that the new record stands already
@@ -146,8 +149,8 @@ PendingsAre s n = (q : Queue) → readArea s ≡ some q → n ≡ pendings (q .r
 abbrev pub FullIs : Bytes → ℕ → Bool → Type 0
 FullIs s caller r = (q : Queue) → readArea s ≡ some q → r ≡ leb (shareOf caller (q .limits)) (pendingsOf caller (q .recs))
 
-abbrev pub entryNewLen : Asked → Bytes → Bytes → ℕ
-entryNewLen x ins label = 38 + (termsLen x label + length ins)
+abbrev pub entryNewLen : Asked → Bytes → Bytes → Bytes → ℕ
+entryNewLen x ins reads label = 40 + (termsLen x label + (length ins + length reads))
 
 -- the numbers fit their fields
 pub record NumbersFit (x : Asked) : Type 0 where
@@ -161,20 +164,33 @@ pub record NumbersFit (x : Asked) : Type 0 where
   pub tipheight : x .tipheight .0 < 256 ^ 4
 
 -- what is lent has passed the checks 5 and 6
-pub record LentIn (x : Asked) (id ins outs bytes label tip : Bytes) (K : ℕ) : Type 0 where
-  pub lent : AdmitLent (argsOf x id ins outs bytes label tip)
-  pub shape : admitShape? (argsOf x id ins outs bytes label tip) ≡ true
-  pub few : overK? K (argsOf x id ins outs bytes label tip) ≡ false
+pub record LentIn (x : Asked) (id ins outs reads bytes label tip : Bytes) (K : ℕ) : Type 0 where
+  pub lent : AdmitLent (argsOf x id ins outs reads bytes label tip)
+  pub shape : admitShape? (argsOf x id ins outs reads bytes label tip) ≡ true
+  pub few : overK? K (argsOf x id ins outs reads bytes label tip) ≡ false
 
 -- and 9
-pub record AskedIn (x : Asked) (id ins outs bytes label tip : Bytes) (K : ℕ) : Type 0 where
-  pub lent : AdmitLent (argsOf x id ins outs bytes label tip)
-  pub shape : admitShape? (argsOf x id ins outs bytes label tip) ≡ true
-  pub few : overK? K (argsOf x id ins outs bytes label tip) ≡ false
+pub record AskedIn (x : Asked) (id ins outs reads bytes label tip : Bytes) (K : ℕ) : Type 0 where
+  pub lent : AdmitLent (argsOf x id ins outs reads bytes label tip)
+  pub shape : admitShape? (argsOf x id ins outs reads bytes label tip) ≡ true
+  pub few : overK? K (argsOf x id ins outs reads bytes label tip) ≡ false
   pub short : ltb 200 (labelLen (given (x .labelflag) label)) ≡ false
 
-abbrev pub FreeOf : Bytes → Bytes → Type 0
-FreeOf s ins = (q : Queue) → readArea s ≡ some q → clash? (items 32 ins) (q .recs) ≡ false
+-- lent ids, at most 128
+pub record LentIds (s : Bytes) : Type 0 where
+  pub small : Small s
+  pub whole : length s % 32 ≡ 0
+  pub few : length s / 32 ≤ 128
+
+abbrev pub ReadIs : Bytes → Bytes → Bool → Type 0
+ReadIs s ins r = (q : Queue) → readArea s ≡ some q → r ≡ any? (λ i. read? i (q .recs)) (items 32 ins)
+
+abbrev pub CrossIs : Bytes → Bytes → Bytes → Bool → Type 0
+CrossIs s ins reads r = (q : Queue) → readArea s ≡ some q → r ≡ crossed? (items 32 ins) (items 32 reads) (q .recs)
+
+-- and 12 and 20
+abbrev pub FreeOf : Bytes → Bytes → Bytes → Type 0
+FreeOf s ins reads = (q : Queue) → readArea s ≡ some q → (clash? (items 32 ins) (q .recs) ≡ false) × (crossed? (items 32 ins) (items 32 reads) (q .recs) ≡ false)
 
 -- the cursor of the next queue, where h was read from s
 abbrev pub TipFor : Bytes → HeadR → Asked → Bytes → Tip → Type 0
@@ -193,8 +209,8 @@ abbrev pub AdmitTold : Bytes → AdmitArgs → Outcome → Bytes → Bytes → T
 AdmitTold s g o next out = (q : Queue) → readArea s ≡ some q → o ≡ told entryBytes next out (admit (admission g) q)
 
 -- check 5 in two parts, and what is known of bytes that are lent
-abbrev pub ListsAre : Bytes → ℕ → Bytes → Bytes → Bool → Type 0
-ListsAre id caller ins outs r = (r ≡ ((id? id && callerRight? caller) && (whole? 32 ins && whole? 32 outs))) × (Small id × Small ins × Small outs)
+abbrev pub ListsAre : Bytes → ℕ → Bytes → Bytes → Bytes → Bool → Type 0
+ListsAre id caller ins outs reads r = (r ≡ ((id? id && callerRight? caller) && (whole? 32 ins && (whole? 32 outs && whole? 32 reads)))) × (Small id × Small ins × Small outs × Small reads)
 
 abbrev pub FlagsAre : Asked → Bytes → Bytes → Bytes → Bool → Type 0
 FlagsAre x bytes label tip r =

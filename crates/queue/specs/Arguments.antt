@@ -79,6 +79,7 @@ pub record AdmitLent (a : AdmitArgs) : Type 0 where
   pub id : Small (a .id)
   pub inputs : Small (a .inputs)
   pub outputs : Small (a .outputs)
+  pub reads : Small (a .reads)
   pub bytes : Small (a .bytes)
   pub now : a .now < 256 ^ 8
   pub time : a .time < 256 ^ 8
@@ -93,13 +94,15 @@ pub record AdmitLent (a : AdmitArgs) : Type 0 where
 pub admission-ok : (K : ℕ) (a : AdmitArgs) → AdmitLent a → admitShape? a ≡ true → overK? K a ≡ false → Admissible K (admission a)
 unfolding beC
 admission-ok K a h e o =
-    let s = and-true ((id? (a .id) && callerRight? (a .caller)) && (whole? 32 (a .inputs) && whole? 32 (a .outputs))) _ e in
+    let s = and-true ((id? (a .id) && callerRight? (a .caller)) && (whole? 32 (a .inputs) && (whole? 32 (a .outputs) && whole? 32 (a .reads)))) _ e in
     let s0 = and-true (id? (a .id)) (callerRight? (a .caller)) (and-true (id? (a .id) && callerRight? (a .caller)) _ (s .0) .0) in
     let s1 = and-true (flag? (a .timeFlag) && flag? (a .heightFlag)) (flag? (a .labelFlag) && givenId? (a .tipFlag) (a .tip)) (s .1) in
     let s2 = and-true (flag? (a .labelFlag)) (givenId? (a .tipFlag) (a .tip)) (s1 .1) in
-    let k = or-false (ltb K (length (a .inputs) / 32)) (ltb K (length (a .outputs) / 32)) o in
+    let k = or-false (ltb K (length (a .inputs) / 32)) _ o in
+    let l = or-false (ltb K (length (a .outputs) / 32)) (ltb K (length (a .reads) / 32)) (k .1) in
     let i = items-ok 32 (a .inputs) (h .inputs) .1 in
     let j = items-ok 32 (a .outputs) (h .outputs) .1 in
+    let m = items-ok 32 (a .reads) (h .reads) .1 in
     record {
       id = id-ok (a .id) (s0 .0) (h .id);
       caller = leb-true (a .caller) 15 (s0 .1);
@@ -112,9 +115,11 @@ admission-ok K a h e o =
       cost = h .cost;
       ins = ids-ok (a .inputs) (h .inputs);
       outs = ids-ok (a .outputs) (h .outputs);
+      reads = ids-ok (a .reads) (h .reads);
       bytes = h .bytes;
       few-ins = let z = ltb-false K (length (a .inputs) / 32) (k .0) in omega arith;
-      few-outs = let z = ltb-false K (length (a .outputs) / 32) (k .1) in omega arith;
+      few-outs = let z = ltb-false K (length (a .outputs) / 32) (l .0) in omega arith;
+      few-reads = let z = ltb-false K (length (a .reads) / 32) (l .1) in omega arith;
       tipHeight = h .tipHeight;
       tip = given-id (a .tipFlag) (a .tip) (s2 .1) (h .tip);
     }

@@ -10,14 +10,14 @@ use lib.ListN.{length, drop, length-append, length-replicate, length-drop}
 use lib.Seq.{drop-at}
 use Rattle.queue.specs.Codec.{All, byteC, beC, pairC, mapC, optC, vecC, countedC, vecMost}
 use Rattle.queue.specs.Choice.{thenC}
-use Rattle.queue.specs.Frames.{Head, tagC, idC, labelC, termsC, heldC, bodyC, placeC, recK, recC, fourC, sixteenC, limitsK, limitsC, headK, headC}
+use Rattle.queue.specs.Frames.{Head, tagC, idC, labelC, termsC, heldK, bodyK, bodyC, placeC, recK, recC, fourC, sixteenC, limitsK, limitsC, headK, headC}
 use Rattle.queue.specs.Forms.{headFor, storeOf, formC, areaForm, storeIn, framesC, queueC, ok-store}
 use Rattle.queue.specs.Areas.{layout, readArea, readImage, stands-reads, reads-stands, shows-reads, reads-shows}
 use Rattle.queue.specs.Plain.{area-plain, image-plain}
 use Rattle.queue.specs.Sounds.{Right, sound-of, Fit, fit-of, fit-sound, fit-ok}
 use Rattle.queue.specs.paper.Records.{Bytes, Id, Limits, Terms, Held, Rec, Queue}
 use Rattle.queue.specs.paper.Lists.{isSome, one, map, concat}
-use Rattle.queue.specs.paper.Sound.{sound?, need, holder?, inputs, outputs, content, labelLen, holders, holderBytes, tombstones}
+use Rattle.queue.specs.paper.Sound.{sound?, need, holder?, inputs, outputs, reads, content, labelLen, holders, holderBytes, tombstones}
 use Rattle.queue.specs.paper.Area.{areaBytes, imageUnder, imageBytes, over}
 use Rattle.queue.specs.paper.Kinds.{newest, kind?, says?}
 use Rattle.queue.specs.Kinds.{newest-says}
@@ -58,27 +58,28 @@ unfolding placeC optC pairC beC
 place-most none h = omega arith
 place-most (some x) h = let e = id-most (x .1) (h .1) in omega arith
 
-body-most : (K : ℕ) (o : Option Held) → bodyC .ok o → length (inputs o) ≤ K → length (outputs o) ≤ K
-    → bodyC .most o ≤ 1 + one (isSome o) * (8 + 64 * K) + length (content o)
-unfolding bodyC heldC mapC optC pairC countedC
-body-most K none h i o = omega arith
-body-most K (some x) h i o =
+body-most : (K : ℕ) (o : Option Held) → bodyC .ok o → length (inputs o) ≤ K → length (outputs o) ≤ K → length (reads o) ≤ K
+    → bodyC .most o ≤ 1 + one (isSome o) * (10 + 96 * K) + length (content o)
+unfolding bodyK heldK mapC optC pairC countedC
+body-most K none h i o d = omega arith
+body-most K (some x) h i o d =
     let a = ids-most (x .ins) (h .0 .0) in
     let b = ids-most (x .outs) (h .1 .0 .0) in
+    let e = ids-most (x .reads) (h .1 .1 .0 .0) in
     let c = bytes-most (x .bytes) in
     omega arith
 
 -- document 01's "a tombstone at most 330", and one byte for the caller
-rec-most : (K c : ℕ) (r : Rec) → recC .ok r → Right K c r → recC .most r ≤ 331 + one (holder? r) * (8 + 64 * K) + length (content (r .body))
+rec-most : (K c : ℕ) (r : Rec) → recC .ok r → Right K c r → recC .most r ≤ 331 + one (holder? r) * (10 + 96 * K) + length (content (r .body))
 unfolding recK mapC pairC tagC beC
 rec-most K c r h s =
     let a = id-most (r .id) (h .1 .0) in
     let b = terms-most (r .terms) (s .label) in
     let d = place-most (r .place) (h .1 .1 .1 .1 .1 .1 .0) in
-    let e = body-most K (r .body) (h .1 .1 .1 .1 .1 .1 .1 .1 .1) (s .ins) (s .outs) in
+    let e = body-most K (r .body) (h .1 .1 .1 .1 .1 .1 .1 .1 .1) (s .ins) (s .outs) (s .reads) in
     omega arith
 
-recs-most : (K c : ℕ) (l : List Rec) → All (recC .ok) l → All (Right K c) l → vecMost recC l ≤ 331 * (holders l + tombstones l) + holders l * (8 + 64 * K) + holderBytes l
+recs-most : (K c : ℕ) (l : List Rec) → All (recC .ok) l → All (Right K c) l → vecMost recC l ≤ 331 * (holders l + tombstones l) + holders l * (10 + 96 * K) + holderBytes l
 recs-most K c [] h s = omega arith
 recs-most K c (r ∷ l) h s =
     let i = recs-most K c l (h .1) (s .1) in
@@ -116,7 +117,7 @@ fits-need q e o =
     let a = queueC .fits q o in
     let b = head-most (headFor (storeOf q)) (k .0) in
     let c = recs-most (q .limits .K) (q .counter) (q .recs) (k .1) (s .right) in
-    let d = mul-le-mul-right (512 + 64 * q .limits .K) (s .fewHolders) in
+    let d = mul-le-mul-right (512 + 96 * q .limits .K) (s .fewHolders) in
     let f = s .fewBytes in
     let g = s .fewTombs in
     omega arith

@@ -27,7 +27,7 @@ use Rattle.queue.specs.declared.finish.Change.{Change}
 
 -- the entry of a record once it is finished, as it is written
 unfoldable pub endBytes : Bytes → ℕ → Seen → ℕ → ℕ → Bytes
-endBytes s base x state reason = ((((x .id ++ be 1 (x .facts .caller)) ++ (state ∷ [])) ++ (reason ∷ [])) ++ take (x .mark - termsAt) (drop (base + termsAt) s)) ++ be 2 0
+endBytes s base x state reason = ((((x .id ++ be 1 (x .facts .caller)) ++ (state ∷ [])) ++ (reason ∷ [])) ++ take (x .mark - termsAt) (drop (base + termsAt) s)) ++ be 4 0
 
 abbrev pub idIf : Bool → Id → Bytes
 idIf hit id = cond hit id []

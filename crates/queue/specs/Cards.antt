@@ -4,19 +4,20 @@ use mathlib.Core.Path.{_≡_, refl}
 use mathlib.Core.Bool.{Bool, true, false, cond, not, _&&_}
 use mathlib.Core.Option.{Option, none, some}
 use mathlib.Core.List.{List, [], _∷_, _++_}
-use Prim.Native.Nat.{ℕ, _+_, _-_}
+use Prim.Native.Nat.{ℕ, _+_, _-_, _*_}
 use lib.Dec.{eqb}
 use lib.ListN.{length, take, drop, replicate}
 use Rattle.queue.specs.declared.Answer.{Answer}
 use Rattle.queue.specs.Hex.{textOf, digOf}
-use Rattle.queue.specs.paper.Records.{Bytes, Id, Limits, Rec, Queue, queued, mined, conflicted}
+use Rattle.queue.specs.paper.Records.{Bytes, Id, Limits, Held, Rec, Queue, queued, mined, conflicted}
 use Rattle.queue.specs.paper.Lists.{one, all?, find, map, concat}
 use Rattle.queue.specs.paper.Ids.{cmpL, same?, rise?}
-use Rattle.queue.specs.paper.Sound.{need, mined?, sound?, inRange, sharesRight?, counts?, right?, distinct?, apart?, used?, clash?}
-use Rattle.queue.specs.paper.Area.{termsBytes, placeBytes, heldBytes, recUnder, sharesBytes, headUnder, beVal, queueBytes, areaBytes, imageUnder, imageBytes, over}
+use Rattle.queue.specs.paper.Sound.{need, mined?, sound?, inRange, sharesRight?, counts?, right?, distinct?, apart?, used?, clash?, read?, crossed?, readApart?, reads}
+use Rattle.queue.specs.paper.Area.{termsBytes, placeBytes, heldUnder, recUnder, sharesBytes, headUnder, beVal, queueBytes, areaBytes, imageUnder, imageBytes, over}
 use Rattle.queue.specs.paper.Kinds.{kind?, firstShare, says?}
 use Rattle.queue.specs.paper.Changing.{Out, refused, done, top, named?, committed, moved, newRec, admit, finished, finishThose, forget, cancel, due?, expire, Applied, Reconciling, confirm, touch, releases, reconcile, reopened, reopen, setCursor, touchedRecs, toRelease}
-use Rattle.queue.specs.paper.Calls.{kindNumber, number, items, entryBytes, idsBytes, admitArgs, Call, admitting, shape?, fresh, freshOf, settleNext}
+use Rattle.queue.specs.paper.Calls.{kindNumber, number, items, entryBytes, idsBytes, AdmitArgs, admitArgs, Call, admitting, shape?, overK?, fresh, freshOf, settleNext}
+use Rattle.queue.specs.paper.Reading.{reservedInputs}
 use Rattle.queue.specs.paper.Fees.{Best, bestFees, bestBytes, searchOf}
 use Rattle.queue.specs.paper.Decisions.{entered, decide, decisions}
 use Rattle.queue.specs.paper.Parents.{listed, waitsFor?, parentsFirstAt}
@@ -60,9 +61,9 @@ limits P B T K = record { P = P; B = B; T = T; K = K; shares = firstShare P }
 abbrev id : ℕ → Id
 id n = replicate 32 n
 
--- a caller, inputs, an id, n signed bytes, the time, time deadline and height deadline
-abbrev enterFor : ℕ → List Id → ℕ → ℕ → ℕ → Option ℕ → Option ℕ → Queue → Out Rec
-enterFor caller ins i n now due dueHeight q = admit (record {
+-- a caller, what is held, an id, the time, time deadline and height deadline
+abbrev entering : ℕ → Held → ℕ → ℕ → Option ℕ → Option ℕ → Queue → Out Rec
+entering caller held i now due dueHeight q = admit (record {
   id = id i;
   caller = caller;
   now = now;
@@ -72,10 +73,14 @@ enterFor caller ins i n now due dueHeight q = admit (record {
   label = none;
   fee = 0;
   cost = 0;
-  held = record { ins = ins; outs = []; bytes = replicate n 7 };
+  held = held;
   tipHeight = 9;
   tip = none;
 }) q
+
+-- with these inputs and n signed bytes
+abbrev enterFor : ℕ → List Id → ℕ → ℕ → ℕ → Option ℕ → Option ℕ → Queue → Out Rec
+enterFor caller ins i n now due dueHeight q = entering caller (record { ins = ins; outs = []; reads = []; bytes = replicate n 7 }) i now due dueHeight q
 
 abbrev enterWith : List Id → ℕ → ℕ → ℕ → Option ℕ → Option ℕ → Queue → Out Rec
 enterWith = enterFor 0
@@ -137,6 +142,23 @@ worked = record {
   } ∷ [];
 }
 
+-- the worked area's queue after an admission that reads an id
+abbrev workedReading : Queue
+workedReading = after (admit (record {
+  id = replicate 32 34;
+  caller = 0;
+  now = 5;
+  due = none;
+  dueHeight = none;
+  priority = 0;
+  label = none;
+  fee = 1;
+  cost = 1;
+  held = record { ins = replicate 32 51 ∷ []; outs = []; reads = replicate 32 68 ∷ []; bytes = 171 ∷ 205 ∷ [] };
+  tipHeight = 1;
+  tip = none;
+})) small
+
 -- document 02, P12: a candidate is its fee and its size
 abbrev Candidate : Type 0
 Candidate = ℕ × ℕ
@@ -180,7 +202,7 @@ standing state reason place due dueHeight r = record {
   place = place;
   mark = 0;
   finish = 0;
-  body = some (record { ins = map id (r .1 .1 .0); outs = map id (r .1 .1 .1); bytes = [] });
+  body = some (record { ins = map id (r .1 .1 .0); outs = map id (r .1 .1 .1); reads = []; bytes = [] });
 }
 
 abbrev waiting : Row → Rec
@@ -251,7 +273,7 @@ withMark state reason holds mark = record {
     place = cond (eqb state mined) (some (50, id 7)) none;
     mark = mark;
     finish = cond holds 0 1;
-    body = cond holds (some (record { ins = []; outs = []; bytes = [] })) none;
+    body = cond holds (some (record { ins = []; outs = []; reads = []; bytes = [] })) none;
   } ∷ [];
 }
 
@@ -300,7 +322,44 @@ cancelledOne = record {
 
 -- an admission of a whole id with that caller
 abbrev calling : ℕ → Call
-calling caller = admitting (admitArgs (id 1) caller [] [] [] 0 0 0 0 0 0 0 [] 0 0 0 0 [])
+calling caller = admitting (admitArgs (id 1) caller [] [] [] [] 0 0 0 0 0 0 0 [] 0 0 0 0 [])
+
+-- document 02, P11: an admission with these inputs, outputs and read ids; a number is an id
+abbrev enterHeld : List ℕ → List ℕ → List ℕ → ℕ → Queue → Out Rec
+enterHeld ins outs reads i q = entering 0 (record { ins = map id ins; outs = map id outs; reads = map id reads; bytes = 7 ∷ [] }) i 0 none none q
+
+abbrev spending : ℕ → ℕ → Queue → Out Rec
+spending input i q = enterHeld (input ∷ []) [] [] i q
+
+abbrev reading : ℕ → ℕ → Queue → Out Rec
+reading read i q = enterHeld [] [] (read ∷ []) i q
+
+abbrev wide : Queue
+wide = fresh (limits 3 10 2 2)
+
+-- caught up at 1, with these available
+abbrev judging : List ℕ → Queue → Out (Bool × List Id)
+judging available q = reconcile (record { height = 1; tip = id 8; applied = []; caughtUp = true; available = map id available; window = 100 }) q
+
+-- the record with these read ids
+abbrev withReads : List ℕ → Rec → Rec
+withReads reads r = record { id = r .id; caller = r .caller; state = r .state; reason = r .reason; terms = r .terms; place = r .place; mark = r .mark; finish = r .finish; body = held (r .body) }
+  where
+    held : Option Held → Option Held
+    held none = none
+    held (some h) = some (record { ins = h .ins; outs = h .outs; reads = map id reads; bytes = h .bytes })
+
+-- an id's record reads these, and its entry ends with them
+abbrev readsOf? : List ℕ → Id → Queue → Bool
+readsOf? numbers i q = shown (find (named? i) (q .recs))
+  where
+    shown : Option Rec → Bool
+    shown none = false
+    shown (some r) = same? (concat (reads (r .body))) (concat (map id numbers)) && same? (drop (length (entryBytes r) - (2 + 32 * length numbers)) (entryBytes r)) (0 ∷ length numbers ∷ concat (map id numbers))
+
+-- lent ids of so many bytes: inputs, outputs, read ids
+abbrev lending : ℕ → ℕ → ℕ → AdmitArgs
+lending ins outs reads = admitArgs (id 1) 0 (replicate ins 1) (replicate outs 1) (replicate reads 1) [] 0 0 0 0 0 0 0 [] 0 0 0 0 []
 
 -- what a fresh queue under P 2, B 10, T 1, K 1 gives back for these shares, into n bytes
 abbrev freshWith : Bytes → ℕ → ℕ
@@ -347,7 +406,7 @@ cards =
     ∷ eqb (gives (watch 132 100 [] (moved 100 132 (some (id 8)) at100))) 103
     -- "Fresh with P 2, B 10, T 1, K 1, whole", with P8's "2, then zeros, 213 bytes": each digit's byte, and the end byte
     ∷ same? (imageBytes small)
-    ((48 ∷ 52 ∷ [])
+    ((48 ∷ 53 ∷ [])
     ++ ((48 ∷ 48 ∷ 48 ∷ 48 ∷ 48 ∷ 48 ∷ 48 ∷ 50 ∷ [])
     ++ ((48 ∷ 48 ∷ 48 ∷ 48 ∷ 48 ∷ 48 ∷ 48 ∷ 97 ∷ [])
     ++ ((48 ∷ 48 ∷ 48 ∷ 48 ∷ 48 ∷ 48 ∷ 48 ∷ 49 ∷ [])
@@ -355,18 +414,18 @@ cards =
     ++ ((48 ∷ 48 ∷ 48 ∷ 48 ∷ 48 ∷ 48 ∷ 48 ∷ 50 ∷ [])
     ++ (replicate 120 48 ++ (replicate 16 48 ++ (replicate 8 48 ++ (replicate 2 48 ++ (replicate 16 48 ++ (replicate 8 48 ++ (10 ∷ [])))))))))))))
     ∷ eqb (length (imageBytes small)) 213
-    -- docs/AREA.md: "A fresh queue under P 2, B 10, T 1, K 1 needs 3,348 bytes. They start with these 110, and the rest are zeros"
-    ∷ eqb (need (limits 2 10 1 1)) 3348
+    -- docs/AREA.md: "A fresh queue under P 2, B 10, T 1, K 1 needs 3,476 bytes. They start with these 110, and the rest are zeros"
+    ∷ eqb (need (limits 2 10 1 1)) 3476
     ∷ same? (areaBytes small)
     ((0 ∷ 0 ∷ 0 ∷ 0 ∷ [])
-    ++ ((4 ∷ 0 ∷ 0 ∷ 0 ∷ 2 ∷ 0 ∷ 0 ∷ 0 ∷ 10 ∷ 0 ∷ 0 ∷ 0 ∷ 1 ∷ 0 ∷ 0 ∷ 0 ∷ 1 ∷ [])
+    ++ ((5 ∷ 0 ∷ 0 ∷ 0 ∷ 2 ∷ 0 ∷ 0 ∷ 0 ∷ 10 ∷ 0 ∷ 0 ∷ 0 ∷ 1 ∷ 0 ∷ 0 ∷ 0 ∷ 1 ∷ [])
     ++ ((0 ∷ 0 ∷ 0 ∷ 2 ∷ [])
-    ++ (replicate 60 0 ++ (replicate 8 0 ++ (replicate 4 0 ++ (replicate 1 0 ++ (replicate 8 0 ++ (replicate 4 0 ++ replicate 3238 0)))))))))
+    ++ (replicate 60 0 ++ (replicate 8 0 ++ (replicate 4 0 ++ (replicate 1 0 ++ (replicate 8 0 ++ (replicate 4 0 ++ replicate 3366 0)))))))))
     -- "The same queue with one cancelled record .. starts with"
     ∷ sound? worked
     ∷ same? (queueBytes worked)
     ((0 ∷ 0 ∷ 0 ∷ 6 ∷ [])
-    ++ ((4 ∷ 0 ∷ 0 ∷ 0 ∷ 2 ∷ 0 ∷ 0 ∷ 0 ∷ 10 ∷ 0 ∷ 0 ∷ 0 ∷ 1 ∷ 0 ∷ 0 ∷ 0 ∷ 1 ∷ [])
+    ++ ((5 ∷ 0 ∷ 0 ∷ 0 ∷ 2 ∷ 0 ∷ 0 ∷ 0 ∷ 10 ∷ 0 ∷ 0 ∷ 0 ∷ 1 ∷ 0 ∷ 0 ∷ 0 ∷ 1 ∷ [])
     ++ ((0 ∷ 0 ∷ 0 ∷ 1 ∷ [])
     ++ ((replicate 19 0 ++ (1 ∷ replicate 40 0))
     ++ ((0 ∷ 0 ∷ 0 ∷ 0 ∷ 0 ∷ 0 ∷ 0 ∷ 2 ∷ [])
@@ -378,6 +437,23 @@ cards =
     ++ ((0 ∷ 0 ∷ 0 ∷ 0 ∷ 0 ∷ 0 ∷ 0 ∷ 5 ∷ 0 ∷ 0 ∷ 255 ∷ 255 ∷ 255 ∷ 255 ∷ 0 ∷ [])
     ++ ((0 ∷ 0 ∷ 0 ∷ 0 ∷ 0 ∷ 0 ∷ 0 ∷ 7 ∷ 0 ∷ 0 ∷ 0 ∷ 3 ∷ 0 ∷ 0 ∷ 0 ∷ 0 ∷ 0 ∷ 0 ∷ 0 ∷ 9 ∷ [])
     ++ (0 ∷ 0 ∷ 0 ∷ 0 ∷ 0 ∷ 0 ∷ 0 ∷ 0 ∷ 0 ∷ 1 ∷ 0 ∷ [])))))))))))))
+    -- "The fresh queue after an admission .. that spends .., reads .., starts with"
+    ∷ sound? workedReading
+    ∷ same? (queueBytes workedReading)
+    ((0 ∷ 0 ∷ 0 ∷ 1 ∷ [])
+    ++ ((5 ∷ 0 ∷ 0 ∷ 0 ∷ 2 ∷ 0 ∷ 0 ∷ 0 ∷ 10 ∷ 0 ∷ 0 ∷ 0 ∷ 1 ∷ 0 ∷ 0 ∷ 0 ∷ 1 ∷ [])
+    ++ ((0 ∷ 0 ∷ 0 ∷ 2 ∷ [])
+    ++ (replicate 60 0
+    ++ ((0 ∷ 0 ∷ 0 ∷ 0 ∷ 0 ∷ 0 ∷ 0 ∷ 1 ∷ 0 ∷ 0 ∷ 0 ∷ 1 ∷ 0 ∷ [])
+    ++ ((replicate 8 0 ++ (0 ∷ 0 ∷ 0 ∷ 1 ∷ []))
+    ++ ((2 ∷ [])
+    ++ (replicate 32 34
+    ++ ((0 ∷ 0 ∷ 0 ∷ [])
+    ++ ((0 ∷ 0 ∷ 0 ∷ 0 ∷ 0 ∷ 0 ∷ 0 ∷ 5 ∷ 0 ∷ 0 ∷ 0 ∷ 0 ∷ 0 ∷ 0 ∷ 0 ∷ [])
+    ++ ((0 ∷ 0 ∷ 0 ∷ 0 ∷ 0 ∷ 0 ∷ 0 ∷ 1 ∷ 0 ∷ 0 ∷ 0 ∷ 2 ∷ 0 ∷ 0 ∷ 0 ∷ 0 ∷ 0 ∷ 0 ∷ 0 ∷ 1 ∷ [])
+    ++ (replicate 10 0
+    ++ ((1 ∷ 0 ∷ 1 ∷ [])
+    ++ (replicate 32 51 ++ (0 ∷ 0 ∷ 0 ∷ 1 ∷ (replicate 32 68 ++ (0 ∷ 0 ∷ 0 ∷ 2 ∷ 171 ∷ 205 ∷ [])))))))))))))))))
     -- P12: fees 5, 4, 3 and sizes 6, 5, 5, limit 10
     ∷ finds? three 10 1 [] 0 1 7
     ∷ finds? three 10 2 (5 ∷ []) 5 2 2
@@ -477,9 +553,9 @@ cards =
     ∷ (sound? (withMark 2 0 true 0) && not (sound? (withMark 2 0 true 3)))
     ∷ (sound? (withMark 5 3 false 0) && not (sound? (withMark 5 3 false 3)))
     ∷ (sound? (withMark 4 1 false 0) && not (sound? (withMark 4 1 false 3)))
-    -- "header kind 03": 01 and 03 are read, and 04; 01 can't say mark 3
-    ∷ all? kind? (1 ∷ 3 ∷ 4 ∷ [])
-    ∷ all? (λ k. not (kind? k)) (0 ∷ 2 ∷ 5 ∷ 6 ∷ 255 ∷ [])
+    -- "header kind 03": 01 and 03 are read, 04 and 05; 01 can't say mark 3
+    ∷ all? kind? (1 ∷ 3 ∷ 4 ∷ 5 ∷ [])
+    ∷ all? (λ k. not (kind? k)) (0 ∷ 2 ∷ 6 ∷ 7 ∷ 255 ∷ [])
     ∷ (says? 3 (withMark 2 0 false 3) && not (says? 1 (withMark 2 0 false 3)))
     ∷ (says? 1 (withMark 2 0 false 5) && says? 3 (withMark 2 0 false 5))
     -- the worked image under 01 is document 01's, of 85 bytes: no shares; under 03 it differs in its second digit alone
@@ -525,19 +601,73 @@ cards =
     -- "a share over P is 1", and not sound
     ∷ (sound? (fresh (shared (replicate 16 3))) && not (sound? (fresh (shared (replicate 15 3 ++ (4 ∷ []))))))
     ∷ not (sound? (fresh (shared (replicate 17 0))))
-    ∷ eqb (freshWith (sharesBytes (replicate 16 2)) 3348) 100
+    ∷ eqb (freshWith (sharesBytes (replicate 16 2)) 3476) 100
     ∷ eqb (freshWith (sharesBytes (replicate 15 2 ++ (3 ∷ []))) 0) 1
     -- then 2, and 5 for a list that is not whole, of which no share is read
-    ∷ eqb (freshWith (replicate 63 255) 3347) 2
-    ∷ all? (λ n. eqb (freshWith (replicate n 255) 3348) 5) (0 ∷ 63 ∷ 65 ∷ 128 ∷ [])
-    ∷ eqb (freshWith (replicate 64 255) 3348) 1
+    ∷ eqb (freshWith (replicate 63 255) 3475) 2
+    ∷ all? (λ n. eqb (freshWith (replicate n 255) 3476) 5) (0 ∷ 63 ∷ 65 ∷ 128 ∷ [])
+    ∷ eqb (freshWith (replicate 64 255) 3476) 1
     -- "Images with kinds 01 and 03 open with caller 0 throughout, share 0 being P and the others 0": they can say no other
     ∷ (says? 3 (withCaller (3 ∷ []) 0 cancelledOne) && says? 1 (withCaller (3 ∷ []) 0 cancelledOne))
     ∷ (says? 4 (withCaller (3 ∷ []) 1 cancelledOne) && not (says? 3 (withCaller (3 ∷ []) 1 cancelledOne)))
     ∷ (says? 4 (withCaller (2 ∷ []) 0 cancelledOne) && not (says? 3 (withCaller (2 ∷ []) 0 cancelledOne)))
     ∷ not (says? 1 (withCaller (3 ∷ 1 ∷ []) 0 cancelledOne))
+    -- P11: "No record may spend what another record reads": 20 in both directions
+    ∷ eqb (gives (spending 9 2 (after (reading 9 1) wide))) 20
+    ∷ eqb (gives (reading 9 2 (after (spending 9 1) wide))) 20
+    ∷ eqb (gives (enterHeld (8 ∷ 9 ∷ []) [] (7 ∷ []) 2 (after (enterHeld (5 ∷ []) [] (6 ∷ 9 ∷ []) 1) wide))) 20
+    -- "two records may read the same one"; "a record may read what it spends itself", also twice, or its own output
+    ∷ eqb (gives (reading 9 2 (after (reading 9 1) wide))) 102
+    ∷ eqb (gives (enterHeld (9 ∷ []) (8 ∷ []) (9 ∷ 8 ∷ []) 1 wide)) 102
+    ∷ eqb (gives (enterHeld [] [] (9 ∷ 9 ∷ []) 1 wide)) 102
+    -- "directly after 12": what another spends and reads is 12 to spend, 20 to read; 11 goes before
+    ∷ eqb (gives (spending 9 2 (after (enterHeld (9 ∷ []) [] (9 ∷ []) 1) wide))) 12
+    ∷ eqb (gives (reading 9 2 (after (enterHeld (9 ∷ []) [] (9 ∷ []) 1) wide))) 20
+    ∷ eqb (gives (enterFor 0 (id 9 ∷ []) 2 10 0 none none (after (reading 9 1) wide))) 11
+    -- a pending id gives its old record; a Mined one counts in both directions until it is released; a tombstone does not
+    ∷ eqb (gives (reading 9 1 (after (spending 9 2) (after (reading 8 1) wide)))) 100
+    ∷ eqb (gives (spending 9 2 (after (watch 50 100 (mined50 1)) (after (reading 9 1) wide)))) 20
+    ∷ eqb (gives (reading 9 2 (after (watch 50 100 (mined50 1)) (after (spending 9 1) wide)))) 20
+    ∷ eqb (gives (spending 9 2 (after (watch 50 0 (mined50 1)) (after (reading 9 1) wide)))) 102
+    ∷ eqb (gives (spending 9 2 (after (cancel (id 1)) (after (reading 9 1) wide)))) 102
+    -- "Read ids are released with the inputs": cancelled, released; confirmed and rolled back they stay
+    ∷ readsOf? (9 ∷ []) (id 1) (after (reading 9 1) wide)
+    ∷ readsOf? [] (id 1) (after (cancel (id 1)) (after (reading 9 1) wide))
+    ∷ readsOf? [] (id 1) (after (watch 50 0 (mined50 1)) (after (reading 9 1) wide))
+    ∷ readsOf? (9 ∷ []) (id 1) (after (reopen (id 1 ∷ [])) (after (watch 50 100 (mined50 1)) (after (reading 9 1) wide)))
+    -- "an unavailable read id makes a record Conflicted just as an input does"; an available one, or an output of a Queued record, doesn't
+    ∷ is? 3 5 (id 1) (after (judging []) (after (reading 9 1) wide))
+    ∷ is? 0 0 (id 1) (after (judging (9 ∷ [])) (after (reading 9 1) wide))
+    ∷ is? 3 5 (id 1) (after (judging (8 ∷ [])) (after (enterHeld (8 ∷ []) [] (9 ∷ []) 1) wide))
+    ∷ is? 3 5 (id 1) (after (judging (9 ∷ [])) (after (enterHeld (8 ∷ []) [] (9 ∷ []) 1) wide))
+    ∷ is? 0 0 (id 1) (after (judging (8 ∷ 9 ∷ [])) (after (judging []) (after (enterHeld (8 ∷ []) [] (9 ∷ []) 1) wide)))
+    ∷ is? 0 0 (id 1) (after (judging []) (after (enterHeld [] (9 ∷ []) [] 2) (after (reading 9 1) wide)))
+    -- a parent that is Conflicted at entry does not help in this call
+    ∷ is? 3 5 (id 1) (after (judging (8 ∷ [])) (after (judging []) (after (enterHeld (8 ∷ []) (9 ∷ []) [] 2) (after (reading 9 1) wide))))
+    -- "`reserved_inputs` and the index hold only spent ids"
+    ∷ same? (concat (reservedInputs (after (enterHeld (8 ∷ 5 ∷ []) [] (9 ∷ 8 ∷ []) 1) wide))) (concat (map id (5 ∷ 8 ∷ [])))
+    -- "over K of them is 6", each list by itself; a read list that is not whole is 5
+    ∷ (not (overK? 2 (lending 64 64 64)) && overK? 2 (lending 0 0 96))
+    ∷ (overK? 2 (lending 96 0 0) && overK? 2 (lending 0 96 0))
+    ∷ (shape? (admitting (lending 32 0 64)) && not (shape? (admitting (lending 32 0 63))))
+    -- "A queue where they meet, or a record reads over K ids, isn't sound": in both directions, and of Mined holders
+    ∷ not (sound? (holding (waiting (1, (0, (9 ∷ [], []))) ∷ withReads (9 ∷ []) (waiting (2, (0, (8 ∷ [], [])))) ∷ [])))
+    ∷ not (sound? (holding (withReads (9 ∷ []) (waiting (1, (0, (8 ∷ [], [])))) ∷ inBlock (2, (0, (9 ∷ [], []))) ∷ [])))
+    ∷ sound? (holding (withReads (9 ∷ []) (waiting (1, (0, (8 ∷ [], [])))) ∷ withReads (9 ∷ []) (waiting (2, (0, ([], [])))) ∷ []))
+    ∷ sound? (holding (withReads (8 ∷ 8 ∷ []) (waiting (1, (0, (8 ∷ [], [])))) ∷ []))
+    ∷ not (sound? (holding (withReads (1 ∷ 2 ∷ 3 ∷ []) (waiting (1, (0, ([], [])))) ∷ [])))
+    -- "the parents-first order waits for them as for inputs"
+    ∷ listsAt? 0 0 (withReads (60 ∷ []) (waiting (1, (0, ([], [])))) ∷ waiting (2, (0, (50 ∷ [], 60 ∷ []))) ∷ []) (2 ∷ 1 ∷ [])
+    ∷ listsAt? 0 0 (withReads (60 ∷ []) (waiting (1, (0, ([], 60 ∷ [])))) ∷ waiting (2, (0, (50 ∷ [], []))) ∷ []) (1 ∷ 2 ∷ [])
+    ∷ listsAt? 0 0 (withReads (60 ∷ []) (waiting (1, (0, ([], [])))) ∷ inBlock (2, (0, (50 ∷ [], 60 ∷ []))) ∷ []) (1 ∷ [])
+    ∷ listsAt? 0 0 (withReads (61 ∷ []) (waiting (1, (0, ([], 60 ∷ [])))) ∷ withReads (60 ∷ []) (waiting (2, (0, ([], 61 ∷ [])))) ∷ []) []
+    -- "older kinds open without read ids": they can say no other, and their frames have no count; the newest has it, 2 bytes and 32 an id
+    ∷ (says? 5 (holding (withReads (9 ∷ []) (waiting (1, (0, ([], [])))) ∷ [])) && not (says? 4 (holding (withReads (9 ∷ []) (waiting (1, (0, ([], [])))) ∷ []))))
+    ∷ all? (λ k. says? k (holding (waiting (1, (0, (8 ∷ [], []))) ∷ []))) (1 ∷ 3 ∷ 4 ∷ 5 ∷ [])
+    ∷ eqb (length (recUnder 5 (withReads (9 ∷ []) (waiting (1, (0, (8 ∷ [], []))))))) (34 + length (recUnder 4 (waiting (1, (0, (8 ∷ [], []))))))
+    ∷ eqb (length (recUnder 5 cancelledOne)) (length (recUnder 4 cancelledOne))
     ∷ []
 
 pub all-cards : all? (λ b. b) cards ≡ true
-unfolding says? cmpL over need sound? inRange counts? right? rise? distinct? apart? used? clash? termsBytes placeBytes heldBytes recUnder sharesBytes headUnder beVal items entryBytes freshOf sharesRight? queueBytes areaBytes imageUnder committed moved newRec admit finished finishThose forget cancel due? expire confirm touch releases touchedRecs toRelease reconcile entered decide decisions reopened reopen setCursor textOf digOf idsBytes bestBytes searchOf listed waitsFor?
+unfolding says? cmpL over need sound? inRange counts? right? rise? distinct? apart? used? clash? read? crossed? readApart? termsBytes placeBytes heldUnder recUnder sharesBytes headUnder beVal items entryBytes freshOf sharesRight? queueBytes areaBytes imageUnder committed moved newRec admit finished finishThose forget cancel due? expire confirm touch releases touchedRecs toRelease reconcile entered decide decisions reopened reopen setCursor textOf digOf idsBytes bestBytes searchOf listed waitsFor? reservedInputs
 all-cards = refl

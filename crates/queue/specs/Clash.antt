@@ -1,6 +1,6 @@
--- Lent ids in a table of rows: is an id one of them, and is one an input of a record?
+-- Lent ids in a table of rows: is an id one of them, and does a record spend or read one?
 use mathlib.Core.Path.{_≡_}
-use mathlib.Core.Bool.{Bool, false}
+use mathlib.Core.Bool.{Bool, false, cond}
 use mathlib.Core.List.{List}
 use Prim.Native.Nat.{ℕ, _≤_, _<_}
 use lib.ListN.{length, getD}
@@ -9,7 +9,9 @@ use Rattle.queue.specs.Reopens.{idsAt}
 use Rattle.queue.specs.paper.Records.{Bytes, Id, Rec}
 use Rattle.queue.specs.paper.Ids.{cmpL, same?}
 use Rattle.queue.specs.paper.Lists.{any?}
-use Rattle.queue.specs.paper.Sound.{inputs, among?}
+use Rattle.queue.specs.paper.Sound.{inputs, reads, among?}
+use Rattle.queue.specs.Touching.{SeenOf}
+use Rattle.queue.specs.declared.frame.Seen.{Seen}
 
 unfoldable pub rowHas : Bytes → Id → ℕ → Bool
 rowHas t z x = same? z (idR false t x)
@@ -25,9 +27,20 @@ pub record CutId (t : Bytes) (v : List ℕ) (z : Id) (lo hi : ℕ) : Type 0 wher
   pub low : (i : ℕ) → i < lo → cmpL (idR false t (getD v i 0)) z ≡ 0
   pub high : (i : ℕ) → hi ≤ i → i < length v → cmpL (idR false t (getD v i 0)) z ≡ 0 → ⊥
 
--- one of these ids is one of those; one of the records' inputs is
+-- one of these ids is one of those
 unfoldable pub anyOf : List Id → List Id → Bool
 anyOf ids l = any? (λ z. among? z ids) l
 
-unfoldable pub meetsIds : List Id → List Rec → Bool
-meetsIds ids l = any? (λ r. anyOf ids (inputs (r .body))) l
+-- what a record reads, or its inputs; one of the records' is one of these
+abbrev pub listOf : Bool → Rec → List Id
+listOf read r = cond read (reads (r .body)) (inputs (r .body))
+
+unfoldable pub meetsIds : Bool → List Id → List Rec → Bool
+meetsIds read ids l = any? (λ r. anyOf ids (listOf read r)) l
+
+abbrev pub MeetsIs : Bytes → ℕ → Seen → Bool → List Id → Bool → Type 0
+MeetsIs s base x read ids b = (r : Rec) → SeenOf s base x r → b ≡ anyOf ids (listOf read r)
+
+-- one of these is read, or else spent, by a record
+unfoldable pub clashes : Bool → List Id → List Rec → Bool
+clashes read ids l = any? (λ i. any? (λ r. among? i (listOf read r)) l) ids

@@ -19,7 +19,7 @@ use Rattle.queue.specs.Reconciles.{Diff, rising-diff}
 use Rattle.queue.specs.paper.Records.{Id, Limits, Rec, Queue, queued, conflicted}
 use Rattle.queue.specs.paper.Lists.{maybe, isSome, isEmpty?, one, all?, any?, total, count, filter, find, insert, sort, map}
 use Rattle.queue.specs.paper.Ids.{same?}
-use Rattle.queue.specs.paper.Sound.{holder?, pending?, mined?, inputs, content, among?, sound?}
+use Rattle.queue.specs.paper.Sound.{holder?, pending?, mined?, wanted, content, among?, sound?}
 use Rattle.queue.specs.paper.Changing.{Out, refused, done, Applied, Reconciling, confirmed?, confirm, judge, touchFound, touch, ownOf, touchedRecs, minedHeight, newer?, releases, toRelease, reconcile, top, topHeight}
 use Rattle.queue.specs.paper.Decisions.{Decision, entered, minedHolder?, decide, decisions, refusal, OnePass}
 
@@ -37,7 +37,7 @@ module _ (caught : Bool) (own : List Id) (r : Rec) where
   enter-alike : (o : Option Applied) → Alike (maybe r (λ a. cond (mined? r && confirmed? a (r .place)) r (confirm a r)) o) (maybe r (λ x. x) (touchFound caught own r o))
   enter-alike (some a) = cases (mined? r && confirmed? a (r .place)) (λ t. rw t (inl refl)) (λ t. rw t (inl refl))
   enter-alike none = cases (caught && pending? (r .state))
-      (λ t. let p = pending-mined (r .state) (and-true caught (pending? (r .state)) t .1) in rw t (judge-alike (all? (λ i. among? i own) (inputs (r .body))) (rw p refl)))
+      (λ t. let p = pending-mined (r .state) (and-true caught (pending? (r .state)) t .1) in rw t (judge-alike (all? (λ i. among? i own) (wanted (r .body))) (rw p refl)))
       (λ t. rw t (inl refl))
 
 filter-alike : (f g : Rec → Rec) → ((r : Rec) → Alike (f r) (g r)) → (l : List Rec) → filter minedHolder? (map f l) ≡ filter minedHolder? (map g l)

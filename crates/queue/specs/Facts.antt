@@ -1,6 +1,6 @@
 -- What the rules look at in a record, and how what was read stands to the record or the header.
 use mathlib.Core.Path.{_≡_, ap, sym}
-use mathlib.Core.Bool.{Bool, true, cond}
+use mathlib.Core.Bool.{Bool, true, false, cond}
 use mathlib.Core.Option.{Option, none, some}
 use mathlib.Core.List.{List, _++_}
 use Prim.Native.Nat.{ℕ, _+_, _^_, _≤_, _<_}
@@ -8,12 +8,13 @@ use lib.ListN.{length, take, drop}
 use Rattle.queue.specs.Codec.{beC, optC}
 use Rattle.queue.specs.paper.Records.{Bytes, Id, Limits, Terms, Held, Rec}
 use Rattle.queue.specs.paper.Lists.{isSome}
-use Rattle.queue.specs.paper.Sound.{labelLen, inputs, outputs, content}
-use Rattle.queue.specs.Frames.{Head, tagC, markC, callerC, idC, termsC, placeC, bodyC, Four, sharesC, limitsK}
+use Rattle.queue.specs.paper.Sound.{labelLen, inputs, outputs, reads, content}
+use Rattle.queue.specs.Frames.{Head, tagC, markC, callerC, readsC, idC, termsC, placeC, bodyK, signedEnc, Four, sharesC, limitsK}
 use Rattle.queue.specs.Reads.{Reads, whole, listAt}
 use Rattle.queue.specs.ReadLaws.{Small}
-use Rattle.queue.specs.paper.Kinds.{newest, hasCallers}
+use Rattle.queue.specs.paper.Kinds.{newest, hasCallers, hasReads}
 use Rattle.queue.specs.paper.Calls.{numbers, limitsOf}
+use Rattle.queue.specs.declared.frame.Items.{Items}
 use Rattle.queue.specs.declared.frame.TermsR.{TermsR}
 use Rattle.queue.specs.declared.frame.PlaceR.{PlaceR}
 use Rattle.queue.specs.declared.frame.BodyR.{BodyR}
@@ -55,6 +56,7 @@ factsOf r = record {
   holder = isSome (r .body);
   ins = length (inputs (r .body));
   outs = length (outputs (r .body));
+  reads = length (reads (r .body));
   bytes = length (content (r .body));
 }
 
@@ -64,6 +66,14 @@ factsOf r = record {
 abbrev pub TagAt : ℕ → Bytes → ℕ → Bool → ℕ → Type 0
 TagAt n s at ok next = Reads (tagC n) s at ok next (λ u. Unit {0})
 
+-- a list of ids was read from v
+pub record ListAs (v : Bytes) (x : Items) (l : List Id) : Type 0 where
+  pub len : length l ≡ x .len
+  pub all : whole idC (x .len) v (x .start) ≡ true
+  pub list : listAt idC (x .len) v (x .start) ≡ l
+  pub inside : x .start ≤ length v
+  pub small : x .len < 65536
+
 -- a withdrawn mark, as the kind k has it
 abbrev pub MarkAt : ℕ → Bytes → ℕ → Bool → ℕ → ℕ → Type 0
 MarkAt k s at ok next v = Reads (markC k) s at ok next (λ x. x ≡ v) × (v < 256)
@@ -71,6 +81,10 @@ MarkAt k s at ok next v = Reads (markC k) s at ok next (λ x. x ≡ v) × (v < 2
 -- a caller, as the kind k has it
 abbrev pub CallerAt : ℕ → Bytes → ℕ → Bool → ℕ → ℕ → Type 0
 CallerAt k s at ok next v = Reads (callerC k) s at ok next (λ x. x ≡ v) × (v < 256)
+
+-- read ids, as the kind k has them: how many, and where they start
+abbrev pub ReadsAt : ℕ → Bytes → ℕ → Items → Type 0
+ReadsAt k s at x = Reads (readsC k) s at (x .ok) (x .next) (ListAs s x) × (hasReads k ≡ false → (x .start ≡ at) × (x .next ≡ at))
 
 -- a number of n bytes
 abbrev pub NumAt : ℕ → Bytes → ℕ → Bool → ℕ → ℕ → Type 0
@@ -101,10 +115,11 @@ pub record TermsAs (x : TermsR) (t : Terms) : Type 0 where
   pub labelSmall : x .label < 256
   pub sizeSmall : x .size < 4294967296
 
-pub record BodyAs (v : Bytes) (x : BodyR) (o : Option Held) : Type 0 where
+pub record BodyAs (k : ℕ) (v : Bytes) (x : BodyR) (o : Option Held) : Type 0 where
   pub holder : isSome o ≡ x .holder
   pub ins : length (inputs o) ≡ x .ins
   pub outs : length (outputs o) ≡ x .outs
+  pub readLen : length (reads o) ≡ x .reads
   pub bytes : length (content o) ≡ x .bytes
   pub insAll : whole idC (x .ins) v (x .at) ≡ true
   pub insList : listAt idC (x .ins) v (x .at) ≡ inputs o
@@ -112,22 +127,28 @@ pub record BodyAs (v : Bytes) (x : BodyR) (o : Option Held) : Type 0 where
   pub outsAll : whole idC (x .outs) v (x .to) ≡ true
   pub outsList : listAt idC (x .outs) v (x .to) ≡ outputs o
   pub outsIn : x .to ≤ length v
+  pub readsAll : whole idC (x .reads) v (x .seen) ≡ true
+  pub readsList : listAt idC (x .reads) v (x .seen) ≡ reads o
+  pub readsIn : x .seen ≤ length v
   pub signed : take (x .bytes) (drop (x .content) v) ≡ content o
   pub signedIn : x .content + x .bytes ≤ length v
+  pub tail : hasReads k ≡ false → x .next ≡ x .seen + length (signedEnc o)
   pub insSmall : x .ins < 65536
   pub outsSmall : x .outs < 65536
+  pub readsSmall : x .reads < 65536
   pub bytesSmall : x .bytes < 4294967296
 
 -- x was read from v at `at`, and says of what stands behind the terms
-pub record RestAs (v : Bytes) (at : ℕ) (x : RestR) (t : Option (ℕ × Id) × (ℕ × (ℕ × Option Held))) : Type 0 where
+pub record RestAs (k : ℕ) (v : Bytes) (at : ℕ) (x : RestR) (t : Option (ℕ × Id) × (ℕ × (ℕ × Option Held))) : Type 0 where
   pub placed : isSome (t .0) ≡ x .placed
   pub mined : placeHeight (t .0) ≡ x .mined .0
   pub mark : t .1 .0 ≡ x .mark
   pub finish : t .1 .1 .0 ≡ x .finish .0
-  pub held : BodyAs v (x .held) (t .1 .1 .1)
+  pub held : BodyAs k v (x .held) (t .1 .1 .1)
+  pub heldEnd : x .held .next ≡ x .next
   pub place : drop at v ≡ placeC .enc (t .0) ++ drop (x .marks) v
   pub marks : drop (x .marks) v ≡ beC 1 .enc (t .1 .0) ++ (beC 8 .enc (t .1 .1 .0) ++ drop (x .body) v)
-  pub body : drop (x .body) v ≡ bodyC .enc (t .1 .1 .1) ++ drop (x .next) v
+  pub body : drop (x .body) v ≡ bodyK k .enc (t .1 .1 .1) ++ drop (x .next) v
   pub up : at ≤ x .marks
   pub bodyAt : x .body ≡ x .marks + 9
   pub upBody : x .marks + 10 ≤ x .next
@@ -161,17 +182,18 @@ pub record Bounded (f : Facts) : Type 0 where
   pub finish : f .finish .0 < 18446744073709551616
   pub ins : f .ins < 65536
   pub outs : f .outs < 65536
+  pub reads : f .reads < 65536
   pub bytes : f .bytes < 4294967296
 
--- x was read from v, and says of r: its id, its facts, and where its parts stand, the terms at `from`
-pub record SeenFrom (from : ℕ) (v : Bytes) (x : Seen) (r : Rec) : Type 0 where
+-- x was read from v, and says of r: its id, its facts, and where its parts stand, the terms at `from`, the holder's part under the kind k
+pub record SeenFrom (from k : ℕ) (v : Bytes) (x : Seen) (r : Rec) : Type 0 where
   pub id : x .id ≡ r .id
   pub facts : x .facts ≡ factsOf r
   pub small : Bounded (x .facts)
   pub terms : drop from v ≡ termsC .enc (r .terms) ++ drop (x .after) v
   pub place : drop (x .after) v ≡ placeC .enc (r .place) ++ drop (x .mark) v
   pub marks : drop (x .mark) v ≡ beC 1 .enc (r .mark) ++ (beC 8 .enc (r .finish) ++ drop (x .body) v)
-  pub body : drop (x .body) v ≡ bodyC .enc (r .body) ++ drop (x .size) v
+  pub body : drop (x .body) v ≡ bodyK k .enc (r .body) ++ drop (x .size) v
   pub up : from ≤ x .after
   pub upPlace : x .after ≤ x .mark
   pub bodyAt : x .body ≡ x .mark + 9
@@ -183,15 +205,19 @@ pub record SeenFrom (from : ℕ) (v : Bytes) (x : Seen) (r : Rec) : Type 0 where
   pub outsAll : whole idC (x .facts .outs) v (x .outs) ≡ true
   pub outsList : listAt idC (x .facts .outs) v (x .outs) ≡ outputs (r .body)
   pub outsIn : x .outs ≤ length v
+  pub readsAll : whole idC (x .facts .reads) v (x .reads) ≡ true
+  pub readsList : listAt idC (x .facts .reads) v (x .reads) ≡ reads (r .body)
+  pub readsIn : x .reads ≤ length v
   pub signed : take (x .facts .bytes) (drop (x .content) v) ≡ content (r .body)
   pub signedIn : x .content + x .facts .bytes ≤ length v
+  pub tail : hasReads k ≡ false → x .size ≡ x .reads + length (signedEnc (r .body))
 
 -- under a kind, and in an area
 abbrev pub SeenUnder : ℕ → Bytes → Seen → Rec → Type 0
-SeenUnder k v x r = SeenFrom (termsUnder k) v x r
+SeenUnder k v x r = SeenFrom (termsUnder k) k v x r
 
 abbrev pub SeenAs : Bytes → Seen → Rec → Type 0
-SeenAs v x r = SeenFrom termsAt v x r
+SeenAs v x r = SeenFrom termsAt newest v x r
 
 -- ---- a header
 

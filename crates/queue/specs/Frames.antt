@@ -1,7 +1,7 @@
 -- The frames of document 01's image and of the area as codecs, each under a header kind: a header, a record.
 use mathlib.Core.Path.{_≡_, refl}
 use mathlib.Core.Bool.{Bool, cond, not, _&&_}
-use mathlib.Core.Option.{Option}
+use mathlib.Core.Option.{Option, none, some}
 use mathlib.Core.List.{List, [], _∷_, _++_}
 use Prim.Native.Nat.{ℕ, _+_, _<_}
 use native.Mathlib.Omega.{arith}
@@ -11,7 +11,8 @@ use Rattle.queue.specs.Codec.{Got, fail, got, no-got, if-got, Codec, byt
 use Rattle.queue.specs.Choice.{pickC, sinceC, guardC, thenC}
 use Rattle.queue.specs.Lists.{and-true}
 use Rattle.queue.specs.paper.Records.{Bytes, Id, Limits, Terms, Held, Rec}
-use Rattle.queue.specs.paper.Kinds.{newest, hasMark3, hasCallers, firstShare}
+use Rattle.queue.specs.paper.Lists.{maybe}
+use Rattle.queue.specs.paper.Kinds.{newest, hasMark3, hasCallers, hasReads, firstShare}
 
 -- one byte that says what stands behind it
 module _ (n : ℕ) where
@@ -65,17 +66,40 @@ unfoldable pub termsC : Codec Terms
 termsC = mapC termsOf termsTuple (λ t. refl) (λ t. refl)
     (pairC (beC 8) (pairC (optC (beC 8)) (pairC (optC (beC 4)) (pairC (beC 4) (pairC labelC (pairC (beC 8) (pairC (beC 4) (beC 8))))))))
 
-abbrev pub heldOf : List Id × (List Id × Bytes) → Held
-heldOf t = let (a, (b, c)) = t in record { ins = a; outs = b; bytes = c }
+abbrev pub HeldT : Type 0
+HeldT = List Id × (List Id × (List Id × Bytes))
 
-abbrev pub heldTuple : Held → List Id × (List Id × Bytes)
-heldTuple h = (h .ins, (h .outs, h .bytes))
+abbrev pub heldOf : HeldT → Held
+heldOf t = let (a, (b, (c, d))) = t in record { ins = a; outs = b; reads = c; bytes = d }
 
-unfoldable pub heldC : Codec Held
-heldC = mapC heldOf heldTuple (λ t. refl) (λ t. refl) (pairC (countedC idC 2) (pairC (countedC idC 2) (countedC byteC 4)))
+abbrev pub heldTuple : Held → HeldT
+heldTuple h = (h .ins, (h .outs, (h .reads, h .bytes)))
 
-unfoldable pub bodyC : Codec (Option Held)
-bodyC = optC heldC
+-- a count of 2 bytes, and as many ids
+abbrev pub idsC : Codec (List Id)
+idsC = countedC idC 2
+
+-- the read ids since kind 05, before it none
+abbrev pub readsC : ℕ → Codec (List Id)
+readsC k = sinceC (hasReads k) idsC []
+
+-- inputs, outputs, read ids, signed bytes
+unfoldable pub heldK : ℕ → Codec Held
+heldK k = mapC heldOf heldTuple (λ t. refl) (λ t. refl) (pairC idsC (pairC idsC (pairC (readsC k) (countedC byteC 4))))
+
+unfoldable pub bodyK : ℕ → Codec (Option Held)
+bodyK k = optC (heldK k)
+
+-- what a body has before its read ids, them, and what it has behind them
+abbrev pub leadEnc : Option Held → Bytes
+leadEnc none = 0 ∷ []
+leadEnc (some h) = 1 ∷ (idsC .enc (h .ins) ++ idsC .enc (h .outs))
+
+abbrev pub readsEnc : ℕ → Option Held → Bytes
+readsEnc k o = maybe [] (λ h. readsC k .enc (h .reads)) o
+
+abbrev pub signedEnc : Option Held → Bytes
+signedEnc o = maybe [] (λ h. countedC byteC 4 .enc (h .bytes)) o
 
 unfoldable pub placeC : Codec (Option (ℕ × Id))
 placeC = optC (pairC (beC 4) idC)
@@ -99,7 +123,7 @@ markC k = markSince (hasMark3 k)
 
 -- what stands behind the terms: mined place, withdrawn mark, finish number, holder
 abbrev pub restK : ℕ → Codec (Option (ℕ × Id) × (ℕ × (ℕ × Option Held)))
-restK k = pairC placeC (pairC (markC k) (pairC (beC 8) bodyC))
+restK k = pairC placeC (pairC (markC k) (pairC (beC 8) (bodyK k)))
 
 -- the caller since kind 04, before it 0
 abbrev pub callerC : ℕ → Codec ℕ
@@ -160,6 +184,12 @@ headK k = mapC headOf headTuple (λ t. refl) (λ t. refl)
 -- ---- under the newest kind, which an area has
 abbrev pub restC : Codec (Option (ℕ × Id) × (ℕ × (ℕ × Option Held)))
 restC = restK newest
+
+abbrev pub heldC : Codec Held
+heldC = heldK newest
+
+abbrev pub bodyC : Codec (Option Held)
+bodyC = bodyK newest
 
 abbrev pub recC : Codec Rec
 recC = recK newest

@@ -10,7 +10,7 @@ use lib.Dec.{ltb, leb, eqb}
 use lib.ListN.{length}
 use borrow.Author.Tests.{ltb-false, leb-true, le-leb, eqb-true, ne-eqb, not-true}
 use Rattle.queue.specs.Codec.{cases, All, optC}
-use Rattle.queue.specs.Frames.{idC, placeC, bodyC}
+use Rattle.queue.specs.Frames.{idC, placeC, bodyK, bodyC}
 use Rattle.queue.specs.Lists.{Pairwise, and-true, and-both, all-map, Sub, sub-all}
 use Rattle.queue.specs.ReadLaws.{false-true}
 use Rattle.queue.specs.Order.{same-is, same-self, below-not-same, or-true}
@@ -113,7 +113,7 @@ finish-later c d true n le e = e
 finish-later c d false n le e = let a = and-true (leb 1 n) (leb n c) e in let b = leb-true n c (a .1) in and-both (leb 1 n) (leb n d) (a .0) (le-leb n d (omega arith))
 
 pub right-later : (K c d : ℕ) (r : Rec) → c ≤ d → Right K c r → Right K d r
-right-later K c d r le h = record { held = h .held; reason = h .reason; place = h .place; mark = h .mark; caller = h .caller; finish = finish-later c d (holder? r) (r .finish) le (h .finish); label = h .label; ins = h .ins; outs = h .outs; size = h .size }
+right-later K c d r le h = record { held = h .held; reason = h .reason; place = h .place; mark = h .mark; caller = h .caller; finish = finish-later c d (holder? r) (r .finish) le (h .finish); label = h .label; ins = h .ins; outs = h .outs; reads = h .reads; size = h .size }
 
 -- a tombstone's number is at most the counter
 pub finish-le : (c : ℕ) (h : Bool) (n : ℕ) → finishRight? c h n ≡ true → h ≡ false → n ≤ c
@@ -199,25 +199,26 @@ finished-right state reason g K c d k r t a b h =
       label = h .label;
       ins = omega arith;
       outs = omega arith;
+      reads = omega arith;
       size = refl;
     }
 
 none-ok : bodyC .ok none
-unfolding bodyC optC
+unfolding bodyK optC
 none-ok = tt
 
 pub finished-fields : (state reason k : ℕ) (r : Rec) → state < 256 → reason < 256 → k < 256 ^ 8 → Fields r → Fields (finished state reason k r)
 unfolding finished
 finished-fields state reason k r a b c h = record { id = h .id; caller = h .caller; state = a; reason = b; terms = h .terms; place = h .place; mark = h .mark; finish = c; body = none-ok }
 
--- a record without inputs is apart from any
+-- a record without inputs and read ids is apart from any
 pub finished-apart : (state reason k : ℕ) (a b : Rec) → Apart a (finished state reason k b)
 unfolding finished
-finished-apart state reason k a b i h = refl
+finished-apart state reason k a b = (λ i h. refl, (λ i h. refl, λ i h. refl))
 
 pub apart-finished : (state reason k : ℕ) (a b : Rec) → Apart (finished state reason k a) b
 unfolding finished
-apart-finished state reason k a b i h = false-true h
+apart-finished state reason k a b = (λ i h. false-true h, (λ i h. false-true h, λ i h. false-true h))
 
 module _ (p : Rec → Bool) (state reason : ℕ) (g : Ending state reason) (q : Queue) (f : Fit q) (only : All (λ r. p r ≡ true → pending? (r .state) ≡ true) (q .recs)) where
   abbrev finishing : List Rec
@@ -374,6 +375,7 @@ reopened-right K c r x = record {
   label = x .label;
   ins = x .ins;
   outs = x .outs;
+  reads = x .reads;
   size = x .size;
 }
 

@@ -1,20 +1,21 @@
 -- What is read under an older kind stands under the newest, with the same record; what an older kind can say stands under it.
-use mathlib.Core.Path.{_≡_, refl}
+use mathlib.Core.Path.{_≡_, refl, ap, sym, _∙_}
 use mathlib.Core.Bool.{Bool, true, false, not, _&&_, _||_}
-use mathlib.Core.List.{List, [], _∷_, _++_}
+use mathlib.Core.Option.{Option, none, some}
+use mathlib.Core.List.{List, [], _∷_, _++_, append-assoc}
 use Prim.Native.Nat.{ℕ, _^_, _<_}
 use native.Mathlib.Omega.{arith}
 use lib.Dec.{eqb}
 use borrow.Author.Tests.{eqb-true, eq-eqb}
-use Rattle.queue.specs.Codec.{Codec, All, beC, pairC, mapC, optC, vecC}
+use Rattle.queue.specs.Codec.{Codec, All, beC, pairC, mapC, optC, optEnc, vecC, countedC}
 use Rattle.queue.specs.Choice.{fixC, sinceC, guardC, thenC}
-use Rattle.queue.specs.Frames.{Head, tagC, idC, termsC, Four, fourC, sixteenC, sharesC, limitsK, limitsC, restK, restC, callerC, markSince, markC, recK, headK, recC, headC}
+use Rattle.queue.specs.Frames.{Head, tagC, idC, idsC, termsC, placeC, readsC, heldK, heldC, bodyK, bodyC, leadEnc, readsEnc, signedEnc, Four, fourC, sixteenC, sharesC, limitsK, limitsC, callerC, markSince, markC, recK, headK, recC, headC}
 use Rattle.queue.specs.Lists.{and-true, and-both}
 use Rattle.queue.specs.Order.{same-is, same-self}
-use Rattle.queue.specs.paper.Records.{Bytes, Limits, Rec, Queue}
+use Rattle.queue.specs.paper.Records.{Bytes, Id, Limits, Held, Rec, Queue}
 use Rattle.queue.specs.paper.Ids.{same?}
-use Rattle.queue.specs.paper.Lists.{all?}
-use Rattle.queue.specs.paper.Kinds.{newest, kind?, hasMark3, hasCallers, markSaid?, callerSaid?, sharesSaid?, recSaid?, firstShare, says?}
+use Rattle.queue.specs.paper.Lists.{isEmpty?, all?}
+use Rattle.queue.specs.paper.Kinds.{newest, kind?, hasMark3, hasCallers, hasReads, markSaid?, callerSaid?, readsSaid?, sharesSaid?, recSaid?, firstShare, says?}
 
 -- ---- the withdrawn mark; since: whether the kind has mark 3
 marks-enc : (since : Bool) (m : ℕ) → markSince since .enc m ≡ beC 1 .enc m
@@ -63,32 +64,66 @@ pub caller-up : (k c : ℕ) → callerC k .ok c → beC 1 .ok c
 unfolding beC
 caller-up k c h = since-up (hasCallers k) (beC 1) 0 c (omega arith) h
 
+-- ---- a body
+none-of : {A : Type 0} (l : List A) → isEmpty? l ≡ true → l ≡ []
+none-of [] e = refl
+none-of (a ∷ l) e = let z : _≡_ {A = ℕ} 0 1 = cc in absurd (omega arith)
+
+body-enc : (k : ℕ) (o : Option Held) → bodyK k .enc o ≡ leadEnc o ++ (readsEnc k o ++ signedEnc o)
+unfolding bodyK heldK optC optEnc mapC pairC
+body-enc k none = refl
+body-enc k (some h) = ap (λ (z : Bytes). 1 ∷ z) (sym (append-assoc (idsC .enc (h .ins)) (idsC .enc (h .outs)) (readsC k .enc (h .reads) ++ signedEnc (some h))))
+
+body-up : (k : ℕ) (o : Option Held) → bodyK k .ok o → bodyC .ok o
+unfolding bodyK heldK optC mapC pairC countedC
+body-up k none h = h
+body-up k (some x) h = (h .0, (h .1 .0, (since-up (hasReads k) idsC [] (x .reads) (tt, omega arith) (h .1 .1 .0), h .1 .1 .1)))
+
+or-yes : (has : Bool) → (has || true) ≡ true
+or-yes true = refl
+or-yes false = refl
+
+pub body-said : (k : ℕ) (o : Option Held) → bodyK k .ok o → readsSaid? k o ≡ true
+unfolding bodyK heldK optC mapC pairC
+body-said k none h = or-yes (hasReads k)
+body-said k (some x) h = since-said (hasReads k) idsC [] (x .reads) (isEmpty? (x .reads)) (λ e. rw e refl) (h .1 .1 .0)
+
+body-down : (k : ℕ) (o : Option Held) → readsSaid? k o ≡ true → bodyC .ok o → bodyK k .ok o
+unfolding bodyK heldK optC mapC pairC
+body-down k none s h = h
+body-down k (some x) s h = (h .0, (h .1 .0, (since-down (hasReads k) idsC [] (x .reads) (isEmpty? (x .reads)) (none-of (x .reads)) s (h .1 .1 .0), h .1 .1 .1)))
+
 -- ---- a record
 
--- from its state on it has the same bytes under all kinds
-unfoldable pub recTail : Rec → Bytes
-recTail r = beC 1 .enc (r .state) ++ (beC 1 .enc (r .reason) ++ (termsC .enc (r .terms) ++ restC .enc (r .place, (r .mark, (r .finish, r .body)))))
+-- from its state to its outputs it has the same bytes under all kinds
+unfoldable pub recMid : Rec → Bytes
+recMid r =
+    beC 1 .enc (r .state)
+    ++ (beC 1 .enc (r .reason) ++ (termsC .enc (r .terms) ++ (placeC .enc (r .place) ++ (beC 1 .enc (r .mark) ++ (beC 8 .enc (r .finish) ++ leadEnc (r .body))))))
 
-pub rec-enc : (k : ℕ) (r : Rec) → recK k .enc r ≡ 2 ∷ (idC .enc (r .id) ++ (callerC k .enc (r .caller) ++ recTail r))
-unfolding recK recTail mapC pairC tagC
-rec-enc k r = rw (mark-enc k (r .mark))
+pub rec-enc : (k : ℕ) (r : Rec) → recK k .enc r ≡ 2 ∷ (idC .enc (r .id) ++ (callerC k .enc (r .caller) ++ (recMid r ++ (readsEnc k (r .body) ++ signedEnc (r .body)))))
+unfolding recK recMid mapC pairC tagC
+rec-enc k r = rw (mark-enc k (r .mark), body-enc k (r .body)) (simp append-assoc)
 
 pub rec-up : (k : ℕ) (r : Rec) → recK k .ok r → recC .ok r
 unfolding recK mapC pairC
-rec-up k r h = (h .0, (h .1 .0, (caller-up k (r .caller) (h .1 .1 .0), (h .1 .1 .1 .0, (h .1 .1 .1 .1 .0, (h .1 .1 .1 .1 .1 .0, (h .1 .1 .1 .1 .1 .1 .0, (marks-up (hasMark3 k) (r .mark) (h .1 .1 .1 .1 .1 .1 .1 .0), h .1 .1 .1 .1 .1 .1 .1 .1))))))))
+rec-up k r h = (h .0, (h .1 .0, (caller-up k (r .caller) (h .1 .1 .0), (h .1 .1 .1 .0, (h .1 .1 .1 .1 .0, (h .1 .1 .1 .1 .1 .0, (h .1 .1 .1 .1 .1 .1 .0, (marks-up (hasMark3 k) (r .mark) (h .1 .1 .1 .1 .1 .1 .1 .0), (h .1 .1 .1 .1 .1 .1 .1 .1 .0, body-up k (r .body) (h .1 .1 .1 .1 .1 .1 .1 .1 .1))))))))))
 
 pub rec-said : (k : ℕ) (r : Rec) → recK k .ok r → recSaid? k r ≡ true
 unfolding recK mapC pairC
-rec-said k r h = and-both (markSaid? k (r .mark)) (callerSaid? k (r .caller))
+rec-said k r h = and-both (markSaid? k (r .mark)) (callerSaid? k (r .caller) && readsSaid? k (r .body))
     (marks-said (hasMark3 k) (r .mark) (h .1 .1 .1 .1 .1 .1 .1 .0))
+    (and-both (callerSaid? k (r .caller)) (readsSaid? k (r .body))
     (since-said (hasCallers k) (beC 1) 0 (r .caller) (eqb (r .caller) 0) (λ e. eq-eqb (r .caller) 0 e) (h .1 .1 .0))
+    (body-said k (r .body) (h .1 .1 .1 .1 .1 .1 .1 .1 .1)))
 
 pub rec-down : (k : ℕ) (r : Rec) → recSaid? k r ≡ true → recC .ok r → recK k .ok r
 unfolding recK mapC pairC
 rec-down k r s h =
-    let t = and-true (markSaid? k (r .mark)) (callerSaid? k (r .caller)) s in
-    let c = since-down (hasCallers k) (beC 1) 0 (r .caller) (eqb (r .caller) 0) (λ e. eqb-true (r .caller) 0 e) (t .1) (h .1 .1 .0) in
-    (h .0, (h .1 .0, (c, (h .1 .1 .1 .0, (h .1 .1 .1 .1 .0, (h .1 .1 .1 .1 .1 .0, (h .1 .1 .1 .1 .1 .1 .0, (marks-down (hasMark3 k) (r .mark) (t .0) (h .1 .1 .1 .1 .1 .1 .1 .0), h .1 .1 .1 .1 .1 .1 .1 .1))))))))
+    let t = and-true (markSaid? k (r .mark)) (callerSaid? k (r .caller) && readsSaid? k (r .body)) s in
+    let u = and-true (callerSaid? k (r .caller)) (readsSaid? k (r .body)) (t .1) in
+    let c = since-down (hasCallers k) (beC 1) 0 (r .caller) (eqb (r .caller) 0) (λ e. eqb-true (r .caller) 0 e) (u .0) (h .1 .1 .0) in
+    (h .0, (h .1 .0, (c, (h .1 .1 .1 .0, (h .1 .1 .1 .1 .0, (h .1 .1 .1 .1 .1 .0, (h .1 .1 .1 .1 .1 .1 .0, (marks-down (hasMark3 k) (r .mark) (t .0) (h .1 .1 .1 .1 .1 .1 .1 .0), (h .1 .1 .1 .1 .1 .1 .1 .1 .0, body-down k (r .body) (u .1) (h .1 .1 .1 .1 .1 .1 .1 .1 .1))))))))))
 
 -- ---- records
 pub recs-up : (k : ℕ) (l : List Rec) → All (recK k .ok) l → All (recC .ok) l
@@ -147,13 +182,14 @@ unfolding headK mapC pairC
 head-said k h x = limits-said k (h .limits) (x .1 .0)
 
 pub kind-byte : (k : ℕ) → kind? k ≡ true → k < 256
-kind-byte k e = go (eqb k 1) (eqb k 3) (eqb k 4) (eqb-true k 1) (eqb-true k 3) (eqb-true k 4) e
+kind-byte k e = go (eqb k 1) (eqb k 3) (eqb k 4) (eqb k 5) (eqb-true k 1) (eqb-true k 3) (eqb-true k 4) (eqb-true k 5) e
   where
-    go : (a b c : Bool) → (a ≡ true → k ≡ 1) → (b ≡ true → k ≡ 3) → (c ≡ true → k ≡ 4) → (a || (b || c)) ≡ true → k < 256
-    go true b c f g h t = let z = f refl in omega arith
-    go false true c f g h t = let z = g refl in omega arith
-    go false false true f g h t = let z = h refl in omega arith
-    go false false false f g h t = let z : _≡_ {A = ℕ} 0 1 = cc in absurd (omega arith)
+    go : (a b c d : Bool) → (a ≡ true → k ≡ 1) → (b ≡ true → k ≡ 3) → (c ≡ true → k ≡ 4) → (d ≡ true → k ≡ 5) → (a || (b || (c || d))) ≡ true → k < 256
+    go true b c d f g h i t = let z = f refl in omega arith
+    go false true c d f g h i t = let z = g refl in omega arith
+    go false false true d f g h i t = let z = h refl in omega arith
+    go false false false true f g h i t = let z = i refl in omega arith
+    go false false false false f g h i t = let z : _≡_ {A = ℕ} 0 1 = cc in absurd (omega arith)
 
 -- ---- a queue; h: its header
 pub queue-said : (k : ℕ) (q : Queue) (h : Head) → h .limits ≡ q .limits → headK k .ok h × All (recK k .ok) (q .recs) → says? k q ≡ true

@@ -17,6 +17,7 @@ pub mod Near
 pub mod Rules
 pub mod Filter
 pub mod Suspects
+pub mod Crossing
 pub mod Numbers
 pub mod Sums
 pub mod Opens

@@ -19,7 +19,7 @@ use Rattle.queue.specs.Reconciles.{Diff, diff-sym, rising-diff, reconcil
 use Rattle.queue.specs.paper.Records.{Id, Rec, Queue, queued, conflicted, cancelled, expired}
 use Rattle.queue.specs.paper.Lists.{maybe, isSome, isEmpty?, all?, any?, count, filter, find, map}
 use Rattle.queue.specs.paper.Ids.{below?, same?}
-use Rattle.queue.specs.paper.Sound.{holder?, pending?, mined?, inputs, labelLen, among?, clash?}
+use Rattle.queue.specs.paper.Sound.{holder?, pending?, mined?, wanted, labelLen, among?, clash?, crossed?}
 use Rattle.queue.specs.paper.Changing.{Out, refused, done, top, topHeight, named?, committed, moved, Admission, reached?, newRec, put, pendings, pendingBytes, pendingsOf, shareOf, admitNew, admit, finished, finishThose, forget, finishAll, cancel, due?, expire, Applied, Reconciling, confirmed?, confirm, judge, touchFound, touch, ownOf, touchedRecs, toRelease, placeIn, releaseOne, trimmed, reconcile, reopened, listed?, reopen, setCursor}
 use Rattle.queue.specs.paper.Reading.{first?, selected?, selectedAt}
 
@@ -69,7 +69,7 @@ admit-no-holder i a q e h = cases (reached? (a .due) (a .now))
         (λ w. rw (t, w) tt)
         (λ w. cases (ltb (q .limits .B) (pendingBytes (q .recs) + length (a .held .bytes)))
         (λ u. rw (t, w, u) tt)
-        (λ u. cases (clash? (a .held .ins) (q .recs)) (λ v. rw (t, w, u, v) tt) (λ v. rw (t, w, u, v) (put-no-holder i (newRec a) (q .recs) (new-not-holder i a e) h)))))
+        (λ u. cases (clash? (a .held .ins) (q .recs)) (λ v. rw (t, w, u, v) tt) (λ v. cases (crossed? (a .held .ins) (a .held .reads) (q .recs)) (λ x. rw (t, w, u, v, x) tt) (λ x. rw (t, w, u, v, x) (put-no-holder i (newRec a) (q .recs) (new-not-holder i a e) h))))))
 
     found : (o : Option Rec) → LeavesNoHolder i (maybe (admitNew a q) (λ r. cond (pending? (r .state) || mined? r) (done Nothing q r) (admitNew a q)) o)
     found none = new
@@ -177,7 +177,7 @@ touch-not-holder i c own r h = go (find (λ a. same? (r .id) (a .id)) (c .applie
     go : (o : Option Applied) → NotHolder i (maybe r (λ x. x) (touchFound (c .caughtUp) own r o))
     go (some a) = cases (mined? r && confirmed? a (r .place)) (λ t. rw t h) (λ t. rw t h)
     go none = cases (c .caughtUp && pending? (r .state))
-        (λ t. cases (all? (λ j. among? j own) (inputs (r .body))) (λ u. rw (t, u) (judge-not-holder i queued 0 r h)) (λ u. rw (t, u) (judge-not-holder i conflicted 5 r h)))
+        (λ t. cases (all? (λ j. among? j own) (wanted (r .body))) (λ u. rw (t, u) (judge-not-holder i queued 0 r h)) (λ u. rw (t, u) (judge-not-holder i conflicted 5 r h)))
         (λ t. rw t h)
 
 touched-no-holder : (i : Id) (c : Reconciling) (q : Queue) → NoHolder i (q .recs) → NoHolder i (touchedRecs c q)

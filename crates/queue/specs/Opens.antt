@@ -17,7 +17,7 @@ use Rattle.queue.specs.paper.Ids.{rise?}
 use Rattle.queue.specs.paper.Records.{Bytes, Limits, Rec, Queue}
 use Rattle.queue.specs.paper.Lists.{all?, map}
 use Rattle.queue.specs.paper.Calls.{limitsOf}
-use Rattle.queue.specs.paper.Sound.{limitsRight?, need, right?, counts?, distinct?, apart?, sound?}
+use Rattle.queue.specs.paper.Sound.{limitsRight?, need, right?, counts?, distinct?, apart?, readApart?, sound?}
 use Rattle.queue.specs.declared.frame.Form.{Form}
 use Rattle.queue.specs.declared.area.Open.{Open}
 use Rattle.queue.specs.declared.area.Area.{Area}
@@ -25,7 +25,7 @@ use Rattle.queue.specs.declared.scan.Span.{Span}
 
 -- what the highest limits need
 abbrev pub needMost : ℕ
-needMost = 51905024
+needMost = 60293632
 
 -- limits alone, where the shares have no part
 abbrev pub limits : ℕ → ℕ → ℕ → ℕ → Limits
@@ -47,7 +47,7 @@ pub record StoreAs (form : Form) (s : Bytes) (base : ℕ) (x : Open) (st : Store
 -- the rules of a sound queue on its limits, counter and records
 unfoldable pub soundL : Limits → ℕ → List Rec → Bool
 soundL m counter l =
-    limitsRight? m && (counts? m l && (all? (right? (m .K) counter) l && (rise? (map (λ r. r .id) l) && (distinct? l && apart? l))))
+    limitsRight? m && (counts? m l && (all? (right? (m .K) counter) l && (rise? (map (λ r. r .id) l) && (distinct? l && (apart? l && readApart? l)))))
 
 pub sound-list : (q : Queue) → sound? q ≡ soundL (q .limits) (q .counter) (q .recs)
 unfolding sound? soundL

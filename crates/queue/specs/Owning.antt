@@ -1,4 +1,4 @@
--- Which inputs are owned, as the code goes: a flag for each input of all records, and rows of outputs.
+-- Which wanted ids are owned, as the code goes: a flag for each of them, of all records, and rows of outputs.
 use mathlib.Core.Path.{_≡_}
 use mathlib.Core.Bool.{Bool, true, false, cond, _||_}
 use mathlib.Core.List.{List, [], _∷_, _++_}
@@ -6,14 +6,25 @@ use Prim.Native.Nat.{ℕ, _+_, _≤_}
 use lib.Dec.{eqb}
 use lib.ListN.{length, take, drop, getD, set}
 use Rattle.queue.specs.Suspects.{later, Shuffled}
-use Rattle.queue.specs.paper.Records.{Bytes, Id}
-use Rattle.queue.specs.paper.Lists.{one, any?, all?, map}
-use Rattle.queue.specs.paper.Sound.{among?}
+use Rattle.queue.specs.Frames.{idC}
+use Rattle.queue.specs.Reads.{listAt}
+use Rattle.queue.specs.declared.frame.Seen.{Seen}
+use Rattle.queue.specs.paper.Records.{Bytes, Id, Rec}
+use Rattle.queue.specs.paper.Lists.{one, any?, all?, map, concat}
+use Rattle.queue.specs.paper.Sound.{wanted, among?}
+
+-- the ids that all records want
+unfoldable pub wantedOf : List Rec → List Id
+wantedOf l = concat (map (λ r. wanted (r .body)) l)
+
+-- those that the record read from v wants
+abbrev pub wantedAt : Bytes → Seen → List Id
+wantedAt v x = listAt idC (x .facts .ins) v (x .at) ++ listAt idC (x .facts .reads) v (x .reads)
 
 abbrev pub set? : ℕ → Bool
 set? b = eqb b 1
 
--- is an input with the flag b owned? At first, if it is available; then, if its flag is set or it is a row's
+-- is an id with the flag b owned? At first, if it is available; then, if its flag is set or it is a row's
 unfoldable pub ownF : Bool → List Id → Bytes → List ℕ → ℕ → Id → Bool
 ownF first ids s v b z = cond first (among? z ids) (eqb b 1 || any? (later false s z 0) v)
 

@@ -7,14 +7,14 @@ use Prim.Native.Nat.{ℕ}
 use lib.ListN.{length}
 use Rattle.queue.specs.Codec.{Codec, be, byteC, beC, pairC, mapC, optC, optEnc, vecC, countedC, encs}
 use Rattle.queue.specs.Choice.{fixC, sinceC, thenC}
-use Rattle.queue.specs.Frames.{tagC, idC, labelC, termsC, heldC, bodyC, placeC, callerC, recK, recC, fourC, sixteenC, sharesC, limitsK, limitsC, headK}
+use Rattle.queue.specs.Frames.{tagC, idC, labelC, termsC, idsC, heldK, bodyK, placeC, callerC, readsC, recK, recC, fourC, sixteenC, sharesC, limitsK, limitsC, headK}
 use Rattle.queue.specs.Forms.{headFor, storeOf, formC, lineEnc, recIn, textForm, queueC, queue-enc, image-enc}
 use Rattle.queue.specs.Kinds.{mark-enc}
 use Rattle.queue.specs.Areas.{layout, image}
 use Rattle.queue.specs.paper.Records.{Bytes, Id, Limits, Terms, Held, Rec, Queue}
 use Rattle.queue.specs.paper.Lists.{map, concat}
-use Rattle.queue.specs.paper.Area.{flagged, since, termsBytes, placeBytes, heldBytes, recUnder, recBytes, sharesBytes, headUnder, queueBytes, areaBytes, line, imageUnder}
-use Rattle.queue.specs.paper.Kinds.{newest, hasCallers, firstShare}
+use Rattle.queue.specs.paper.Area.{flagged, since, idListBytes, termsBytes, placeBytes, heldUnder, recUnder, recBytes, sharesBytes, headUnder, queueBytes, areaBytes, line, imageUnder}
+use Rattle.queue.specs.paper.Kinds.{newest, hasCallers, hasReads, firstShare}
 
 pub bytes-plain : (s : Bytes) → encs byteC s ≡ s
 unfolding encs byteC
@@ -60,18 +60,29 @@ pub place-plain : (o : Option (ℕ × Id)) → placeC .enc o ≡ placeBytes o
 unfolding placeC placeBytes pairC beC
 place-plain o = opt-plain (pairC (beC 4) idC) (λ p. be 4 (p .0) ++ p .1) (λ p. rw (id-plain (p .1))) o
 
-pub held-plain : (h : Held) → heldC .enc h ≡ heldBytes h
-unfolding heldC heldBytes mapC pairC countedC
-held-plain h = rw (ids-plain (h .ins), ids-plain (h .outs), bytes-plain (h .bytes))
+id-list-plain : (l : List Id) → idsC .enc l ≡ idListBytes l
+unfolding countedC
+id-list-plain l = rw (ids-plain l)
 
-pub body-plain : (o : Option Held) → bodyC .enc o ≡ flagged heldBytes o
-unfolding bodyC
-body-plain o = opt-plain heldC heldBytes held-plain o
+signed-plain : (s : Bytes) → countedC byteC 4 .enc s ≡ be 4 (length s) ++ s
+unfolding countedC
+signed-plain s = rw (bytes-plain s)
 
 since-plain : {A : Type 0} (has : Bool) (𝓐 : Codec A) (x a : A) → sinceC has 𝓐 x .enc a ≡ since has (𝓐 .enc a)
 unfolding fixC
 since-plain true 𝓐 x a = refl
 since-plain false 𝓐 x a = refl
+
+reads-plain : (k : ℕ) (l : List Id) → readsC k .enc l ≡ since (hasReads k) (idListBytes l)
+reads-plain k l = since-plain (hasReads k) idsC [] l ∙ rw (id-list-plain l)
+
+pub held-plain : (k : ℕ) (h : Held) → heldK k .enc h ≡ heldUnder k h
+unfolding heldK heldUnder mapC pairC
+held-plain k h = rw (id-list-plain (h .ins), id-list-plain (h .outs), reads-plain k (h .reads), signed-plain (h .bytes))
+
+pub body-plain : (k : ℕ) (o : Option Held) → bodyK k .enc o ≡ flagged (heldUnder k) o
+unfolding bodyK
+body-plain k o = opt-plain (heldK k) (heldUnder k) (held-plain k) o
 
 pub caller-plain : (k c : ℕ) → callerC k .enc c ≡ since (hasCallers k) (be 1 c)
 unfolding beC
@@ -79,7 +90,7 @@ caller-plain k c = since-plain (hasCallers k) (beC 1) 0 c
 
 pub rec-under : (k : ℕ) (r : Rec) → recK k .enc r ≡ recUnder k r
 unfolding recK recUnder mapC pairC tagC beC
-rec-under k r = rw (id-plain (r .id), caller-plain k (r .caller), terms-plain (r .terms), place-plain (r .place), mark-enc k (r .mark), body-plain (r .body))
+rec-under k r = rw (id-plain (r .id), caller-plain k (r .caller), terms-plain (r .terms), place-plain (r .place), mark-enc k (r .mark), body-plain k (r .body))
 
 pub rec-plain : (r : Rec) → recC .enc r ≡ recBytes r
 rec-plain r = rec-under newest r

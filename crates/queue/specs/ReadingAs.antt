@@ -71,10 +71,12 @@ partIn s p = take (p .1) (drop (p .0) s)
 -- the entry of a record that was read at base
 unfoldable pub entryAt : Bytes → ℕ → Seen → Bytes
 entryAt s base x =
-    take (x .mark - 1) (drop (base + 1) s) ++ (be 2 (x .facts .ins) ++ take (x .facts .ins * 32) (drop (base + x .at) s))
+    take (x .mark - 1) (drop (base + 1) s)
+    ++ (be 2 (x .facts .ins)
+    ++ (take (x .facts .ins * 32) (drop (base + x .at) s) ++ (be 2 (x .facts .reads) ++ take (x .facts .reads * 32) (drop (base + x .reads) s))))
 
 abbrev pub entryLen : Seen → ℕ
-entryLen x = x .mark - 1 + (2 + x .facts .ins * 32)
+entryLen x = x .mark - 1 + (4 + (x .facts .ins * 32 + x .facts .reads * 32))
 
 -- what the entry is made of stands in s
 pub record EntryIn (s : Bytes) (base : ℕ) (x : Seen) : Type 0 where
@@ -82,4 +84,6 @@ pub record EntryIn (s : Bytes) (base : ℕ) (x : Seen) : Type 0 where
   pub most : x .mark ≤ 400
   pub within : base + x .mark ≤ length s
   pub ins : base + x .at + x .facts .ins * 32 ≤ length s
+  pub reads : base + x .reads + x .facts .reads * 32 ≤ length s
   pub few : x .facts .ins < 65536
+  pub fewReads : x .facts .reads < 65536

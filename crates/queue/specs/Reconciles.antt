@@ -21,7 +21,7 @@ use Rattle.queue.specs.declared.Kind.the-variants.{Nothing, Memory, Whol
 use Rattle.queue.specs.paper.Records.{Id, Limits, Held, Rec, Queue, queued, mined, conflicted, cancelled, expired}
 use Rattle.queue.specs.paper.Lists.{isSome, one, all?, any?, total, filter, find, sort, map, maybe, isEmpty?}
 use Rattle.queue.specs.paper.Ids.{same?}
-use Rattle.queue.specs.paper.Sound.{holder?, pending?, mined?, inputs, content, among?, holders, holderBytes, tombstones, heldRight?, reasonRight?, placeRight?, markRight?}
+use Rattle.queue.specs.paper.Sound.{holder?, pending?, mined?, wanted, content, among?, holders, holderBytes, tombstones, heldRight?, reasonRight?, placeRight?, markRight?}
 use Rattle.queue.specs.paper.Changing.{withdrawnMark, Out, refused, done, top, topHeight, moved, finished, Applied, Reconciling, confirmed?, confirm, judge, touchFound, touch, minedHeight, newer?, releases, onePast, placeIn, releaseOne, trimmed, reconcile, remade, ownOf, touchedRecs, toRelease, committed}
 
 abbrev pub AppliedOk : Applied → Type 0
@@ -65,7 +65,7 @@ module _ (P : Rec → Type 0) (c : Reconciling) (own : List Id) (ok : All Applie
       go (some a) e = let k = find-all (λ a. same? (r .id) (a .id)) AppliedOk (c .applied) a e ok in
           cases (mined? r && confirmed? a (r .place)) (λ t. rw t same) (λ t. rw t (confirms a (k .0)))
       go none e = cases (c .caughtUp && pending? (r .state))
-          (λ t. rw t (judge-cases (all? (λ i. among? i own) (inputs (r .body))) (and-true (c .caughtUp) (pending? (r .state)) t .1)))
+          (λ t. rw t (judge-cases (all? (λ i. among? i own) (wanted (r .body))) (and-true (c .caughtUp) (pending? (r .state)) t .1)))
           (λ t. rw t same)
 
 withdrawn-tomb : (s : ℕ) (h : Bool) → heldRight? s h ≡ true → (eqb s cancelled || eqb s expired) ≡ true → h ≡ false
@@ -96,7 +96,7 @@ confirm-mark s n h m a b = cases (eqb s expired && eqb n 3)
 
 confirm-right : (K c : ℕ) (a : Applied) (r : Rec) → Right K c r → Right K c (confirm a r)
 unfolding confirm
-confirm-right K c a r h = record { held = refl; reason = refl; place = refl; mark = confirm-mark (r .state) (r .reason) (holder? r) (r .mark) (h .held) (h .mark); caller = h .caller; finish = h .finish; label = h .label; ins = h .ins; outs = h .outs; size = h .size }
+confirm-right K c a r h = record { held = refl; reason = refl; place = refl; mark = confirm-mark (r .state) (r .reason) (holder? r) (r .mark) (h .held) (h .mark); caller = h .caller; finish = h .finish; label = h .label; ins = h .ins; outs = h .outs; reads = h .reads; size = h .size }
 
 held-now : (s : ℕ) (h : Bool) → h ≡ true → pending? s ≡ true → heldRight? s h ≡ true
 held-now s h e p = rw (e, p)
@@ -116,6 +116,7 @@ judged-right state reason p w K c r t h =
       label = h .label;
       ins = h .ins;
       outs = h .outs;
+      reads = h .reads;
       size = h .size;
     }
 
@@ -269,6 +270,7 @@ released-right K c d k r t a b h = record {
   label = h .label;
   ins = omega arith;
   outs = omega arith;
+  reads = omega arith;
   size = refl;
 }
 

@@ -19,7 +19,7 @@ unfoldable pub rightF : ℕ → ℕ → Facts → Bool
 rightF k c f =
     ((heldRight? (f .state) (f .holder) && reasonRight? (f .state) (f .reason))
     && (placeRight? (f .state) (f .placed) && markRight? (f .state) (f .holder) (f .mark)))
-    && ((callerRight? (f .caller) && finishRight? c (f .holder) (f .finish .0)) && sizesRight? k (f .label) (f .ins) (f .outs) (f .holder) (f .size) (f .bytes))
+    && ((callerRight? (f .caller) && finishRight? c (f .holder) (f .finish .0)) && sizesRight? k (f .label) (f .ins) (f .outs) (f .reads) (f .holder) (f .size) (f .bytes))
 
 unfoldable pub dueF : ℕ → ℕ → Facts → Bool
 dueF now height f = pending? (f .state) && ((f .timed && leb (f .due .0) now) || (f .heighted && leb (f .dueheight .0) height))

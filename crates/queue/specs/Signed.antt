@@ -15,7 +15,7 @@ use Rattle.queue.specs.ReadingAs.{partIn}
 use Rattle.queue.specs.paper.Records.{Bytes, Id, Held, Rec, Queue}
 use Rattle.queue.specs.paper.Lists.{find, map, concat}
 use Rattle.queue.specs.paper.Sound.{need}
-use Rattle.queue.specs.paper.Area.{flagged, termsBytes, placeBytes, heldBytes, recUnder, recBytes, headBytes, queueBytes, areaBytes}
+use Rattle.queue.specs.paper.Area.{flagged, termsBytes, placeBytes, heldUnder, heldBytes, idListBytes, recUnder, recBytes, headBytes, queueBytes, areaBytes}
 use Rattle.queue.specs.paper.Changing.{named?}
 use Rattle.queue.specs.paper.Calls.{endOf, signedPart}
 
@@ -28,9 +28,8 @@ behind : {x b : Bytes} (a : Bytes) → Ends x b → Ends (a ++ x) b
 behind {x} {b} a e = record { lead = a ++ e .lead; is = ap (λ (y : Bytes). a ++ y) (e .is) ∙ sym (append-assoc a (e .lead) b) }
 
 held-ends : (h : Held) → Ends (heldBytes h) (h .bytes)
-unfolding heldBytes
-held-ends h =
-    behind (be 2 (length (h .ins))) (behind (concat (h .ins)) (behind (be 2 (length (h .outs))) (behind (concat (h .outs)) (behind (be 4 (length (h .bytes))) (record { lead = []; is = refl })))))
+unfolding heldUnder
+held-ends h = behind (idListBytes (h .ins)) (behind (idListBytes (h .outs)) (behind (idListBytes (h .reads)) (behind (be 4 (length (h .bytes))) (record { lead = []; is = refl }))))
 
 body-ends : (o : Option Held) (h : Held) → o ≡ some h → Ends (flagged heldBytes o) (h .bytes)
 body-ends none h e = let z : _≡_ {A = ℕ} 0 1 = cc in absurd (omega arith)

@@ -15,9 +15,9 @@ use Rattle.queue.specs.Frames.{tagC, idC, termsC, placeC, bodyC, recK, r
 use Rattle.queue.specs.Forms.{areaForm, storeOf, queueC, store-ok, ok-store, queue-ok, ok-queue}
 use Rattle.queue.specs.Order.{same-is, same-self, below-trans, or-false, or-true}
 use Rattle.queue.specs.paper.Records.{Id, Limits, Rec, Queue}
-use Rattle.queue.specs.paper.Lists.{isSome, one, all?, count, map}
+use Rattle.queue.specs.paper.Lists.{isSome, one, all?, any?, count, map}
 use Rattle.queue.specs.paper.Ids.{below?, same?, rise?}
-use Rattle.queue.specs.paper.Sound.{inRange, sharesRight?, limitsRight?, holder?, inputs, outputs, content, labelLen, holders, holderBytes, minedHolders, minedBytes, tombstones, heldRight?, among?, used?, clash?, apart?, reasonRight?, placeRight?, markRight?, finishRight?, stamped?, distinct?, right?, counts?, sound?}
+use Rattle.queue.specs.paper.Sound.{inRange, sharesRight?, limitsRight?, holder?, inputs, outputs, reads, content, labelLen, holders, holderBytes, minedHolders, minedBytes, tombstones, heldRight?, among?, used?, clash?, apart?, read?, crossed?, readApart?, reasonRight?, placeRight?, markRight?, finishRight?, stamped?, distinct?, right?, counts?, sound?}
 
 -- the rules of one record
 pub record Right (K counter : ℕ) (r : Rec) : Type 0 where
@@ -30,6 +30,7 @@ pub record Right (K counter : ℕ) (r : Rec) : Type 0 where
   pub label : labelLen (r .terms .label) ≤ 200
   pub ins : length (inputs (r .body)) ≤ K
   pub outs : length (outputs (r .body)) ≤ K
+  pub reads : length (reads (r .body)) ≤ K
   pub size : (not (holder? r) || eqb (r .terms .size) (length (content (r .body)))) ≡ true
 
 pub right-of : (K c : ℕ) (r : Rec) → right? K c r ≡ true → Right K c r
@@ -44,6 +45,7 @@ right-of K c r e =
     let f = and-true _ _ (d .1) in
     let g = and-true _ _ (f .0) in
     let h = and-true _ _ (g .1) in
+    let i = and-true _ _ (h .1) in
     record {
       held = b0 .0;
       reason = b0 .1;
@@ -53,7 +55,8 @@ right-of K c r e =
       finish = d0 .1;
       label = leb-true _ _ (g .0);
       ins = leb-true _ _ (h .0);
-      outs = leb-true _ _ (h .1);
+      outs = leb-true _ _ (i .0);
+      reads = leb-true _ _ (i .1);
       size = f .1;
     }
 
@@ -62,7 +65,7 @@ unfolding right?
 of-right K c r h =
     and-both _ _
     (and-both _ _ (and-both _ _ (h .held) (h .reason)) (and-both _ _ (h .place) (h .mark)))
-    (and-both _ _ (and-both _ _ (le-leb _ _ (h .caller)) (h .finish)) (and-both _ _ (and-both _ _ (le-leb _ _ (h .label)) (and-both _ _ (le-leb _ _ (h .ins)) (le-leb _ _ (h .outs)))) (h .size)))
+    (and-both _ _ (and-both _ _ (le-leb _ _ (h .caller)) (h .finish)) (and-both _ _ (and-both _ _ (le-leb _ _ (h .label)) (and-both _ _ (le-leb _ _ (h .ins)) (and-both _ _ (le-leb _ _ (h .outs)) (le-leb _ _ (h .reads))))) (h .size)))
 
 -- limits in range, and shares
 pub record InRange (m : Limits) : Type 0 where
@@ -174,41 +177,20 @@ of-distinct (r ∷ l) h = cases (holder? r)
     (λ t. rw t (of-distinct l (h .1)))
     (λ t. let c = none-count (stamped? (r .finish)) l (all-map l (λ s k. apart-stamp (r .finish) s (k t)) (h .0)) in rw (t, eq-eqb _ 0 c) (of-distinct l (h .1)))
 
--- "no input id is in two records"
+-- no id is in both lists
+abbrev pub Free : List Id → List Id → Type 0
+Free a b = (i : Id) → among? i a ≡ true → among? i b ≡ false
+
+pub free-sym : (a b : List Id) → Free a b → Free b a
+free-sym a b h i e = cases (among? i a) (λ t. false-true (sym (h i t) ∙ e)) (λ t. t)
+
+-- "no input id is in two records", and no "spent and read ids of two records" meet
 abbrev pub Apart : Rec → Rec → Type 0
-Apart r s = (i : Id) → among? i (inputs (r .body)) ≡ true → among? i (inputs (s .body)) ≡ false
+Apart r s = Free (inputs (r .body)) (inputs (s .body)) × (Free (inputs (r .body)) (reads (s .body)) × Free (reads (r .body)) (inputs (s .body)))
 
 pub apart-sym : (r s : Rec) → Apart r s → Apart s r
-apart-sym r s h i a = cases (among? i (inputs (r .body))) (λ t. false-true (sym (h i t) ∙ a)) (λ t. t)
-
-unused-of : (i : Id) (l : List Rec) → used? i l ≡ false → All (λ s. among? i (inputs (s .body)) ≡ false) l
-unfolding used?
-unused-of i [] e = tt
-unused-of i (s ∷ l) e = let h = or-false _ (used? i l) e in (h .0, unused-of i l (h .1))
-
-of-unused : (i : Id) (l : List Rec) → All (λ s. among? i (inputs (s .body)) ≡ false) l → used? i l ≡ false
-unfolding used?
-of-unused i [] h = refl
-of-unused i (s ∷ l) h = rw (h .0) (of-unused i l (h .1))
-
--- no id of the list is an input of a record
-pub free-of : (ids : List Id) (l : List Rec) → clash? ids l ≡ false → (i : Id) → among? i ids ≡ true → All (λ s. among? i (inputs (s .body)) ≡ false) l
-unfolding clash?
-free-of [] l e i a = false-true a
-free-of (x ∷ ids) l e i a =
-    let h = or-false (used? x l) (clash? ids l) e in
-    or-true (same? i x) (among? i ids) a
-    (λ t. rw (same-is i x t) (unused-of x l (h .0)))
-    (λ _ t. free-of ids l (h .1) i t)
-
-pub of-free : (ids : List Id) (l : List Rec) → ((i : Id) → among? i ids ≡ true → All (λ s. among? i (inputs (s .body)) ≡ false) l) → clash? ids l ≡ false
-unfolding clash?
-of-free [] l h = refl
-of-free (x ∷ ids) l h = rw (of-unused x l (h x (rw (same-self x)))) (of-free ids l (λ i a. h i (later i (same? i x) a)))
-  where
-    later : (i : Id) (b : Bool) → among? i ids ≡ true → (b || among? i ids) ≡ true
-    later i true a = refl
-    later i false a = a
+apart-sym r s h =
+    (free-sym (inputs (r .body)) (inputs (s .body)) (h .0), (free-sym (reads (r .body)) (inputs (s .body)) (h .1 .1), free-sym (inputs (r .body)) (reads (s .body)) (h .1 .0)))
 
 pub each-in : {A B : Type 0} (P : A → Type 0) (Q : A → B → Type 0) (l : List B) → ((a : A) → P a → All (Q a) l) → All (λ b. (a : A) → P a → Q a b) l
 each-in P Q [] f = tt
@@ -218,19 +200,73 @@ pub each-out : {A B : Type 0} (P : A → Type 0) (Q : A → B → Type 0) (l : L
 each-out P Q [] h a p = tt
 each-out P Q (b ∷ l) h a p = (h .0 a p, each-out P Q l (h .1) a p)
 
-pub apart-of : (l : List Rec) → apart? l ≡ true → Pairwise Apart l
-unfolding apart?
-apart-of [] e = tt
-apart-of (r ∷ l) e =
-    let h = and-true _ (apart? l) e in
-    (each-in (λ i. among? i (inputs (r .body)) ≡ true) (λ i s. among? i (inputs (s .body)) ≡ false) l (free-of (inputs (r .body)) l (not-true _ (h .0))), apart-of l (h .1))
+-- no id of a list is among those that f says of a record
+module _ (f : Rec → List Id) where
+  unmet-of : (i : Id) (l : List Rec) → any? (λ s. among? i (f s)) l ≡ false → All (λ s. among? i (f s) ≡ false) l
+  unmet-of i [] e = tt
+  unmet-of i (s ∷ l) e = let h = or-false (among? i (f s)) _ e in (h .0, unmet-of i l (h .1))
 
-pub of-apart : (l : List Rec) → Pairwise Apart l → apart? l ≡ true
-unfolding apart?
-of-apart [] h = refl
+  of-unmet : (i : Id) (l : List Rec) → All (λ s. among? i (f s) ≡ false) l → any? (λ s. among? i (f s)) l ≡ false
+  of-unmet i [] h = refl
+  of-unmet i (s ∷ l) h = rw (h .0) (of-unmet i l (h .1))
+
+  clear-of : (ids : List Id) (l : List Rec) → any? (λ i. any? (λ s. among? i (f s)) l) ids ≡ false → (i : Id) → among? i ids ≡ true → All (λ s. among? i (f s) ≡ false) l
+  clear-of [] l e i a = false-true a
+  clear-of (x ∷ ids) l e i a =
+      let h = or-false (any? (λ s. among? x (f s)) l) _ e in
+      or-true (same? i x) (among? i ids) a
+      (λ t. rw (same-is i x t) (unmet-of x l (h .0)))
+      (λ _ t. clear-of ids l (h .1) i t)
+
+  of-clear : (ids : List Id) (l : List Rec) → ((i : Id) → among? i ids ≡ true → All (λ s. among? i (f s) ≡ false) l) → any? (λ i. any? (λ s. among? i (f s)) l) ids ≡ false
+  of-clear [] l h = refl
+  of-clear (x ∷ ids) l h = rw (of-unmet x l (h x (rw (same-self x)))) (of-clear ids l (λ i a. h i (later i (same? i x) a)))
+    where
+      later : (i : Id) (b : Bool) → among? i ids ≡ true → (b || among? i ids) ≡ true
+      later i true a = refl
+      later i false a = a
+
+  all-free : (ids : List Id) (l : List Rec) → any? (λ i. any? (λ s. among? i (f s)) l) ids ≡ false → All (λ s. Free ids (f s)) l
+  all-free ids l e = each-in (λ i. among? i ids ≡ true) (λ i s. among? i (f s) ≡ false) l (clear-of ids l e)
+
+  free-all : (ids : List Id) (l : List Rec) → All (λ s. Free ids (f s)) l → any? (λ i. any? (λ s. among? i (f s)) l) ids ≡ false
+  free-all ids l h = of-clear ids l (each-out (λ i. among? i ids ≡ true) (λ i s. among? i (f s) ≡ false) l h)
+
+all-three : (P Q R : Rec → Type 0) (l : List Rec) → All P l → All Q l → All R l → All (λ s. P s × (Q s × R s)) l
+all-three P Q R [] p q r = tt
+all-three P Q R (s ∷ l) p q r = ((p .0, (q .0, r .0)), all-three P Q R l (p .1) (q .1) (r .1))
+
+-- inputs and read ids that nobody of l spends or reads as 12 and 20 forbid
+pub apart-from : (ins rds : List Id) (l : List Rec) → clash? ins l ≡ false → crossed? ins rds l ≡ false
+    → All (λ s. Free ins (inputs (s .body)) × (Free ins (reads (s .body)) × Free rds (inputs (s .body)))) l
+unfolding clash? used? crossed? read?
+apart-from ins rds l e f =
+    let h = or-false (any? (λ i. any? (λ s. among? i (reads (s .body))) l) ins) _ f in
+    all-three (λ s. Free ins (inputs (s .body))) (λ s. Free ins (reads (s .body))) (λ s. Free rds (inputs (s .body))) l (all-free (λ s. inputs (s .body)) ins l e) (all-free (λ s. reads (s .body)) ins l (h .0)) (all-free (λ s. inputs (s .body)) rds l (h .1))
+
+from-apart : (ins rds : List Id) (l : List Rec) → All (λ s. Free ins (inputs (s .body)) × (Free ins (reads (s .body)) × Free rds (inputs (s .body)))) l
+    → (clash? ins l ≡ false) × (crossed? ins rds l ≡ false)
+unfolding clash? used? crossed? read?
+from-apart ins rds l h = (
+  free-all (λ s. inputs (s .body)) ins l (all-map l (λ s k. k .0) h),
+  rw (free-all (λ s. reads (s .body)) ins l (all-map l (λ s k. k .1 .0) h)) (free-all (λ s. inputs (s .body)) rds l (all-map l (λ s k. k .1 .1) h)),
+)
+
+pub apart-of : (l : List Rec) → apart? l ≡ true → readApart? l ≡ true → Pairwise Apart l
+unfolding apart? readApart?
+apart-of [] e f = tt
+apart-of (r ∷ l) e f =
+    let h = and-true _ (apart? l) e in
+    let k = and-true _ (readApart? l) f in
+    (apart-from (inputs (r .body)) (reads (r .body)) l (not-true _ (h .0)) (not-true _ (k .0)), apart-of l (h .1) (k .1))
+
+pub of-apart : (l : List Rec) → Pairwise Apart l → (apart? l ≡ true) × (readApart? l ≡ true)
+unfolding apart? readApart?
+of-apart [] h = (refl, refl)
 of-apart (r ∷ l) h =
-    let z = of-free (inputs (r .body)) l (each-out (λ i. among? i (inputs (r .body)) ≡ true) (λ i s. among? i (inputs (s .body)) ≡ false) l (h .0)) in
-    rw z (of-apart l (h .1))
+    let z = from-apart (inputs (r .body)) (reads (r .body)) l (h .0) in
+    let i = of-apart l (h .1) in
+    (rw (z .0) (i .0), rw (z .1) (i .1))
 
 -- "A queue is sound when": it depends on the limits, the counter and the records
 pub record Sound (m : Limits) (counter : ℕ) (l : List Rec) : Type 0 where
@@ -259,6 +295,7 @@ sound-of q e =
     let g = and-true (all? (right? (q .limits .K) (q .counter)) (q .recs)) _ (b .1) in
     let h = and-true (rise? (map (λ r. r .id) (q .recs))) _ (g .1) in
     let i = and-true (distinct? (q .recs)) _ (h .1) in
+    let j = and-true (apart? (q .recs)) _ (i .1) in
     record {
       range = range-of (q .limits) (a .0);
       few = leb-true _ _ (c0 .0);
@@ -270,18 +307,19 @@ sound-of q e =
       right = all-map (q .recs) (λ r. right-of (q .limits .K) (q .counter) r) (all-of (right? (q .limits .K) (q .counter)) (q .recs) (g .0));
       rising = rising-of (q .recs) (h .0);
       distinct = distinct-of (q .recs) (i .0);
-      apart = apart-of (q .recs) (i .1);
+      apart = apart-of (q .recs) (j .0) (j .1);
     }
 
 pub of-sound : (q : Queue) → Sound (q .limits) (q .counter) (q .recs) → sound? q ≡ true
 unfolding sound? counts?
 of-sound q s =
+    let z = of-apart (q .recs) (s .apart) in
     and-both _ _ (of-range (q .limits) (s .range))
     (and-both _ _
     (and-both _ _ (and-both _ _ (le-leb _ _ (s .few)) (and-both _ _ (le-leb _ _ (s .fewHolders)) (le-leb _ _ (s .fewBytes))))
     (and-both _ _ (and-both _ _ (le-leb _ _ (s .fewMined)) (le-leb _ _ (s .fewMinedBytes))) (le-leb _ _ (s .fewTombs))))
     (and-both _ _ (of-all (right? (q .limits .K) (q .counter)) (q .recs) (all-map (q .recs) (λ r. of-right (q .limits .K) (q .counter) r) (s .right)))
-    (and-both _ _ (of-rising (q .recs) (s .rising)) (and-both _ _ (of-distinct (q .recs) (s .distinct)) (of-apart (q .recs) (s .apart))))))
+    (and-both _ _ (of-rising (q .recs) (s .rising)) (and-both _ _ (of-distinct (q .recs) (s .distinct)) (and-both _ _ (z .0) (z .1))))))
 
 -- ---- numbers that fit their fields
 

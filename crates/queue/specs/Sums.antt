@@ -3,14 +3,15 @@ use mathlib.Core.Path.{_≡_}
 use mathlib.Core.Bool.{Bool, true, _&&_}
 use mathlib.Core.List.{List}
 use Prim.Native.Nat.{ℕ, _+_, _-_, _*_, _≤_}
-use lib.Dec.{leb}
+use lib.Dec.{leb, eqb}
+use lib.ListN.{length}
 use Rattle.queue.specs.Forms.{recIn, Many}
 use Rattle.queue.specs.Reads.{listAt}
 use Rattle.queue.specs.Rules.{rightF, weight, sum}
 use Rattle.queue.specs.paper.Ids.{rise?}
 use Rattle.queue.specs.paper.Records.{Bytes, Rec}
 use Rattle.queue.specs.paper.Lists.{all?, map}
-use Rattle.queue.specs.paper.Sound.{right?}
+use Rattle.queue.specs.paper.Sound.{right?, reads}
 use Rattle.queue.specs.declared.frame.Facts.{Facts}
 use Rattle.queue.specs.declared.frame.Form.{Form}
 use Rattle.queue.specs.declared.frame.Finish.{Finish}
@@ -19,7 +20,7 @@ use Rattle.queue.specs.declared.scan.Read.{Read}
 use Rattle.queue.specs.declared.rules.Query.the-variants.{Holders, HeldBytes, MinedHolders, MinedBytes}
 
 abbrev pub noSums : Sums
-noSums = record { holders = 0; bytes = 0; mined = 0; minedbytes = 0; right = true; rises = true; inputs = 0 }
+noSums = record { holders = 0; bytes = 0; mined = 0; minedbytes = 0; right = true; rises = true; unread = true; inputs = 0 }
 
 -- the four counts are at most m
 pub record Under (a : Sums) (m : ℕ) : Type 0 where
@@ -36,7 +37,12 @@ pub record Added (k : ℕ) (c : Finish) (a : Sums) (f : Facts) (up : Bool) (r : 
   pub minedbytes : r .minedbytes ≡ a .minedbytes + weight MinedBytes f
   pub right : r .right ≡ (a .right && rightF k (c .0) f)
   pub rises : r .rises ≡ (a .rises && up)
+  pub unread : r .unread ≡ (a .unread && eqb (f .reads) 0)
   pub under : (m : ℕ) → Under a m → Under r (m + 4294967295)
+
+-- a record that reads nothing
+abbrev pub unread? : Rec → Bool
+unread? r = eqb (length (reads (r .body))) 0
 
 -- a is what the records l come to, under K and the counter
 pub record SumsAs (k : ℕ) (c : Finish) (a : Sums) (l : List Rec) : Type 0 where
@@ -46,6 +52,7 @@ pub record SumsAs (k : ℕ) (c : Finish) (a : Sums) (l : List Rec) : Type 0 wher
   pub minedbytes : a .minedbytes ≡ sum MinedBytes l
   pub right : a .right ≡ all? (right? k (c .0)) l
   pub rises : a .rises ≡ rise? (map (λ r. r .id) l)
+  pub unread : a .unread ≡ all? unread? l
 
 pub record Checked (form : Form) (s : Bytes) (at n k : ℕ) (c : Finish) (r : Read) : Type 0 where
   pub many : Many (recIn form) s at n (r .ok) (r .next)

@@ -1,7 +1,8 @@
 -- Suspects: places of input ids in a table, and what a look through it ensures.
 use mathlib.Core.Path.{_≡_}
 use mathlib.Core.Bool.{Bool, true, false, cond, _&&_, _||_}
-use mathlib.Core.List.{List, [], _∷_}
+use mathlib.Core.Logic.{_⊎_}
+use mathlib.Core.List.{List, [], _∷_, _++_}
 use Prim.Native.Nat.{ℕ, _+_, _/_, _%_, _≤_, _<_}
 use lib.Dec.{ltb, leb, eqb}
 use lib.ListN.{length, getD, drop}
@@ -11,7 +12,7 @@ use Rattle.queue.specs.Filter.{hasIn, hashL, marked}
 use Rattle.queue.specs.paper.Records.{Bytes, Id, Rec}
 use Rattle.queue.specs.paper.Ids.{cmpL, same?}
 use Rattle.queue.specs.paper.Lists.{any?, all?, total, count}
-use Rattle.queue.specs.paper.Sound.{inputs, among?, apart?}
+use Rattle.queue.specs.paper.Sound.{inputs, among?, used?, apart?}
 
 -- a row: the place of an id, and the number of its record; too near the end there is no id
 unfoldable pub idR : Bool → Bytes → ℕ → Id
@@ -58,17 +59,10 @@ held? hex s all x = ltb 0 (count (hasIn (idR hex s x)) (drop (noR x) all))
 unfoldable pub first? : Bool → Bytes → List Rec → ℕ → Bool
 first? hex s all x = leb (count (hasIn (idR hex s x)) all) (count (hasIn (idR hex s x)) (drop (noR x) all))
 
--- the rows looked through
-pub record Looked (hex : Bool) (s : Bytes) (all : List Rec) (v : List ℕ) (b : Bool) (v′ : List ℕ) : Type 0 where
-  pub kept : Shuffled v v′
-  pub yes : b ≡ true → all? (held? hex s all) v ≡ true → apart? all ≡ false
-  pub no : b ≡ false → all? (first? hex s all) v ≡ true
-
--- the row w behind the rows z; a table that is full is given up if it is not the last
+-- the row w behind the rows z: kept with them, or alone once they were looked through; a table that is full is given up if it is not the last
 pub record Grown (last hex : Bool) (s : Bytes) (all : List Rec) (z : List ℕ) (w : ℕ) (ok : Bool) (z′ : List ℕ) : Type 0 where
-  pub bad : ok ≡ false → last ≡ true → apart? all ≡ false
-  pub held : ok ≡ true → all? (held? hex s all) z′ ≡ true
-  pub first : ok ≡ true → all? (first? hex s all) z′ ≡ true → (all? (first? hex s all) z ≡ true) × (first? hex s all w ≡ true)
+  pub bad : ok ≡ false → last ≡ true → crosses hex s z 0 all ≡ true
+  pub good : ok ≡ true → (z′ ≡ z ++ (w ∷ [])) ⊎ ((z′ ≡ w ∷ []) × (crosses hex s z 0 all ≡ false))
 
 -- own ids of record k passed: two records have an id, if the table is the last; or every own id is marked now, and if it was marked before, no record
 -- before k has it, once the rows are looked through
@@ -81,11 +75,15 @@ pub record Noted (last hex : Bool) (s : Bytes) (all : List Rec) (k : ℕ) (own :
   pub one : ok ≡ true → all? (first? hex s all) z′ ≡ true → (x : Id) → own x ≡ true → marked t (hashL x) ≡ true → count (hasIn x) all ≤ count (hasIn x) (drop k all)
   pub new : ok ≡ true → (x : Id) → own x ≡ true → marked t′ (hashL x) ≡ true
 
--- 1: apart; 0: not; another number: not known, and the table is not the last
-pub record Said (last : Bool) (all : List Rec) (r : ℕ) : Type 0 where
-  pub yes : r ≡ 1 → true ≡ apart? all
-  pub no : r ≡ 0 → false ≡ apart? all
+-- the test b as a number. 1: it holds; 0: it does not; another: not known, and the table is not the last
+pub record Said (last b : Bool) (r : ℕ) : Type 0 where
+  pub yes : r ≡ 1 → true ≡ b
+  pub no : r ≡ 0 → false ≡ b
   pub sure : last ≡ true → r < 2
+
+-- every input is marked
+pub record Marks (all : List Rec) (t : List ℕ) : Type 0 where
+  pub each : (x : Id) → used? x all ≡ true → marked t (hashL x) ≡ true
 
 -- ids that records from number k on have
 abbrev pub Owned : List Rec → ℕ → (Id → Bool) → Type 0

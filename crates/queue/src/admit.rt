@@ -39,7 +39,7 @@ ghost use mathlib.Core.Path.{_≡_};
 ghost use mathlib.Core.Bool.{true, false, _&&_, _||_};
 ghost use mathlib.Core.Option.{some};
 ghost use mathlib.Core.List.{_++_};
-ghost use Prim.Native.Nat.{_+_, _*_, _/_, _^_, _≤_, _<_};
+ghost use Prim.Native.Nat.{_+_, _*_, _/_, _%_, _^_, _≤_, _<_};
 ghost use lib.Dec.{ltb, leb, eqb};
 ghost use lib.ListN.{length};
 ghost use Rattle.queue.specs.Codec.{be, encs};
@@ -48,13 +48,13 @@ ghost use Rattle.queue.specs.Frames.{recC};
 ghost use Rattle.queue.specs.Reads.{whole, listAt};
 ghost use Rattle.queue.specs.Forms.{formC};
 ghost use Rattle.queue.specs.Fronts.{tipOf};
-ghost use Rattle.queue.specs.Admitting.{newOf, optLen, labelSize, termsLen, heldLen, newLen, newTerms, heldOf, TermsFit, HeldFit, putF, recIf, keepBytes, WithFrom, WithTo, PendingsAre, FullIs, RoomIs, entryNewLen, argsOf, NumbersFit, LentIn, AskedIn, FreeOf, TipFor, NewTold, FoundTold, AdmitTold, ListsAre, FlagsAre};
+ghost use Rattle.queue.specs.Admitting.{newOf, optLen, labelSize, termsLen, heldLen, newLen, newTerms, heldOf, TermsFit, HeldFit, putF, recIf, keepBytes, WithFrom, WithTo, PendingsAre, FullIs, RoomIs, entryNewLen, argsOf, NumbersFit, LentIn, AskedIn, FreeOf, LentIds, ReadIs, CrossIs, TipFor, NewTold, FoundTold, AdmitTold, ListsAre, FlagsAre};
 ghost use Rattle.queue.specs.CallsAs.{AreaIn, FoundIn};
 ghost use Rattle.queue.specs.Writes.{HeadIn};
 ghost use Rattle.queue.specs.paper.Sound.{labelLen};
-ghost use Rattle.queue.specs.paper.Area.{flagged, termsBytes, heldBytes};
+ghost use Rattle.queue.specs.paper.Area.{flagged, idListBytes, termsBytes, heldBytes};
 ghost use Rattle.queue.specs.Checked.{outcome, admitOf};
-ghost use Rattle.queue.specs.paper.Calls.{given, entryBytes, givenId?, admitArgs};
+ghost use Rattle.queue.specs.paper.Calls.{items, given, entryBytes, givenId?, admitArgs};
 
 // The numbers that an admission is asked with.
 pub struct Asked {
@@ -115,21 +115,35 @@ fn put_terms(x: Asked, label: &[u8], n: u64, dst: &mut [u8], at: usize) -> usize
     put_be(dst, g, 8, x.cost)
 }
 
-// The holder flag, inputs, outputs and bytes.
-fn put_held(inputs: &[u8], outputs: &[u8], bytes: &[u8], dst: &mut [u8], at: usize) -> usize
-    requires { ⌜ HeldFit (now inputs) (now outputs) (now bytes) × (at + heldLen (now inputs) (now outputs) (now bytes) ≤ length (now dst)) ⌝ }
-    ensures { λ r. ⌜ Put (now (dst .entry)) at (flagged heldBytes (some (heldOf (now (inputs .entry)) (now (outputs .entry)) (now (bytes .entry))))) (heldLen (now (inputs .entry)) (now (outputs .entry)) (now (bytes .entry))) r (now (dst .exit)) ⌝ }
+// How many ids there are, and the ids.
+fn put_ids(ids: &[u8], dst: &mut [u8], at: usize) -> usize
+    requires { ⌜ (length (now ids) % 32 ≡ 0) × (length (now ids) / 32 < 65536) × (at + (2 + length (now ids)) ≤ length (now dst)) ⌝ }
+    ensures { λ r. ⌜ Put (now (dst .entry)) at (idListBytes (items 32 (now (ids .entry)))) (2 + length (now (ids .entry))) r (now (dst .exit)) ⌝ }
 {
-    let n = inputs.len();
-    let m = outputs.len();
-    let k = bytes.len();
+    let n = ids.len();
+    let a = put_be(dst, at, 2, (n / 32) as u64);
+    copy_part(ids, 0, n, dst, a)
+}
+
+// The holder flag, inputs, outputs, read ids and bytes.
+fn put_held(
+    inputs: &[u8],
+    outputs: &[u8],
+    reads: &[u8],
+    bytes: &[u8],
+    dst: &mut [u8],
+    at: usize,
+) -> usize
+    requires { ⌜ HeldFit (now inputs) (now outputs) (now reads) (now bytes) × (at + heldLen (now inputs) (now outputs) (now reads) (now bytes) ≤ length (now dst)) ⌝ }
+    ensures { λ r. ⌜ Put (now (dst .entry)) at (flagged heldBytes (some (heldOf (now (inputs .entry)) (now (outputs .entry)) (now (reads .entry)) (now (bytes .entry))))) (heldLen (now (inputs .entry)) (now (outputs .entry)) (now (reads .entry)) (now (bytes .entry))) r (now (dst .exit)) ⌝ }
+{
+    let n = bytes.len();
     let a = put_u8(dst, at, 1);
-    let b = put_be(dst, a, 2, (n / 32) as u64);
-    let c = copy_part(inputs, 0, n, dst, b);
-    let d = put_be(dst, c, 2, (m / 32) as u64);
-    let e = copy_part(outputs, 0, m, dst, d);
-    let f = put_be(dst, e, 4, k as u64);
-    copy_part(bytes, 0, k, dst, f)
+    let b = put_ids(inputs, dst, a);
+    let c = put_ids(outputs, dst, b);
+    let d = put_ids(reads, dst, c);
+    let e = put_be(dst, d, 4, n as u64);
+    copy_part(bytes, 0, n, dst, e)
 }
 
 // The new record: Queued, reason 0, with no place, mark and finish number.
@@ -138,18 +152,19 @@ fn put_new(
     id: [u8; 32],
     inputs: &[u8],
     outputs: &[u8],
+    reads: &[u8],
     bytes: &[u8],
     label: &[u8],
     dst: &mut [u8],
     at: usize,
 ) -> usize
-    requires { ⌜ TermsFit x (now label) (length (now bytes)) × HeldFit (now inputs) (now outputs) (now bytes) × (at + newLen x (now inputs) (now outputs) (now bytes) (now label) ≤ length (now dst)) ⌝ }
-    ensures { λ r. ⌜ Put (now (dst .entry)) at (recC .enc (newOf x id (now (inputs .entry)) (now (outputs .entry)) (now (bytes .entry)) (now (label .entry)))) (newLen x (now (inputs .entry)) (now (outputs .entry)) (now (bytes .entry)) (now (label .entry))) r (now (dst .exit)) ⌝ }
+    requires { ⌜ TermsFit x (now label) (length (now bytes)) × HeldFit (now inputs) (now outputs) (now reads) (now bytes) × (at + newLen x (now inputs) (now outputs) (now reads) (now bytes) (now label) ≤ length (now dst)) ⌝ }
+    ensures { λ r. ⌜ Put (now (dst .entry)) at (recC .enc (newOf x id (now (inputs .entry)) (now (outputs .entry)) (now (reads .entry)) (now (bytes .entry)) (now (label .entry)))) (newLen x (now (inputs .entry)) (now (outputs .entry)) (now (reads .entry)) (now (bytes .entry)) (now (label .entry))) r (now (dst .exit)) ⌝ }
 {
     let a = put_lead(id, x.caller, 0, 0, dst, at);
     let b = put_terms(x, label, bytes.len() as u64, dst, a);
     let c = fill_zero(dst, b, b + 10);
-    put_held(inputs, outputs, bytes, dst, c)
+    put_held(inputs, outputs, reads, bytes, dst, c)
 }
 
 // The new record where it is due, or nothing.
@@ -159,16 +174,17 @@ fn put_due(
     id: [u8; 32],
     inputs: &[u8],
     outputs: &[u8],
+    reads: &[u8],
     bytes: &[u8],
     label: &[u8],
     dst: &mut [u8],
     at: usize,
 ) -> usize
-    requires { ⌜ TermsFit x (now label) (length (now bytes)) × HeldFit (now inputs) (now outputs) (now bytes) × (at + length (encs recC (recIf due (newOf x id (now inputs) (now outputs) (now bytes) (now label)))) ≤ length (now dst)) ⌝ }
-    ensures { λ r. ⌜ Put (now (dst .entry)) at (encs recC (recIf due (newOf x id (now (inputs .entry)) (now (outputs .entry)) (now (bytes .entry)) (now (label .entry))))) (length (encs recC (recIf due (newOf x id (now (inputs .entry)) (now (outputs .entry)) (now (bytes .entry)) (now (label .entry)))))) r (now (dst .exit)) ⌝ }
+    requires { ⌜ TermsFit x (now label) (length (now bytes)) × HeldFit (now inputs) (now outputs) (now reads) (now bytes) × (at + length (encs recC (recIf due (newOf x id (now inputs) (now outputs) (now reads) (now bytes) (now label)))) ≤ length (now dst)) ⌝ }
+    ensures { λ r. ⌜ Put (now (dst .entry)) at (encs recC (recIf due (newOf x id (now (inputs .entry)) (now (outputs .entry)) (now (reads .entry)) (now (bytes .entry)) (now (label .entry))))) (length (encs recC (recIf due (newOf x id (now (inputs .entry)) (now (outputs .entry)) (now (reads .entry)) (now (bytes .entry)) (now (label .entry)))))) r (now (dst .exit)) ⌝ }
 {
     if due {
-        return put_new(x, id, inputs, outputs, bytes, label, dst, at);
+        return put_new(x, id, inputs, outputs, reads, bytes, label, dst, at);
     }
     at
 }
@@ -192,13 +208,14 @@ fn put_among(
     id: [u8; 32],
     inputs: &[u8],
     outputs: &[u8],
+    reads: &[u8],
     bytes: &[u8],
     label: &[u8],
     dst: &mut [u8],
     to: usize,
 ) -> usize
-    requires { ⌜ (at ≤ length (now src)) × (whole (formC false recC) n (now src) at ≡ true) × (TermsFit x (now label) (length (now bytes)) × HeldFit (now inputs) (now outputs) (now bytes)) × (to + length (encs recC (putF (newOf x id (now inputs) (now outputs) (now bytes) (now label)) false (listAt (formC false recC) n (now src) at))) ≤ length (now dst)) ⌝ }
-    ensures { λ r. ⌜ Put (now (dst .entry)) to (encs recC (putF (newOf x id (now (inputs .entry)) (now (outputs .entry)) (now (bytes .entry)) (now (label .entry))) false (listAt (formC false recC) n (now (src .entry)) at))) (length (encs recC (putF (newOf x id (now (inputs .entry)) (now (outputs .entry)) (now (bytes .entry)) (now (label .entry))) false (listAt (formC false recC) n (now (src .entry)) at)))) r (now (dst .exit)) ⌝ }
+    requires { ⌜ (at ≤ length (now src)) × (whole (formC false recC) n (now src) at ≡ true) × (TermsFit x (now label) (length (now bytes)) × HeldFit (now inputs) (now outputs) (now reads) (now bytes)) × (to + length (encs recC (putF (newOf x id (now inputs) (now outputs) (now reads) (now bytes) (now label)) false (listAt (formC false recC) n (now src) at))) ≤ length (now dst)) ⌝ }
+    ensures { λ r. ⌜ Put (now (dst .entry)) to (encs recC (putF (newOf x id (now (inputs .entry)) (now (outputs .entry)) (now (reads .entry)) (now (bytes .entry)) (now (label .entry))) false (listAt (formC false recC) n (now (src .entry)) at))) (length (encs recC (putF (newOf x id (now (inputs .entry)) (now (outputs .entry)) (now (reads .entry)) (now (bytes .entry)) (now (label .entry))) false (listAt (formC false recC) n (now (src .entry)) at)))) r (now (dst .exit)) ⌝ }
 {
     let mut i = at;
     let mut left = n;
@@ -209,13 +226,13 @@ fn put_among(
         let k = y.id;
         let c = cmp_id(id, k);
         let due = both(!placed, c == 0);
-        o = put_due(due, x, id, inputs, outputs, bytes, label, dst, o);
+        o = put_due(due, x, id, inputs, outputs, reads, bytes, label, dst, o);
         o = put_keep(!(c == 1), src, i, y.size, dst, o);
         placed = either(placed, c == 0);
         i = i + y.size;
         left = left - 1;
     }
-    put_due(!placed, x, id, inputs, outputs, bytes, label, dst, o)
+    put_due(!placed, x, id, inputs, outputs, reads, bytes, label, dst, o)
 }
 
 // The queue of src with the new record in it, under that cursor.
@@ -229,12 +246,13 @@ fn put_with(
     id: [u8; 32],
     inputs: &[u8],
     outputs: &[u8],
+    reads: &[u8],
     bytes: &[u8],
     label: &[u8],
     dst: &mut [u8],
 )
-    requires { ⌜ WithFrom (now src) a (cursor .0) (tipOf has tip) (newOf x id (now inputs) (now outputs) (now bytes) (now label)) × (TermsFit x (now label) (length (now bytes)) × HeldFit (now inputs) (now outputs) (now bytes)) × (a .need ≤ length (now dst)) ⌝ }
-    ensures { λ _. ⌜ WithTo (now (src .entry)) (cursor .0) (tipOf has tip) (newOf x id (now (inputs .entry)) (now (outputs .entry)) (now (bytes .entry)) (now (label .entry))) (now (dst .entry)) (now (dst .exit)) ⌝ }
+    requires { ⌜ WithFrom (now src) a (cursor .0) (tipOf has tip) (newOf x id (now inputs) (now outputs) (now reads) (now bytes) (now label)) × (TermsFit x (now label) (length (now bytes)) × HeldFit (now inputs) (now outputs) (now reads) (now bytes)) × (a .need ≤ length (now dst)) ⌝ }
+    ensures { λ _. ⌜ WithTo (now (src .entry)) (cursor .0) (tipOf has tip) (newOf x id (now (inputs .entry)) (now (outputs .entry)) (now (reads .entry)) (now (bytes .entry)) (now (label .entry))) (now (dst .entry)) (now (dst .exit)) ⌝ }
 {
     let o = a.open;
     let h = o.head;
@@ -249,6 +267,7 @@ fn put_with(
         id,
         inputs,
         outputs,
+        reads,
         bytes,
         label,
         dst,
@@ -315,21 +334,21 @@ fn put_told(
     id: [u8; 32],
     inputs: &[u8],
     outputs: &[u8],
+    reads: &[u8],
     bytes: &[u8],
     label: &[u8],
     dst: &mut [u8],
 ) -> usize
-    requires { ⌜ TermsFit x (now label) (length (now bytes)) × HeldFit (now inputs) (now outputs) (now bytes) × (entryNewLen x (now inputs) (now label) ≤ length (now dst)) ⌝ }
-    ensures { λ r. ⌜ Put (now (dst .entry)) 0 (entryBytes (newOf x id (now (inputs .entry)) (now (outputs .entry)) (now (bytes .entry)) (now (label .entry)))) (entryNewLen x (now (inputs .entry)) (now (label .entry))) r (now (dst .exit)) ⌝ }
+    requires { ⌜ TermsFit x (now label) (length (now bytes)) × HeldFit (now inputs) (now outputs) (now reads) (now bytes) × (entryNewLen x (now inputs) (now reads) (now label) ≤ length (now dst)) ⌝ }
+    ensures { λ r. ⌜ Put (now (dst .entry)) 0 (entryBytes (newOf x id (now (inputs .entry)) (now (outputs .entry)) (now (reads .entry)) (now (bytes .entry)) (now (label .entry)))) (entryNewLen x (now (inputs .entry)) (now (reads .entry)) (now (label .entry))) r (now (dst .exit)) ⌝ }
 {
-    let n = inputs.len();
     let a = put_id(dst, 0, id);
     let w = put_be(dst, a, 1, x.caller);
     let b = put_be(dst, w, 2, 0);
     let c = put_terms(x, label, bytes.len() as u64, dst, b);
     let d = put_u8(dst, c, 0);
-    let e = put_be(dst, d, 2, (n / 32) as u64);
-    copy_part(inputs, 0, n, dst, e)
+    let e = put_ids(inputs, dst, d);
+    put_ids(reads, dst, e)
 }
 
 fn opt_len(flag: u64, w: usize) -> usize
@@ -346,20 +365,21 @@ fn label_size(flag: u64, label: &[u8]) -> usize
     if flag == 1 { 2 + label.len() } else { 1 }
 }
 
-// An entry without its terms and inputs: id, caller, state, reason, mined flag, input count. And the terms that are always there.
-const ENTRY: usize = 38;
+// An entry without its terms and ids: id, caller, state, reason, mined flag, the counts of inputs and read ids. And the terms that are
+// always there.
+const ENTRY: usize = 40;
 
 const FIXED_TERMS: usize = 32;
 
 // How long the entry of the new record is.
-fn entry_new_len(x: Asked, inputs: &[u8], label: &[u8]) -> usize
-    requires { ⌜ (x .labelflag ≡ 1 → length (now label) ≤ 200) × (length (now inputs) < 4294967296) ⌝ }
-    ensures { λ r. ⌜ r ≡ entryNewLen x (now (inputs .entry)) (now (label .entry)) ⌝ }
+fn entry_new_len(x: Asked, inputs: &[u8], reads: &[u8], label: &[u8]) -> usize
+    requires { ⌜ (x .labelflag ≡ 1 → length (now label) ≤ 200) × (length (now inputs) < 4294967296) × (length (now reads) < 4294967296) ⌝ }
+    ensures { λ r. ⌜ r ≡ entryNewLen x (now (inputs .entry)) (now (reads .entry)) (now (label .entry)) ⌝ }
 {
     let a = opt_len(x.timeflag, 8);
     let b = opt_len(x.heightflag, 4);
     let c = label_size(x.labelflag, label);
-    ENTRY + (FIXED_TERMS + (a + (b + c)) + inputs.len())
+    ENTRY + (FIXED_TERMS + (a + (b + c)) + (inputs.len() + reads.len()))
 }
 
 // A cursor: its height, and its tip where there is one.
@@ -399,7 +419,7 @@ fn tip_for(s: &[u8], h: HeadR, x: Asked, tip: &[u8]) -> Tip
     }
 }
 
-// There is room, and no input is another's: the record is put.
+// There is room, no input is another's, and none of the other's is read: the record is put.
 fn admit_free(
     cur: &[u8],
     next: &mut [u8],
@@ -408,15 +428,16 @@ fn admit_free(
     id: [u8; 32],
     inputs: &[u8],
     outputs: &[u8],
+    reads: &[u8],
     bytes: &[u8],
     label: &[u8],
     tip: &[u8],
     out: &mut [u8],
 ) -> Answer
-    requires { ⌜ AreaIn (now cur) a × AskedIn x id (now inputs) (now outputs) (now bytes) (now label) (now tip) (a .open .head .limits .k) × (RoomIs (now cur) (x .caller) (length (now bytes)) 0 × FreeOf (now cur) (now inputs)) × (a .need ≤ length (now next)) ⌝ }
-    ensures { λ r. ⌜ NewTold (now (cur .entry)) (argsOf x id (now (inputs .entry)) (now (outputs .entry)) (now (bytes .entry)) (now (label .entry)) (now (tip .entry))) (outcome r (now (next .exit)) (now (out .exit))) (now (next .entry)) (now (out .entry)) ⌝ }
+    requires { ⌜ AreaIn (now cur) a × AskedIn x id (now inputs) (now outputs) (now reads) (now bytes) (now label) (now tip) (a .open .head .limits .k) × (RoomIs (now cur) (x .caller) (length (now bytes)) 0 × FreeOf (now cur) (now inputs) (now reads)) × (a .need ≤ length (now next)) ⌝ }
+    ensures { λ r. ⌜ NewTold (now (cur .entry)) (argsOf x id (now (inputs .entry)) (now (outputs .entry)) (now (reads .entry)) (now (bytes .entry)) (now (label .entry)) (now (tip .entry))) (outcome r (now (next .exit)) (now (out .exit))) (now (next .entry)) (now (out .entry)) ⌝ }
 {
-    let n = entry_new_len(x, inputs, label);
+    let n = entry_new_len(x, inputs, reads, label);
     if out.len() < n {
         return Answer::Refused(4);
     }
@@ -435,15 +456,48 @@ fn admit_free(
         id,
         inputs,
         outputs,
+        reads,
         bytes,
         label,
         next,
     );
-    put_told(x, id, inputs, outputs, bytes, label, out);
+    put_told(x, id, inputs, outputs, reads, bytes, label, out);
     Answer::Done(Kind::Whole)
 }
 
-// No pending or Mined record has this id. Refusals 10, 18, 11, 12.
+// Does a record read one of the inputs?
+fn inputs_read(s: &[u8], a: Area, inputs: &[u8]) -> bool
+    requires { ⌜ AreaIn (now s) a × LentIds (now inputs) ⌝ }
+    ensures { λ r. ⌜ ReadIs (now (s .entry)) (now (inputs .entry)) r ⌝ }
+{
+    let o = a.open;
+    let h = o.head;
+    let u = o.sums;
+    if u.unread {
+        return false;
+    }
+    let n = (inputs.len() / 32) as u64;
+    ids_clash(inputs, n, s, o.start, h.count, true)
+}
+
+// Does a record read one of the inputs, or spend one of the read ids?
+fn reads_cross(s: &[u8], a: Area, inputs: &[u8], reads: &[u8]) -> bool
+    requires { ⌜ AreaIn (now s) a × LentIds (now inputs) × LentIds (now reads) ⌝ }
+    ensures { λ r. ⌜ CrossIs (now (s .entry)) (now (inputs .entry)) (now (reads .entry)) r ⌝ }
+{
+    let o = a.open;
+    let h = o.head;
+    let m = (reads.len() / 32) as u64;
+    if inputs_read(s, a, inputs) {
+        return true;
+    }
+    if m == 0 {
+        return false;
+    }
+    ids_clash(reads, m, s, o.start, h.count, false)
+}
+
+// No pending or Mined record has this id. Refusals 10, 18, 11, 12, 20.
 fn admit_new(
     cur: &[u8],
     next: &mut [u8],
@@ -452,13 +506,14 @@ fn admit_new(
     id: [u8; 32],
     inputs: &[u8],
     outputs: &[u8],
+    reads: &[u8],
     bytes: &[u8],
     label: &[u8],
     tip: &[u8],
     out: &mut [u8],
 ) -> Answer
-    requires { ⌜ AreaIn (now cur) a × AskedIn x id (now inputs) (now outputs) (now bytes) (now label) (now tip) (a .open .head .limits .k) × (a .need ≤ length (now next)) ⌝ }
-    ensures { λ r. ⌜ NewTold (now (cur .entry)) (argsOf x id (now (inputs .entry)) (now (outputs .entry)) (now (bytes .entry)) (now (label .entry)) (now (tip .entry))) (outcome r (now (next .exit)) (now (out .exit))) (now (next .entry)) (now (out .entry)) ⌝ }
+    requires { ⌜ AreaIn (now cur) a × AskedIn x id (now inputs) (now outputs) (now reads) (now bytes) (now label) (now tip) (a .open .head .limits .k) × (a .need ≤ length (now next)) ⌝ }
+    ensures { λ r. ⌜ NewTold (now (cur .entry)) (argsOf x id (now (inputs .entry)) (now (outputs .entry)) (now (reads .entry)) (now (bytes .entry)) (now (label .entry)) (now (tip .entry))) (outcome r (now (next .exit)) (now (out .exit))) (now (next .entry)) (now (out .entry)) ⌝ }
 {
     let r = room_for(cur, a, x.caller, bytes.len() as u64);
     if r != 0 {
@@ -467,10 +522,26 @@ fn admit_new(
     let o = a.open;
     let h = o.head;
     let m = (inputs.len() / 32) as u64;
-    if ids_clash(inputs, m, cur, o.start, h.count) {
+    if ids_clash(inputs, m, cur, o.start, h.count, false) {
         return Answer::Refused(12);
     }
-    admit_free(cur, next, a, x, id, inputs, outputs, bytes, label, tip, out)
+    if reads_cross(cur, a, inputs, reads) {
+        return Answer::Refused(20);
+    }
+    admit_free(
+        cur,
+        next,
+        a,
+        x,
+        id,
+        inputs,
+        outputs,
+        reads,
+        bytes,
+        label,
+        tip,
+        out,
+    )
 }
 
 // The record of this id stands at `at`: pending or Mined, it is answered.
@@ -483,13 +554,14 @@ fn admit_found(
     id: [u8; 32],
     inputs: &[u8],
     outputs: &[u8],
+    reads: &[u8],
     bytes: &[u8],
     label: &[u8],
     tip: &[u8],
     out: &mut [u8],
 ) -> Answer
-    requires { ⌜ FoundIn (now cur) a id at × AskedIn x id (now inputs) (now outputs) (now bytes) (now label) (now tip) (a .open .head .limits .k) × (a .need ≤ length (now next)) ⌝ }
-    ensures { λ r. ⌜ FoundTold (now (cur .entry)) (argsOf x id (now (inputs .entry)) (now (outputs .entry)) (now (bytes .entry)) (now (label .entry)) (now (tip .entry))) (outcome r (now (next .exit)) (now (out .exit))) (now (next .entry)) (now (out .entry)) ⌝ }
+    requires { ⌜ FoundIn (now cur) a id at × AskedIn x id (now inputs) (now outputs) (now reads) (now bytes) (now label) (now tip) (a .open .head .limits .k) × (a .need ≤ length (now next)) ⌝ }
+    ensures { λ r. ⌜ FoundTold (now (cur .entry)) (argsOf x id (now (inputs .entry)) (now (outputs .entry)) (now (reads .entry)) (now (bytes .entry)) (now (label .entry)) (now (tip .entry))) (outcome r (now (next .exit)) (now (out .exit))) (now (next .entry)) (now (out .entry)) ⌝ }
 {
     let y = rec_at(cur, at);
     let f = y.facts;
@@ -501,7 +573,20 @@ fn admit_found(
         put_entry(cur, at, y, out, 0);
         return Answer::Done(Kind::Nothing);
     }
-    admit_new(cur, next, a, x, id, inputs, outputs, bytes, label, tip, out)
+    admit_new(
+        cur,
+        next,
+        a,
+        x,
+        id,
+        inputs,
+        outputs,
+        reads,
+        bytes,
+        label,
+        tip,
+        out,
+    )
 }
 
 fn admit_named(
@@ -512,13 +597,14 @@ fn admit_named(
     id: [u8; 32],
     inputs: &[u8],
     outputs: &[u8],
+    reads: &[u8],
     bytes: &[u8],
     label: &[u8],
     tip: &[u8],
     out: &mut [u8],
 ) -> Answer
-    requires { ⌜ AreaIn (now cur) a × AskedIn x id (now inputs) (now outputs) (now bytes) (now label) (now tip) (a .open .head .limits .k) × (a .need ≤ length (now next)) ⌝ }
-    ensures { λ r. ⌜ FoundTold (now (cur .entry)) (argsOf x id (now (inputs .entry)) (now (outputs .entry)) (now (bytes .entry)) (now (label .entry)) (now (tip .entry))) (outcome r (now (next .exit)) (now (out .exit))) (now (next .entry)) (now (out .entry)) ⌝ }
+    requires { ⌜ AreaIn (now cur) a × AskedIn x id (now inputs) (now outputs) (now reads) (now bytes) (now label) (now tip) (a .open .head .limits .k) × (a .need ≤ length (now next)) ⌝ }
+    ensures { λ r. ⌜ FoundTold (now (cur .entry)) (argsOf x id (now (inputs .entry)) (now (outputs .entry)) (now (reads .entry)) (now (bytes .entry)) (now (label .entry)) (now (tip .entry))) (outcome r (now (next .exit)) (now (out .exit))) (now (next .entry)) (now (out .entry)) ⌝ }
 {
     let o = a.open;
     let h = o.head;
@@ -533,13 +619,27 @@ fn admit_named(
             id,
             inputs,
             outputs,
+            reads,
             bytes,
             label,
             tip,
             out,
         );
     }
-    admit_new(cur, next, a, x, id, inputs, outputs, bytes, label, tip, out)
+    admit_new(
+        cur,
+        next,
+        a,
+        x,
+        id,
+        inputs,
+        outputs,
+        reads,
+        bytes,
+        label,
+        tip,
+        out,
+    )
 }
 
 fn long_label(flag: u64, label: &[u8]) -> bool
@@ -557,13 +657,14 @@ fn admit_timely(
     id: [u8; 32],
     inputs: &[u8],
     outputs: &[u8],
+    reads: &[u8],
     bytes: &[u8],
     label: &[u8],
     tip: &[u8],
     out: &mut [u8],
 ) -> Answer
-    requires { ⌜ AreaIn (now cur) a × LentIn x id (now inputs) (now outputs) (now bytes) (now label) (now tip) (a .open .head .limits .k) × (a .need ≤ length (now next)) ⌝ }
-    ensures { λ r. ⌜ AdmitTold (now (cur .entry)) (argsOf x id (now (inputs .entry)) (now (outputs .entry)) (now (bytes .entry)) (now (label .entry)) (now (tip .entry))) (outcome r (now (next .exit)) (now (out .exit))) (now (next .entry)) (now (out .entry)) ⌝ }
+    requires { ⌜ AreaIn (now cur) a × LentIn x id (now inputs) (now outputs) (now reads) (now bytes) (now label) (now tip) (a .open .head .limits .k) × (a .need ≤ length (now next)) ⌝ }
+    ensures { λ r. ⌜ AdmitTold (now (cur .entry)) (argsOf x id (now (inputs .entry)) (now (outputs .entry)) (now (reads .entry)) (now (bytes .entry)) (now (label .entry)) (now (tip .entry))) (outcome r (now (next .exit)) (now (out .exit))) (now (next .entry)) (now (out .entry)) ⌝ }
 {
     let t = x.now;
     let d = x.time;
@@ -578,7 +679,20 @@ fn admit_timely(
     if long_label(x.labelflag, label) {
         return Answer::Refused(9);
     }
-    admit_named(cur, next, a, x, id, inputs, outputs, bytes, label, tip, out)
+    admit_named(
+        cur,
+        next,
+        a,
+        x,
+        id,
+        inputs,
+        outputs,
+        reads,
+        bytes,
+        label,
+        tip,
+        out,
+    )
 }
 
 fn given_id(flag: u64, n: usize) -> bool
@@ -588,13 +702,17 @@ fn given_id(flag: u64, n: usize) -> bool
 }
 
 // Is the id whole, and are the lists, and is there such a caller?
-fn lists_whole(id: &[u8], caller: u64, inputs: &[u8], outputs: &[u8]) -> bool
-    ensures { λ r. ⌜ ListsAre (now (id .entry)) caller (now (inputs .entry)) (now (outputs .entry)) r ⌝ }
+fn lists_whole(id: &[u8], caller: u64, inputs: &[u8], outputs: &[u8], reads: &[u8]) -> bool
+    ensures { λ r. ⌜ ListsAre (now (id .entry)) caller (now (inputs .entry)) (now (outputs .entry)) (now (reads .entry)) r ⌝ }
 {
     let a = size(id, false, 0);
     let b = size(inputs, false, 0);
     let c = size(outputs, false, 0);
-    both(both(a == 32, caller <= 15), both(b % 32 == 0, c % 32 == 0))
+    let d = size(reads, false, 0);
+    both(
+        both(a == 32, caller <= 15),
+        both(b % 32 == 0, both(c % 32 == 0, d % 32 == 0)),
+    )
 }
 
 // Are the flags listed, and is the tip whole where there is one?
@@ -608,10 +726,13 @@ fn flags_listed(x: Asked, bytes: &[u8], label: &[u8], tip: &[u8]) -> bool
     both(d, both(x.labelflag <= 1, given_id(x.tipflag, c)))
 }
 
-fn over_k(k: u64, n: usize, m: usize) -> bool
-    ensures { λ r. ⌜ r ≡ (ltb k (n / 32) || ltb k (m / 32)) ⌝ }
+fn over_k(k: u64, n: usize, m: usize, d: usize) -> bool
+    ensures { λ r. ⌜ r ≡ (ltb k (n / 32) || (ltb k (m / 32) || ltb k (d / 32))) ⌝ }
 {
-    either(k < (n / 32) as u64, k < (m / 32) as u64)
+    either(
+        k < (n / 32) as u64,
+        either(k < (m / 32) as u64, k < (d / 32) as u64),
+    )
 }
 
 // Refusals 3, 2, 5, 6.
@@ -622,13 +743,14 @@ fn admit_asked(
     id: &[u8],
     inputs: &[u8],
     outputs: &[u8],
+    reads: &[u8],
     bytes: &[u8],
     label: &[u8],
     tip: &[u8],
     out: &mut [u8],
 ) -> Answer
     requires { ⌜ NumbersFit x ⌝ }
-    ensures { λ r. ⌜ outcome r (now (next .exit)) (now (out .exit)) ≡ admitOf (now (cur .entry)) (now (next .entry)) (now (out .entry)) (argsOf x (now (id .entry)) (now (inputs .entry)) (now (outputs .entry)) (now (bytes .entry)) (now (label .entry)) (now (tip .entry))) ⌝ }
+    ensures { λ r. ⌜ outcome r (now (next .exit)) (now (out .exit)) ≡ admitOf (now (cur .entry)) (now (next .entry)) (now (out .entry)) (argsOf x (now (id .entry)) (now (inputs .entry)) (now (outputs .entry)) (now (reads .entry)) (now (bytes .entry)) (now (label .entry)) (now (tip .entry))) ⌝ }
 {
     let a = area_at(cur);
     if !a.ok {
@@ -637,7 +759,7 @@ fn admit_asked(
     if next.len() < a.need {
         return Answer::Refused(2);
     }
-    let l = lists_whole(id, x.caller, inputs, outputs);
+    let l = lists_whole(id, x.caller, inputs, outputs, reads);
     let f = flags_listed(x, bytes, label, tip);
     if !both(l, f) {
         return Answer::Refused(5);
@@ -645,14 +767,27 @@ fn admit_asked(
     let o = a.open;
     let h = o.head;
     let m = h.limits;
-    if over_k(m.k, inputs.len(), outputs.len()) {
+    if over_k(m.k, inputs.len(), outputs.len(), reads.len()) {
         return Answer::Refused(6);
     }
     let k = id_at(id, false, 0, 0);
-    admit_timely(cur, next, a, x, k, inputs, outputs, bytes, label, tip, out)
+    admit_timely(
+        cur,
+        next,
+        a,
+        x,
+        k,
+        inputs,
+        outputs,
+        reads,
+        bytes,
+        label,
+        tip,
+        out,
+    )
 }
 
-// Admission. Refusals 3, 2, 5, 6, 7, 8, 9, 10, 18, 11, 12, 4.
+// Admission. Refusals 3, 2, 5, 6, 7, 8, 9, 10, 18, 11, 12, 20, 4.
 pub fn admit(
     cur: &[u8],
     next: &mut [u8],
@@ -660,6 +795,7 @@ pub fn admit(
     caller: u8,
     inputs: &[u8],
     outputs: &[u8],
+    reads: &[u8],
     bytes: &[u8],
     clock: u64,
     timeflag: u8,
@@ -676,7 +812,7 @@ pub fn admit(
     tip: &[u8],
     out: &mut [u8],
 ) -> Answer
-    ensures { λ r. ⌜ outcome r (now (next .exit)) (now (out .exit)) ≡ admitOf (now (cur .entry)) (now (next .entry)) (now (out .entry)) (admitArgs (now (id .entry)) caller (now (inputs .entry)) (now (outputs .entry)) (now (bytes .entry)) clock timeflag time heightflag height priority labelflag (now (label .entry)) fee cost tipheight tipflag (now (tip .entry))) ⌝ }
+    ensures { λ r. ⌜ outcome r (now (next .exit)) (now (out .exit)) ≡ admitOf (now (cur .entry)) (now (next .entry)) (now (out .entry)) (admitArgs (now (id .entry)) caller (now (inputs .entry)) (now (outputs .entry)) (now (reads .entry)) (now (bytes .entry)) clock timeflag time heightflag height priority labelflag (now (label .entry)) fee cost tipheight tipflag (now (tip .entry))) ⌝ }
 {
     let x = Asked {
         caller: caller as u64,
@@ -692,5 +828,17 @@ pub fn admit(
         tipheight: Height(tipheight as u64),
         tipflag: tipflag as u64,
     };
-    admit_asked(cur, next, x, id, inputs, outputs, bytes, label, tip, out)
+    admit_asked(
+        cur,
+        next,
+        x,
+        id,
+        inputs,
+        outputs,
+        reads,
+        bytes,
+        label,
+        tip,
+        out,
+    )
 }

@@ -134,7 +134,7 @@ pub fn sound_at(s: &[u8], form: Form, x: Open) -> bool
         return false;
     }
     let d = distinct(s, form, x.start, h.count, h.count - a.holders);
-    let o = apart(s, form, x.start, h.count, a.inputs <= 8192);
+    let o = apart(s, form, x.start, h.count, a.unread, a.inputs <= 8192);
     both(d, o)
 }
 

@@ -108,8 +108,8 @@ fn settle_shape(kind: u64, outcome: u64) -> bool
 
 // The entry of the record read at base once it is finished: it has no inputs any more.
 fn put_end(src: &[u8], base: usize, x: Seen, state: u8, reason: u8, dst: &mut [u8]) -> usize
-    requires { ⌜ (termsAt ≤ x .mark) × (base + x .mark ≤ length (now src)) × (x .mark + 1 ≤ length (now dst)) ⌝ }
-    ensures { λ r. ⌜ Put (now (dst .entry)) 0 (endBytes (now (src .entry)) base x state reason) (x .mark + 1) r (now (dst .exit)) ⌝ }
+    requires { ⌜ (termsAt ≤ x .mark) × (base + x .mark ≤ length (now src)) × (x .mark + 3 ≤ length (now dst)) ⌝ }
+    ensures { λ r. ⌜ Put (now (dst .entry)) 0 (endBytes (now (src .entry)) base x state reason) (x .mark + 3) r (now (dst .exit)) ⌝ }
 {
     let id = x.id;
     let m = x.mark;
@@ -119,7 +119,7 @@ fn put_end(src: &[u8], base: usize, x: Seen, state: u8, reason: u8, dst: &mut [u
     let b = put_u8(dst, a, state);
     let c = put_u8(dst, b, reason);
     let d = copy_part(src, base + TERMS, m - TERMS, dst, c);
-    put_be(dst, d, 2, 0)
+    put_be(dst, d, 4, 0)
 }
 
 // Cancellation. Refusals 3, 2, 5, 13, 14, 15, 4.
@@ -194,7 +194,7 @@ fn cancel_held(
     if 18446744073709551615 - c.0 < m {
         return Answer::Refused(15);
     }
-    if out.len() < x.mark + 1 {
+    if out.len() < x.mark + 3 {
         return Answer::Refused(4);
     }
     put_ended(cur, a, Change::Named, id, 4, 1, m, next);

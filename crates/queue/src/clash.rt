@@ -1,5 +1,6 @@
-// Is one of the lent ids an input of a record? The ids are put in order, and one pass over the records bisects each input.
+// Does a record spend, or read, one of the lent ids? These are put in order, and one pass over the records bisects each of its ids.
 use super::forms::after_in;
+use super::frame::Seen;
 use super::frame::id_read;
 use super::frame::rec_at;
 use super::scan::has_id;
@@ -20,10 +21,11 @@ ghost use Rattle.queue.specs.View.{view};
 ghost use Rattle.queue.specs.Reads.{whole, listAt};
 ghost use Rattle.queue.specs.Reopens.{IdsIn, idsAt};
 ghost use Rattle.queue.specs.Suspects.{idR, InOrder};
-ghost use Rattle.queue.specs.Clash.{rowHas, RowsOf, CutId, anyOf, meetsIds};
+ghost use Rattle.queue.specs.Clash.{rowHas, RowsOf, CutId, anyOf, MeetsIs, meetsIds, clashes};
+ghost use Rattle.queue.specs.Touching.{SeenHere};
 ghost use Rattle.queue.specs.paper.Ids.{cmpL};
 ghost use Rattle.queue.specs.paper.Lists.{any?};
-ghost use Rattle.queue.specs.paper.Sound.{among?, clash?};
+ghost use Rattle.queue.specs.paper.Sound.{among?};
 
 // The order of a row's id and an id. 0: the row's is lower; 1: the same; 2: higher.
 fn cmp_row(ids: &[u8], x: u64, id: [u8; 32]) -> u8
@@ -124,17 +126,46 @@ fn any_lent(
     false
 }
 
-// Is an input of one of the n records at `at` one of the m lent ids?
-fn any_input(s: &[u8], at: usize, n: u64, ids: &[u8], m: u64, v: &[u64], ordered: bool) -> bool
+// Is an id of the record read at base one of the m lent ids? Of those that it reads, or else of its inputs.
+fn meets(
+    s: &[u8],
+    base: usize,
+    x: Seen,
+    read: bool,
+    ids: &[u8],
+    m: u64,
+    v: &[u64],
+    ordered: bool,
+) -> bool
+    requires { ⌜ SeenHere (now s) base x × IdsIn (now ids) m × RowsOf (now ids) m (now v) × (ordered ≡ true → InOrder false (now ids) (now v)) ⌝ }
+    ensures { λ r. ⌜ MeetsIs (now (s .entry)) base x read (idsAt (now (ids .entry)) m) r ⌝ }
+{
+    let f = x.facts;
+    if read {
+        return any_lent(s, base, x.reads, f.reads, ids, m, v, ordered);
+    }
+    any_lent(s, base, x.at, f.ins, ids, m, v, ordered)
+}
+
+// The same of one of the n records at `at`.
+fn any_meets(
+    s: &[u8],
+    at: usize,
+    n: u64,
+    read: bool,
+    ids: &[u8],
+    m: u64,
+    v: &[u64],
+    ordered: bool,
+) -> bool
     requires { ⌜ (at ≤ length (now s)) × (whole (formC false recC) n (now s) at ≡ true) × IdsIn (now ids) m × RowsOf (now ids) m (now v) × (ordered ≡ true → InOrder false (now ids) (now v)) ⌝ }
-    ensures { λ r. ⌜ r ≡ meetsIds (idsAt (now (ids .entry)) m) (listAt (formC false recC) n (now (s .entry)) at) ⌝ }
+    ensures { λ r. ⌜ r ≡ meetsIds read (idsAt (now (ids .entry)) m) (listAt (formC false recC) n (now (s .entry)) at) ⌝ }
 {
     let mut i = at;
     let mut left = n;
     while 0 < left {
         let x = rec_at(s, i);
-        let f = x.facts;
-        if any_lent(s, i, x.at, f.ins, ids, m, v, ordered) {
+        if meets(s, i, x, read, ids, m, v, ordered) {
             return true;
         }
         i = after_in(s, false, i, x.size);
@@ -144,21 +175,21 @@ fn any_input(s: &[u8], at: usize, n: u64, ids: &[u8], m: u64, v: &[u64], ordered
 }
 
 // The rows of v are put in order first.
-fn clash_by(ids: &[u8], m: u64, s: &[u8], at: usize, n: u64, v: &mut [u64]) -> bool
+fn clash_by(ids: &[u8], m: u64, s: &[u8], at: usize, n: u64, read: bool, v: &mut [u64]) -> bool
     requires { ⌜ (at ≤ length (now s)) × (whole (formC false recC) n (now s) at ≡ true) × IdsIn (now ids) m × RowsOf (now ids) m (now v) ⌝ }
-    ensures { λ r. ⌜ r ≡ clash? (idsAt (now (ids .entry)) m) (listAt (formC false recC) n (now (s .entry)) at) ⌝ }
+    ensures { λ r. ⌜ r ≡ clashes read (idsAt (now (ids .entry)) m) (listAt (formC false recC) n (now (s .entry)) at) ⌝ }
 {
     order_rows(ids, Order::Ids(false), v);
     let o = in_order(ids, false, v);
-    any_input(s, at, n, ids, m, v, o)
+    any_meets(s, at, n, read, ids, m, v, o)
 }
 
-// Is one of m lent ids an input of one of the n records at `at`?
-pub fn ids_clash(ids: &[u8], m: u64, s: &[u8], at: usize, n: u64) -> bool
+// Does one of the n records at `at` spend one of m lent ids, or, if so asked, read it?
+pub fn ids_clash(ids: &[u8], m: u64, s: &[u8], at: usize, n: u64, read: bool) -> bool
     requires { ⌜ IdsIn (now ids) m × (at ≤ length (now s)) × (whole (formC false recC) n (now s) at ≡ true) × (m ≤ 128) × (length (now ids) < 4294967296) ⌝ }
-    ensures { λ r. ⌜ r ≡ clash? (idsAt (now (ids .entry)) m) (listAt (formC false recC) n (now (s .entry)) at) ⌝ }
+    ensures { λ r. ⌜ r ≡ clashes read (idsAt (now (ids .entry)) m) (listAt (formC false recC) n (now (s .entry)) at) ⌝ }
 {
     let mut v = [0u64; 128];
     let k = place_rows(ids, m, &mut v);
-    clash_by(ids, m, s, at, n, &mut v[..k])
+    clash_by(ids, m, s, at, n, read, &mut v[..k])
 }

@@ -15,9 +15,9 @@ ghost use mathlib.Core.Path.{_≡_};
 ghost use Prim.Native.Nat.{_+_, _≤_, _<_, _^_};
 ghost use lib.ListN.{length, getD};
 ghost use Rattle.queue.specs.Codec.{beC, optC};
-ghost use Rattle.queue.specs.Frames.{idC, labelC, termsC, placeC, bodyC, restK, recK, recC, fourC, limitsK, headK};
+ghost use Rattle.queue.specs.Frames.{idC, labelC, termsC, placeC, readsC, bodyK, restK, recK, recC, fourC, limitsK, headK};
 ghost use Rattle.queue.specs.Reads.{Reads, Span, OptSpan, Counted, flagC};
-ghost use Rattle.queue.specs.Facts.{TagAt, MarkAt, CallerAt, NumAt, OptAt, PlaceAs, TermsAs, BodyAs, RestAs, SeenUnder, SeenAs, LimAs, SharesAt, LimitsAs, HeadUnder};
+ghost use Rattle.queue.specs.Facts.{TagAt, MarkAt, CallerAt, ReadsAt, NumAt, OptAt, PlaceAs, TermsAs, BodyAs, RestAs, SeenUnder, SeenAs, LimAs, SharesAt, LimitsAs, HeadUnder};
 ghost use mathlib.Core.Bool.{true, false};
 ghost use Rattle.queue.specs.paper.Sound.{labelLen};
 ghost use Rattle.queue.specs.paper.Kinds.{kind?};
@@ -40,13 +40,16 @@ pub struct Form {
 }
 
 // The header kind that is written.
-pub const NEWEST: u8 = 4;
+pub const NEWEST: u8 = 5;
 
 // The header kind that brought the withdrawn mark 3.
 const MARK_3: u8 = 3;
 
 // The header kind that brought the caller and the shares.
 pub const CALLERS: u8 = 4;
+
+// The header kind that brought the read ids.
+pub const READS: u8 = 5;
 
 // The frames of an area.
 pub const AREA: Form = Form {
@@ -111,15 +114,17 @@ pub struct PlaceR {
     pub next: usize,
 }
 
-// What a holder has: how many inputs, outputs and signed bytes, and where they start.
+// What a holder has: how many inputs, outputs, read ids and signed bytes, and where they start.
 pub struct BodyR {
     pub ok: bool,
     pub holder: bool,
     pub ins: u64,
     pub outs: u64,
+    pub reads: u64,
     pub bytes: u64,
     pub at: usize,
     pub to: usize,
+    pub seen: usize,
     pub content: usize,
     pub next: usize,
 }
@@ -157,6 +162,7 @@ pub struct Facts {
     pub holder: bool,
     pub ins: u64,
     pub outs: u64,
+    pub reads: u64,
     pub bytes: u64,
 }
 
@@ -164,7 +170,7 @@ pub struct Facts {
 pub const TERMS: usize = 36;
 
 // A record read. Its terms end at after, its place at after..mark, its withdrawn mark at mark, its holder flag at
-// body, its inputs at at, its outputs at outs, its signed bytes at content; the frame ends at size.
+// body, its inputs at at, its outputs at outs, its read ids at reads, its signed bytes at content; the frame ends at size.
 pub struct Seen {
     pub ok: bool,
     pub id: [u8; 32],
@@ -174,6 +180,7 @@ pub struct Seen {
     pub body: usize,
     pub at: usize,
     pub outs: usize,
+    pub reads: usize,
     pub content: usize,
     pub size: usize,
 }
@@ -453,23 +460,42 @@ pub fn place_at(s: &[u8], hex: bool, base: usize, at: usize) -> PlaceR
     }
 }
 
-pub fn body_at(s: &[u8], hex: bool, base: usize, at: usize) -> BodyR
-    ensures { λ r. ⌜ Reads bodyC (view hex (now (s .entry)) base) at (r .ok) (r .next) (BodyAs (view hex (now (s .entry)) base) r) ⌝ }
+// The read ids where the kind has them; else none.
+fn reads_at(s: &[u8], form: Form, base: usize, at: usize) -> Items
+    ensures { λ r. ⌜ ReadsAt (form .kind) (view (form .hex) (now (s .entry)) base) at r ⌝ }
 {
+    if form.kind < READS {
+        return Items {
+            ok: true,
+            len: 0,
+            start: at,
+            next: at,
+        };
+    }
+    counted(s, form.hex, base, at, 2, 32)
+}
+
+fn body_at(s: &[u8], form: Form, base: usize, at: usize) -> BodyR
+    ensures { λ r. ⌜ Reads (bodyK (form .kind)) (view (form .hex) (now (s .entry)) base) at (r .ok) (r .next) (BodyAs (form .kind) (view (form .hex) (now (s .entry)) base) r) ⌝ }
+{
+    let hex = form.hex;
     let f = flag_at(s, hex, base, at);
     if f.has {
         let i = counted(s, hex, base, f.next, 2, 32);
         let o = counted(s, hex, base, i.next, 2, 32);
-        let b = counted(s, hex, base, o.next, 4, 1);
-        let ok = all4(f.ok, i.ok, o.ok, b.ok);
+        let d = reads_at(s, form, base, o.next);
+        let b = counted(s, hex, base, d.next, 4, 1);
+        let ok = all4(f.ok, i.ok, o.ok, both(d.ok, b.ok));
         return BodyR {
             ok: ok,
             holder: true,
             ins: i.len,
             outs: o.len,
+            reads: d.len,
             bytes: b.len,
             at: i.start,
             to: o.start,
+            seen: d.start,
             content: b.start,
             next: b.next,
         };
@@ -479,9 +505,11 @@ pub fn body_at(s: &[u8], hex: bool, base: usize, at: usize) -> BodyR
         holder: false,
         ins: 0,
         outs: 0,
+        reads: 0,
         bytes: 0,
         at: f.next,
         to: f.next,
+        seen: f.next,
         content: f.next,
         next: f.next,
     }
@@ -502,13 +530,13 @@ fn mark_at(s: &[u8], form: Form, base: usize, at: usize) -> NumR
 }
 
 fn rest_at(s: &[u8], form: Form, base: usize, at: usize) -> RestR
-    ensures { λ r. ⌜ Reads (restK (form .kind)) (view (form .hex) (now (s .entry)) base) at (r .ok) (r .next) (RestAs (view (form .hex) (now (s .entry)) base) at r) ⌝ }
+    ensures { λ r. ⌜ Reads (restK (form .kind)) (view (form .hex) (now (s .entry)) base) at (r .ok) (r .next) (RestAs (form .kind) (view (form .hex) (now (s .entry)) base) at r) ⌝ }
 {
     let hex = form.hex;
     let a = place_at(s, hex, base, at);
     let b = mark_at(s, form, base, a.next);
     let c = num(s, hex, base, b.next, 8);
-    let d = body_at(s, hex, base, c.next);
+    let d = body_at(s, form, base, c.next);
     let ok = all4(a.ok, b.ok, c.ok, d.ok);
     let mined = a.height;
     RestR {
@@ -574,6 +602,7 @@ fn rec_any(s: &[u8], form: Form, base: usize) -> Seen
         holder: h.holder,
         ins: h.ins,
         outs: h.outs,
+        reads: h.reads,
         bytes: h.bytes,
     };
     let ok = all4(a.ok, b.ok, w.ok, all4(c.ok, d.ok, t.ok, e.ok));
@@ -587,6 +616,7 @@ fn rec_any(s: &[u8], form: Form, base: usize) -> Seen
         body: e.body,
         at: h.at,
         outs: h.to,
+        reads: h.seen,
         content: h.content,
         size: e.next,
     }
@@ -712,7 +742,7 @@ pub fn kind_at(s: &[u8], hex: bool, base: usize) -> u8
 pub fn known(kind: u8) -> bool
     ensures { λ r. ⌜ r ≡ kind? kind ⌝ }
 {
-    either(kind == 1, either(kind == 3, kind == 4))
+    either(kind == 1, either(kind == 3, either(kind == 4, kind == 5)))
 }
 
 pub fn head_at(s: &[u8], form: Form, base: usize) -> HeadR

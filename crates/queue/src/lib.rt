@@ -21,6 +21,7 @@ pub mod parents;
 pub mod pieces;
 pub mod put;
 pub mod reading;
+pub mod reads;
 pub mod rebuild;
 pub mod reconcile;
 pub mod release;

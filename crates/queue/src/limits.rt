@@ -107,7 +107,7 @@ impl Limits {
         requires { ⌜ inRange (limitsIn l) ≡ true ⌝ }
         ensures { λ r. ⌜ (r ≡ need (limitsIn l)) × (r ≤ needMost) ⌝ }
     {
-        (2 * l.b + 2 * l.p * (512 + 64 * l.k) + 512 * l.t + 512) as usize
+        (2 * l.b + 2 * l.p * (512 + 96 * l.k) + 512 * l.t + 512) as usize
     }
 
     // A fresh queue under these limits. Refusals 1, 2, 5.

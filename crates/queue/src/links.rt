@@ -30,7 +30,7 @@ ghost use Rattle.queue.specs.View.{view};
 ghost use Rattle.queue.specs.Reads.{whole, listAt};
 ghost use Rattle.queue.specs.Suspects.{idR, noR, later, InOrder};
 ghost use Rattle.queue.specs.fees.Told.{Known};
-ghost use Rattle.queue.specs.parents.Links.{hashAll, wantsAt, Short, Joined, hit, inLine, Zero, Cleared, Kept, Held, Rowed, Begins, Linked, outputsLinked};
+ghost use Rattle.queue.specs.parents.Links.{hashAll, wantsAt, Short, Joined, hit, inLine, Zero, Cleared, Kept, Held, Rowed, Begins, Again, Thinner, Thinned, Linked, outputsLinked};
 ghost use Rattle.queue.specs.paper.Lists.{any?};
 ghost use Rattle.queue.specs.paper.Sound.{among?};
 
@@ -116,19 +116,20 @@ fn keep_rows(
     t: &mut [u64],
     v: &mut [u64],
 ) -> Block
-    requires { ⌜ All (Known (now s)) (now at) × All (Short (now s)) (now at) × (length (now s) < 4294967296) × (a < length (now at)) × (length (now at) ≤ 2048) × (128 ≤ length (now v)) × (0 < length (now slots)) × (0 < length (now t)) × Zero (now slots) ⌝ }
+    requires { ⌜ All (Known (now s)) (now at) × All (Short (now s)) (now at) × (length (now s) < 4294967296) × (a < length (now at)) × (length (now at) ≤ 2048) × (256 ≤ length (now v)) × (0 < length (now slots)) × (0 < length (now t)) × Zero (now slots) ⌝ }
     ensures { λ r. ⌜ Held (now (s .entry)) (now (slots .exit)) (now (t .exit)) (take (r .len) (now (v .exit))) (λ j z. (leb a j && ltb j (r .next)) && among? z (wantsAt (now (s .entry)) (now (at .entry)) j)) × (a < r .next) × (r .next ≤ length (now (at .entry))) × (r .len ≤ length (now (v .entry))) ⌝ }
 {
     let mut b = a;
     let mut k: usize = 0;
     while b < at.len() {
-        if v.len() - k < 128 {
+        if v.len() - k < 256 {
             return Block { next: b, len: k };
         }
         let p = at[b];
         let x = rec_at(s, p);
         let f = x.facts;
         k = keep_ids(s, p, x.at, f.ins, b as u64, slots, t, v, k);
+        k = keep_ids(s, p, x.reads, f.reads, b as u64, slots, t, v, k);
         b += 1;
     }
     Block { next: b, len: k }
@@ -294,7 +295,67 @@ fn link_all(
     }
 }
 
-// The rows of v are put in order first.
+// Has the last of the first k rows the id and the number of x?
+fn is_again(s: &[u8], v: &[u64], k: usize, x: u64) -> bool
+    requires { ⌜ k ≤ length (now v) ⌝ }
+    ensures { λ r. ⌜ (r ≡ true → Again (now (s .entry)) (now (v .entry)) k x) ⌝ }
+{
+    if k == 0 {
+        return false;
+    }
+    let w = v[k - 1];
+    both(
+        cmp_rows(s, false, w, x) == 1,
+        w % 4294967296 == x % 4294967296,
+    )
+}
+
+// The row x behind k others, unless it stands there; returns how many there are then.
+fn put_new(s: &[u8], v: &mut [u64], k: usize, x: u64) -> usize
+    requires { ⌜ k < length (now v) ⌝ }
+    ensures { λ r. ⌜ Thinner (now (s .entry)) (now (v .entry)) k x r (now (v .exit)) ⌝ }
+{
+    if is_again(s, v, k, x) {
+        return k;
+    }
+    v[k] = x;
+    k + 1
+}
+
+// The rows of v, which is in order, without those that stand there again: an id that one record wants often costs no more. How many
+// are left, at the front.
+fn thin(s: &[u8], v: &mut [u64]) -> usize
+    ensures { λ r. ⌜ Thinned (now (s .entry)) (now (v .entry)) (take r (now (v .exit))) × (r ≤ length (now (v .entry))) ⌝ }
+{
+    let n = v.len();
+    let mut i: usize = 0;
+    let mut k: usize = 0;
+    while i < n {
+        let x = v[i];
+        k = put_new(s, v, k, x);
+        i += 1;
+    }
+    k
+}
+
+// The bits for all that want an output of a row, by rows that have been put in order.
+fn link_ordered(
+    s: &[u8],
+    at: &[usize],
+    slots: &[u64],
+    t: &[u64],
+    v: &[u64],
+    bits: &mut [u64],
+    w: usize,
+)
+    requires { ⌜ All (Known (now s)) (now at) × (length (now s) < 4294967296) × (0 < length (now slots)) × (0 < length (now t)) × (length (now at) * w ≤ length (now bits)) × (length (now at) ≤ 2048) ⌝ }
+    ensures { λ _. ⌜ Linked w (now (s .entry)) (now (slots .entry)) (now (t .entry)) (now (v .entry)) (now (bits .entry)) (now (bits .exit)) (outputsLinked (now (s .entry)) (now (at .entry))) ⌝ }
+{
+    let o = in_order(s, false, v);
+    link_all(s, at, slots, t, v, o, bits, w);
+}
+
+// The rows of v are put in order first, and each is left once.
 fn link_block(
     s: &[u8],
     at: &[usize],
@@ -308,8 +369,8 @@ fn link_block(
     ensures { λ _. ⌜ Linked w (now (s .entry)) (now (slots .entry)) (now (t .entry)) (now (v .entry)) (now (bits .entry)) (now (bits .exit)) (outputsLinked (now (s .entry)) (now (at .entry))) ⌝ }
 {
     order_rows(s, Order::Ids(false), v);
-    let o = in_order(s, false, v);
-    link_all(s, at, slots, t, v, o, bits, w);
+    let n = thin(s, v);
+    link_ordered(s, at, slots, t, &v[..n], bits, w);
 }
 
 // The bits of all pairs of rows: that of j in the line of i, where another record j wants an output of i. The slots are empty at first.
@@ -322,7 +383,7 @@ pub fn links(
     bits: &mut [u64],
     w: usize,
 )
-    requires { ⌜ All (Known (now s)) (now at) × All (Short (now s)) (now at) × (length (now s) < 4294967296) × (length (now at) ≤ 2048) × (128 ≤ length (now v)) × (0 < length (now slots)) × (0 < length (now t)) × (length (now at) * w ≤ length (now bits)) × Zero (now slots) ⌝ }
+    requires { ⌜ All (Known (now s)) (now at) × All (Short (now s)) (now at) × (length (now s) < 4294967296) × (length (now at) ≤ 2048) × (256 ≤ length (now v)) × (0 < length (now slots)) × (0 < length (now t)) × (length (now at) * w ≤ length (now bits)) × Zero (now slots) ⌝ }
     ensures { λ _. ⌜ Joined w (now (bits .entry)) (now (bits .exit)) (outputsLinked (now (s .entry)) (now (at .entry)) (λ j z. ltb j (length (now (at .entry))) && among? z (wantsAt (now (s .entry)) (now (at .entry)) j))) ⌝ }
 {
     let mut a: usize = 0;

@@ -1,5 +1,6 @@
 // The reader of a record in bytes with 400 or more behind its start: all fields before the inputs are there, so that their places
 // are known without a test.
+use super::frame::BodyR;
 use super::frame::Facts;
 use super::frame::Finish;
 use super::frame::Height;
@@ -11,7 +12,8 @@ use super::frame::RestR;
 use super::frame::Seen;
 use super::frame::TermsR;
 use super::frame::Time;
-use super::frame::body_at;
+use super::frame::counted;
+use super::frame::flag_at;
 use super::logic::all4;
 use super::logic::all8;
 use super::logic::both;
@@ -22,11 +24,12 @@ ghost use mathlib.Core.Path.{_≡_};
 ghost use mathlib.Core.Bool.{false};
 ghost use Prim.Native.Nat.{_+_, _≤_, _<_};
 ghost use lib.ListN.{length, getD};
-ghost use Rattle.queue.specs.Frames.{labelC, termsC, placeC, restC, recC};
+ghost use Rattle.queue.specs.Frames.{labelC, termsC, placeC, bodyC, restC, recC};
 ghost use Rattle.queue.specs.Reads.{Reads, flagC};
-ghost use Rattle.queue.specs.Facts.{NumAt, OptAt, PlaceAs, TermsAs, RestAs, SeenAs};
+ghost use Rattle.queue.specs.Facts.{NumAt, OptAt, PlaceAs, TermsAs, BodyAs, RestAs, SeenAs};
 ghost use Rattle.queue.specs.Near.{Near};
 ghost use Rattle.queue.specs.paper.Sound.{labelLen};
+ghost use Rattle.queue.specs.paper.Kinds.{newest};
 ghost use Rattle.queue.specs.View.{view};
 
 fn num_near(s: &[u8], base: usize, at: usize, n: usize) -> NumR
@@ -159,14 +162,54 @@ fn place_near(s: &[u8], base: usize, at: usize) -> PlaceR
     }
 }
 
+// As `frame::body_at`, for an area alone.
+fn body_near(s: &[u8], base: usize, at: usize) -> BodyR
+    ensures { λ r. ⌜ Reads bodyC (view false (now (s .entry)) base) at (r .ok) (r .next) (BodyAs newest (view false (now (s .entry)) base) r) ⌝ }
+{
+    let f = flag_at(s, false, base, at);
+    if f.has {
+        let i = counted(s, false, base, f.next, 2, 32);
+        let o = counted(s, false, base, i.next, 2, 32);
+        let d = counted(s, false, base, o.next, 2, 32);
+        let b = counted(s, false, base, d.next, 4, 1);
+        let ok = all4(f.ok, i.ok, o.ok, both(d.ok, b.ok));
+        return BodyR {
+            ok: ok,
+            holder: true,
+            ins: i.len,
+            outs: o.len,
+            reads: d.len,
+            bytes: b.len,
+            at: i.start,
+            to: o.start,
+            seen: d.start,
+            content: b.start,
+            next: b.next,
+        };
+    }
+    BodyR {
+        ok: f.ok,
+        holder: false,
+        ins: 0,
+        outs: 0,
+        reads: 0,
+        bytes: 0,
+        at: f.next,
+        to: f.next,
+        seen: f.next,
+        content: f.next,
+        next: f.next,
+    }
+}
+
 fn rest_near(s: &[u8], base: usize, at: usize) -> RestR
     requires { ⌜ Near (view false (now s) base) at 46 ⌝ }
-    ensures { λ r. ⌜ Reads restC (view false (now (s .entry)) base) at (r .ok) (r .next) (RestAs (view false (now (s .entry)) base) at r) ⌝ }
+    ensures { λ r. ⌜ Reads restC (view false (now (s .entry)) base) at (r .ok) (r .next) (RestAs newest (view false (now (s .entry)) base) at r) ⌝ }
 {
     let a = place_near(s, base, at);
     let b = num_near(s, base, a.next, 1);
     let c = num_near(s, base, b.next, 8);
-    let d = body_at(s, false, base, c.next);
+    let d = body_near(s, base, c.next);
     let ok = all4(a.ok, b.ok, c.ok, d.ok);
     let mined = a.height;
     RestR {
@@ -217,6 +260,7 @@ pub fn rec_near(s: &[u8], base: usize) -> Seen
         holder: h.holder,
         ins: h.ins,
         outs: h.outs,
+        reads: h.reads,
         bytes: h.bytes,
     };
     let ok = all4(true, true, w.ok, all4(c.ok, d.ok, t.ok, e.ok));
@@ -229,6 +273,7 @@ pub fn rec_near(s: &[u8], base: usize) -> Seen
         body: e.body,
         at: h.at,
         outs: h.to,
+        reads: h.seen,
         content: h.content,
         size: e.next,
     }

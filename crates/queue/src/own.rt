@@ -1,5 +1,6 @@
-// Which inputs are owned: available, or an output of a Queued record. There is a flag for each input of all records, in their order.
-// The outputs go into a table of rows. Full, and at the end, it is put in order, and each input without a flag is looked up in it.
+// Which wanted ids, inputs and read ids, are owned: available, or an output of a Queued record. There is a flag for each wanted id of all
+// records, in their order. The outputs go into a table of rows. Full, and at the end, it is put in order, and each wanted id without a flag
+// is looked up in it.
 use super::forms::after_in;
 use super::frame::Seen;
 use super::frame::id_read;
@@ -22,18 +23,17 @@ ghost use Rattle.queue.specs.Forms.{formC};
 ghost use Rattle.queue.specs.View.{view};
 ghost use Rattle.queue.specs.Reads.{whole, listAt};
 ghost use Rattle.queue.specs.Reopens.{IdsRise, idsAt};
-ghost use Rattle.queue.specs.Reserving.{inputsOf};
 ghost use Rattle.queue.specs.Suspects.{later, InOrder};
 ghost use Rattle.queue.specs.Touching.{ownIds};
-ghost use Rattle.queue.specs.Owning.{set?, ownF, markAll, FlagsAre, Settled, Taken};
+ghost use Rattle.queue.specs.Owning.{set?, wantedOf, ownF, markAll, FlagsAre, Settled, Taken};
 ghost use Rattle.queue.specs.paper.Lists.{one, all?};
 ghost use Rattle.queue.specs.paper.Sound.{among?};
 ghost use Rattle.queue.specs.paper.Changing.{queuedOutputs};
 
-// How many inputs n records at `at` have.
-pub fn count_inputs(s: &[u8], at: usize, n: u64) -> u64
+// How many ids n records at `at` want.
+pub fn count_wanted(s: &[u8], at: usize, n: u64) -> u64
     requires { ⌜ (at ≤ length (now s)) × (whole (formC false recC) n (now s) at ≡ true) × (n < 4294967296) ⌝ }
-    ensures { λ r. ⌜ (r ≡ length (inputsOf (listAt (formC false recC) n (now (s .entry)) at))) × (r ≤ n * 65535) ⌝ }
+    ensures { λ r. ⌜ (r ≡ length (wantedOf (listAt (formC false recC) n (now (s .entry)) at))) × (r ≤ n * 131070) ⌝ }
 {
     let mut i = at;
     let mut left = n;
@@ -41,7 +41,7 @@ pub fn count_inputs(s: &[u8], at: usize, n: u64) -> u64
     while 0 < left {
         let x = rec_at(s, i);
         let f = x.facts;
-        total = total + f.ins;
+        total = total + (f.ins + f.reads);
         i = after_in(s, false, i, x.size);
         left = left - 1;
     }
@@ -128,7 +128,7 @@ fn mark_ids(
     }
 }
 
-// The flags of all inputs of n records at `at`.
+// The flags of all wanted ids of n records at `at`.
 fn mark_all(
     s: &[u8],
     at: usize,
@@ -140,8 +140,8 @@ fn mark_all(
     ordered: bool,
     flags: &mut [u8],
 )
-    requires { ⌜ (at ≤ length (now s)) × (whole (formC false recC) n (now s) at ≡ true) × (length (now s) < 4294967296) × IdsRise (now ids) m × (ordered ≡ true → InOrder false (now s) (now v)) × (length (inputsOf (listAt (formC false recC) n (now s) at)) ≤ length (now flags)) ⌝ }
-    ensures { λ _. ⌜ now (flags .exit) ≡ markAll (ownF first (idsAt (now (ids .entry)) m) (now (s .entry)) (now (v .entry))) (inputsOf (listAt (formC false recC) n (now (s .entry)) at)) (now (flags .entry)) 0 ⌝ }
+    requires { ⌜ (at ≤ length (now s)) × (whole (formC false recC) n (now s) at ≡ true) × (length (now s) < 4294967296) × IdsRise (now ids) m × (ordered ≡ true → InOrder false (now s) (now v)) × (length (wantedOf (listAt (formC false recC) n (now s) at)) ≤ length (now flags)) ⌝ }
+    ensures { λ _. ⌜ now (flags .exit) ≡ markAll (ownF first (idsAt (now (ids .entry)) m) (now (s .entry)) (now (v .entry))) (wantedOf (listAt (formC false recC) n (now (s .entry)) at)) (now (flags .entry)) 0 ⌝ }
 {
     let mut i = at;
     let mut left = n;
@@ -151,15 +151,17 @@ fn mark_all(
         let f = x.facts;
         mark_ids(s, i, x.at, f.ins, first, ids, m, v, ordered, flags, g);
         g = g + f.ins as usize;
+        mark_ids(s, i, x.reads, f.reads, first, ids, m, v, ordered, flags, g);
+        g = g + f.reads as usize;
         i = after_in(s, false, i, x.size);
         left = left - 1;
     }
 }
 
-// The flags of the inputs that are rows'.
+// The flags of the wanted ids that are rows'.
 fn settle(s: &[u8], at: usize, n: u64, ids: &[u8], m: u64, v: &mut [u64], flags: &mut [u8])
-    requires { ⌜ (at ≤ length (now s)) × (whole (formC false recC) n (now s) at ≡ true) × (length (now s) < 4294967296) × IdsRise (now ids) m × (length (inputsOf (listAt (formC false recC) n (now s) at)) ≤ length (now flags)) ⌝ }
-    ensures { λ _. ⌜ Settled (now (s .entry)) (inputsOf (listAt (formC false recC) n (now (s .entry)) at)) (now (flags .entry)) (now (v .entry)) (now (flags .exit)) (now (v .exit)) ⌝ }
+    requires { ⌜ (at ≤ length (now s)) × (whole (formC false recC) n (now s) at ≡ true) × (length (now s) < 4294967296) × IdsRise (now ids) m × (length (wantedOf (listAt (formC false recC) n (now s) at)) ≤ length (now flags)) ⌝ }
+    ensures { λ _. ⌜ Settled (now (s .entry)) (wantedOf (listAt (formC false recC) n (now (s .entry)) at)) (now (flags .entry)) (now (v .entry)) (now (flags .exit)) (now (v .exit)) ⌝ }
 {
     order_rows(s, Order::Ids(false), v);
     let o = in_order(s, false, v);
@@ -178,8 +180,8 @@ fn add_row(
     k: usize,
     w: u64,
 ) -> usize
-    requires { ⌜ (at ≤ length (now s)) × (whole (formC false recC) n (now s) at ≡ true) × (length (now s) < 4294967296) × IdsRise (now ids) m × (length (inputsOf (listAt (formC false recC) n (now s) at)) ≤ length (now flags)) × (k ≤ length (now v)) × (0 < length (now v)) ⌝ }
-    ensures { λ r. ⌜ Taken (now (s .entry)) (inputsOf (listAt (formC false recC) n (now (s .entry)) at)) (now (flags .entry)) (take k (now (v .entry))) (λ z. later false (now (s .entry)) z 0 w) (now (flags .exit)) (take r (now (v .exit))) × (r ≤ length (now (v .entry))) ⌝ }
+    requires { ⌜ (at ≤ length (now s)) × (whole (formC false recC) n (now s) at ≡ true) × (length (now s) < 4294967296) × IdsRise (now ids) m × (length (wantedOf (listAt (formC false recC) n (now s) at)) ≤ length (now flags)) × (k ≤ length (now v)) × (0 < length (now v)) ⌝ }
+    ensures { λ r. ⌜ Taken (now (s .entry)) (wantedOf (listAt (formC false recC) n (now (s .entry)) at)) (now (flags .entry)) (take k (now (v .entry))) (λ z. later false (now (s .entry)) z 0 w) (now (flags .exit)) (take r (now (v .exit))) × (r ≤ length (now (v .entry))) ⌝ }
 {
     if k < v.len() {
         v[k] = w;
@@ -204,8 +206,8 @@ fn add_rows(
     outs: usize,
     c: u64,
 ) -> usize
-    requires { ⌜ (at ≤ length (now s)) × (whole (formC false recC) n (now s) at ≡ true) × (length (now s) < 4294967296) × IdsRise (now ids) m × (length (inputsOf (listAt (formC false recC) n (now s) at)) ≤ length (now flags)) × (k ≤ length (now v)) × (0 < length (now v)) × (outs ≤ length (view false (now s) base)) × (whole idC c (view false (now s) base) outs ≡ true) ⌝ }
-    ensures { λ r. ⌜ Taken (now (s .entry)) (inputsOf (listAt (formC false recC) n (now (s .entry)) at)) (now (flags .entry)) (take k (now (v .entry))) (λ z. among? z (listAt idC c (view false (now (s .entry)) base) outs)) (now (flags .exit)) (take r (now (v .exit))) × (r ≤ length (now (v .entry))) ⌝ }
+    requires { ⌜ (at ≤ length (now s)) × (whole (formC false recC) n (now s) at ≡ true) × (length (now s) < 4294967296) × IdsRise (now ids) m × (length (wantedOf (listAt (formC false recC) n (now s) at)) ≤ length (now flags)) × (k ≤ length (now v)) × (0 < length (now v)) × (outs ≤ length (view false (now s) base)) × (whole idC c (view false (now s) base) outs ≡ true) ⌝ }
+    ensures { λ r. ⌜ Taken (now (s .entry)) (wantedOf (listAt (formC false recC) n (now (s .entry)) at)) (now (flags .entry)) (take k (now (v .entry))) (λ z. among? z (listAt idC c (view false (now (s .entry)) base) outs)) (now (flags .exit)) (take r (now (v .exit))) × (r ≤ length (now (v .entry))) ⌝ }
 {
     let mut i = outs;
     let mut left = c;
@@ -233,8 +235,8 @@ fn add_outputs(
     base: usize,
     x: Seen,
 ) -> usize
-    requires { ⌜ (at ≤ length (now s)) × (whole (formC false recC) n (now s) at ≡ true) × (length (now s) < 4294967296) × IdsRise (now ids) m × (length (inputsOf (listAt (formC false recC) n (now s) at)) ≤ length (now flags)) × (k ≤ length (now v)) × (0 < length (now v)) × (x .outs ≤ length (view false (now s) base)) × (whole idC (x .facts .outs) (view false (now s) base) (x .outs) ≡ true) ⌝ }
-    ensures { λ r. ⌜ Taken (now (s .entry)) (inputsOf (listAt (formC false recC) n (now (s .entry)) at)) (now (flags .entry)) (take k (now (v .entry))) (λ z. eqb (x .facts .state) 0 && among? z (listAt idC (x .facts .outs) (view false (now (s .entry)) base) (x .outs))) (now (flags .exit)) (take r (now (v .exit))) × (r ≤ length (now (v .entry))) ⌝ }
+    requires { ⌜ (at ≤ length (now s)) × (whole (formC false recC) n (now s) at ≡ true) × (length (now s) < 4294967296) × IdsRise (now ids) m × (length (wantedOf (listAt (formC false recC) n (now s) at)) ≤ length (now flags)) × (k ≤ length (now v)) × (0 < length (now v)) × (x .outs ≤ length (view false (now s) base)) × (whole idC (x .facts .outs) (view false (now s) base) (x .outs) ≡ true) ⌝ }
+    ensures { λ r. ⌜ Taken (now (s .entry)) (wantedOf (listAt (formC false recC) n (now (s .entry)) at)) (now (flags .entry)) (take k (now (v .entry))) (λ z. eqb (x .facts .state) 0 && among? z (listAt idC (x .facts .outs) (view false (now (s .entry)) base) (x .outs))) (now (flags .exit)) (take r (now (v .exit))) × (r ≤ length (now (v .entry))) ⌝ }
 {
     let f = x.facts;
     if f.state != 0 {
@@ -253,8 +255,8 @@ fn add_queued(
     v: &mut [u64],
     flags: &mut [u8],
 ) -> usize
-    requires { ⌜ (at ≤ length (now s)) × (whole (formC false recC) n (now s) at ≡ true) × (length (now s) < 4294967296) × IdsRise (now ids) m × (length (inputsOf (listAt (formC false recC) n (now s) at)) ≤ length (now flags)) × (0 < length (now v)) ⌝ }
-    ensures { λ r. ⌜ Taken (now (s .entry)) (inputsOf (listAt (formC false recC) n (now (s .entry)) at)) (now (flags .entry)) [] (λ z. among? z (queuedOutputs (listAt (formC false recC) n (now (s .entry)) at))) (now (flags .exit)) (take r (now (v .exit))) × (r ≤ length (now (v .entry))) ⌝ }
+    requires { ⌜ (at ≤ length (now s)) × (whole (formC false recC) n (now s) at ≡ true) × (length (now s) < 4294967296) × IdsRise (now ids) m × (length (wantedOf (listAt (formC false recC) n (now s) at)) ≤ length (now flags)) × (0 < length (now v)) ⌝ }
+    ensures { λ r. ⌜ Taken (now (s .entry)) (wantedOf (listAt (formC false recC) n (now (s .entry)) at)) (now (flags .entry)) [] (λ z. among? z (queuedOutputs (listAt (formC false recC) n (now (s .entry)) at))) (now (flags .exit)) (take r (now (v .exit))) × (r ≤ length (now (v .entry))) ⌝ }
 {
     let mut i = at;
     let mut left = n;
@@ -268,7 +270,7 @@ fn add_queued(
     k
 }
 
-// The flags of all inputs of n records at `at`. Outputs are looked at only where an input is not available.
+// The flags of all wanted ids of n records at `at`. Outputs are looked at only where one is not available.
 pub fn own_flags(
     s: &[u8],
     at: usize,
@@ -279,8 +281,8 @@ pub fn own_flags(
     flags: &mut [u8],
     total: u64,
 )
-    requires { ⌜ (at ≤ length (now s)) × (whole (formC false recC) n (now s) at ≡ true) × (length (now s) < 4294967296) × IdsRise (now ids) m × (total ≡ length (inputsOf (listAt (formC false recC) n (now s) at))) × (total ≤ length (now flags)) × (0 < length (now v)) ⌝ }
-    ensures { λ _. ⌜ FlagsAre (λ z. among? z (ownIds (idsAt (now (ids .entry)) m) (listAt (formC false recC) n (now (s .entry)) at))) (inputsOf (listAt (formC false recC) n (now (s .entry)) at)) (now (flags .exit)) ⌝ }
+    requires { ⌜ (at ≤ length (now s)) × (whole (formC false recC) n (now s) at ≡ true) × (length (now s) < 4294967296) × IdsRise (now ids) m × (total ≡ length (wantedOf (listAt (formC false recC) n (now s) at))) × (total ≤ length (now flags)) × (0 < length (now v)) ⌝ }
+    ensures { λ _. ⌜ FlagsAre (λ z. among? z (ownIds (idsAt (now (ids .entry)) m) (listAt (formC false recC) n (now (s .entry)) at))) (wantedOf (listAt (formC false recC) n (now (s .entry)) at)) (now (flags .exit)) ⌝ }
 {
     mark_all(s, at, n, true, ids, m, v, false, flags);
     if all_set(flags, 0, total) {
@@ -290,7 +292,7 @@ pub fn own_flags(
     settle(s, at, n, ids, m, &mut v[..k], flags);
 }
 
-// The same for few inputs: each has one caller, so that the compiler makes one function of it and its tables (verdicts).
+// The same for few ids: each has one caller, so that the compiler makes one function of it and its tables (verdicts).
 pub fn few_flags(
     s: &[u8],
     at: usize,
@@ -301,8 +303,30 @@ pub fn few_flags(
     flags: &mut [u8],
     total: u64,
 )
-    requires { ⌜ (at ≤ length (now s)) × (whole (formC false recC) n (now s) at ≡ true) × (length (now s) < 4294967296) × IdsRise (now ids) m × (total ≡ length (inputsOf (listAt (formC false recC) n (now s) at))) × (total ≤ length (now flags)) × (0 < length (now v)) ⌝ }
-    ensures { λ _. ⌜ FlagsAre (λ z. among? z (ownIds (idsAt (now (ids .entry)) m) (listAt (formC false recC) n (now (s .entry)) at))) (inputsOf (listAt (formC false recC) n (now (s .entry)) at)) (now (flags .exit)) ⌝ }
+    requires { ⌜ (at ≤ length (now s)) × (whole (formC false recC) n (now s) at ≡ true) × (length (now s) < 4294967296) × IdsRise (now ids) m × (total ≡ length (wantedOf (listAt (formC false recC) n (now s) at))) × (total ≤ length (now flags)) × (0 < length (now v)) ⌝ }
+    ensures { λ _. ⌜ FlagsAre (λ z. among? z (ownIds (idsAt (now (ids .entry)) m) (listAt (formC false recC) n (now (s .entry)) at))) (wantedOf (listAt (formC false recC) n (now (s .entry)) at)) (now (flags .exit)) ⌝ }
+{
+    mark_all(s, at, n, true, ids, m, v, false, flags);
+    if all_set(flags, 0, total) {
+        return;
+    }
+    let k = add_queued(s, at, n, ids, m, v, flags);
+    settle(s, at, n, ids, m, &mut v[..k], flags);
+}
+
+// The same for the most ids.
+pub fn most_flags(
+    s: &[u8],
+    at: usize,
+    n: u64,
+    ids: &[u8],
+    m: u64,
+    v: &mut [u64],
+    flags: &mut [u8],
+    total: u64,
+)
+    requires { ⌜ (at ≤ length (now s)) × (whole (formC false recC) n (now s) at ≡ true) × (length (now s) < 4294967296) × IdsRise (now ids) m × (total ≡ length (wantedOf (listAt (formC false recC) n (now s) at))) × (total ≤ length (now flags)) × (0 < length (now v)) ⌝ }
+    ensures { λ _. ⌜ FlagsAre (λ z. among? z (ownIds (idsAt (now (ids .entry)) m) (listAt (formC false recC) n (now (s .entry)) at))) (wantedOf (listAt (formC false recC) n (now (s .entry)) at)) (now (flags .exit)) ⌝ }
 {
     mark_all(s, at, n, true, ids, m, v, false, flags);
     if all_set(flags, 0, total) {

@@ -56,7 +56,7 @@ fn passes(w: What, f: Facts) -> bool
 }
 
 fn piece_len(w: What, x: Seen) -> usize
-    requires { ⌜ (x .after + 1 ≤ x .mark) × (x .mark ≤ 400) × (x .facts .ins < 65536) ⌝ }
+    requires { ⌜ (x .after + 1 ≤ x .mark) × (x .mark ≤ 400) × (x .facts .ins < 65536) × (x .facts .reads < 65536) ⌝ }
     ensures { λ r. ⌜ (r ≡ pieceLen w x) × (r < 4294967296) ⌝ }
 {
     match w {

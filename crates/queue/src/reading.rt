@@ -133,25 +133,29 @@ pub fn signed_bytes<'a>(area: &'a [u8], id: &[u8]) -> &'a [u8]
 
 // How long the entry of a record is.
 pub fn entry_len(x: Seen) -> usize
-    requires { ⌜ (1 ≤ x .mark) × (x .mark ≤ 400) × (x .facts .ins < 65536) ⌝ }
+    requires { ⌜ (1 ≤ x .mark) × (x .mark ≤ 400) × (x .facts .ins < 65536) × (x .facts .reads < 65536) ⌝ }
     ensures { λ r. ⌜ (r ≡ entryLen x) × (r < 4294967296) ⌝ }
 {
     let f = x.facts;
-    let n = f.ins * 32;
-    x.mark - 1 + (2 + n as usize)
+    let n = f.ins * 32 + f.reads * 32;
+    x.mark - 1 + (4 + n as usize)
 }
 
-// The entry of the record read at base: the frame from its id to its place, and the inputs.
+// The entry of the record read at base: the frame from its id to its place, the inputs and the read ids.
 pub fn put_entry(src: &[u8], base: usize, x: Seen, dst: &mut [u8], at: usize) -> usize
     requires { ⌜ EntryIn (now src) base x × (at + entryLen x ≤ length (now dst)) ⌝ }
     ensures { λ r. ⌜ Put (now (dst .entry)) at (entryAt (now (src .entry)) base x) (entryLen x) r (now (dst .exit)) ⌝ }
 {
     let f = x.facts;
     let n = f.ins * 32;
+    let m = f.reads * 32;
     let i = base + x.at;
+    let j = base + x.reads;
     let a = copy_part(src, base + 1, x.mark - 1, dst, at);
     let b = put_be(dst, a, 2, f.ins);
-    copy_part(src, i, n as usize, dst, b)
+    let c = copy_part(src, i, n as usize, dst, b);
+    let d = put_be(dst, c, 2, f.reads);
+    copy_part(src, j, m as usize, dst, d)
 }
 
 pub fn entry(area: &[u8], id: &[u8], out: &mut [u8]) -> Answer

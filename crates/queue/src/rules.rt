@@ -78,10 +78,13 @@ fn finish_right(counter: Finish, holder: bool, n: Finish) -> bool
 }
 
 fn sizes_right(k: u64, f: Facts) -> bool
-    ensures { λ r. ⌜ r ≡ sizesRight? k (f .label) (f .ins) (f .outs) (f .holder) (f .size) (f .bytes) ⌝ }
+    ensures { λ r. ⌜ r ≡ sizesRight? k (f .label) (f .ins) (f .outs) (f .reads) (f .holder) (f .size) (f .bytes) ⌝ }
 {
     both(
-        both(f.label <= 200, both(f.ins <= k, f.outs <= k)),
+        both(
+            f.label <= 200,
+            both(f.ins <= k, both(f.outs <= k, f.reads <= k)),
+        ),
         either(!f.holder, f.size == f.bytes),
     )
 }

@@ -13,6 +13,7 @@ use super::frame::rec_in;
 use super::logic::both;
 use super::logic::either;
 use super::logic::one_if;
+use super::reads::reads_passes;
 use super::rules::Query;
 use super::rules::right;
 use super::rules::weigh;
@@ -21,7 +22,7 @@ use super::suspects::apart_many;
 use super::view::cmp_id;
 use super::view::same_id;
 ghost use mathlib.Core.Path.{_≡_};
-ghost use mathlib.Core.Bool.{true, false};
+ghost use mathlib.Core.Bool.{true, false, _&&_};
 ghost use Prim.Native.Nat.{_+_, _-_, _*_, _≤_, _<_};
 ghost use lib.ListN.{length, take, drop};
 ghost use Rattle.queue.specs.Frames.{recC, idC};
@@ -29,11 +30,12 @@ ghost use Rattle.queue.specs.Forms.{formC, recIn};
 ghost use Rattle.queue.specs.View.{view};
 ghost use Rattle.queue.specs.Reads.{whole, listAt};
 ghost use Rattle.queue.specs.Rules.{sum};
-ghost use Rattle.queue.specs.Sums.{noSums, Under, Added, Checked};
+ghost use Rattle.queue.specs.Sums.{noSums, Under, Added, unread?, Checked};
 ghost use Rattle.queue.specs.Filter.{hashL, heldBy, Passed};
 ghost use Rattle.queue.specs.paper.Ids.{same?};
 ghost use Rattle.queue.specs.Areas.{zero?};
-ghost use Rattle.queue.specs.paper.Sound.{among?, apart?};
+ghost use Rattle.queue.specs.paper.Lists.{all?};
+ghost use Rattle.queue.specs.paper.Sound.{among?, apart?, readApart?};
 
 pub struct Span {
     pub ok: bool,
@@ -58,8 +60,8 @@ pub fn tally(s: &[u8], at: usize, n: u64, q: Query) -> u64
     total
 }
 
-// What the rules ask of the records: four counts, whether each is right, whether their ids rise. The number of inputs is in no
-// contract: it only says which tables serve.
+// What the rules ask of the records: four counts, whether each is right, whether their ids rise, whether none reads an id. The number
+// of inputs is in no contract: it only says which tables serve.
 pub struct Sums {
     pub holders: u64,
     pub bytes: u64,
@@ -67,6 +69,7 @@ pub struct Sums {
     pub minedbytes: u64,
     pub right: bool,
     pub rises: bool,
+    pub unread: bool,
     pub inputs: u64,
 }
 
@@ -80,6 +83,7 @@ pub fn no_sums() -> Sums
         minedbytes: 0,
         right: true,
         rises: true,
+        unread: true,
         inputs: 0,
     }
 }
@@ -95,6 +99,7 @@ fn add_sums(a: Sums, k: u64, c: Finish, f: Facts, up: bool) -> Sums
     let e = a.minedbytes + weigh(Query::MinedBytes, f);
     let r = both(a.right, right(k, c, f));
     let u = both(a.rises, up);
+    let d = both(a.unread, f.reads == 0);
     Sums {
         holders: h,
         bytes: b,
@@ -102,6 +107,7 @@ fn add_sums(a: Sums, k: u64, c: Finish, f: Facts, up: bool) -> Sums
         minedbytes: e,
         right: r,
         rises: u,
+        unread: d,
         inputs: std::num::wrapping_add_u64(a.inputs, f.ins),
     }
 }
@@ -179,7 +185,7 @@ pub fn has_id(s: &[u8], hex: bool, base: usize, at: usize, n: u64, id: [u8; 32])
 }
 
 // How many of the n records at `at` have the input id?
-fn held_by(s: &[u8], form: Form, at: usize, n: u64, id: [u8; 32]) -> u64
+pub fn held_by(s: &[u8], form: Form, at: usize, n: u64, id: [u8; 32]) -> u64
     requires { ⌜ (at ≤ length (now s)) × (whole (recIn form) n (now s) at ≡ true) ⌝ }
     ensures { λ r. ⌜ r ≡ heldBy (listAt (recIn form) n (now (s .entry)) at) id ⌝ }
 {
@@ -258,34 +264,41 @@ fn apart_by(s: &[u8], form: Form, at: usize, n: u64, t: &mut [u64]) -> bool
     true
 }
 
-// A pass for each id that the filter has: slow where these are many, but for an area of any size.
-fn apart_passes(s: &[u8], form: Form, at: usize, n: u64) -> bool
-    requires { ⌜ (at ≤ length (now s)) × (whole (recIn form) n (now s) at ≡ true) ⌝ }
-    ensures { λ r. ⌜ r ≡ apart? (listAt (recIn form) n (now (s .entry)) at) ⌝ }
+// A pass for each id that the filter has, and for each id that is only read: slow where these are many, but for an area of any size.
+fn apart_passes(s: &[u8], form: Form, at: usize, n: u64, unread: bool) -> bool
+    requires { ⌜ (at ≤ length (now s)) × (whole (recIn form) n (now s) at ≡ true) × (unread ≡ true → all? unread? (listAt (recIn form) n (now s) at) ≡ true) ⌝ }
+    ensures { λ r. ⌜ r ≡ (apart? (listAt (recIn form) n (now (s .entry)) at) && readApart? (listAt (recIn form) n (now (s .entry)) at)) ⌝ }
 {
     let mut t = [0u64; 2048];
-    apart_by(s, form, at, n, &mut t)
+    if !apart_by(s, form, at, n, &mut t) {
+        return false;
+    }
+    if unread {
+        return true;
+    }
+    reads_passes(s, form, at, n)
 }
 
 // Where room for few suspects is not enough: with `room` rows for them.
-fn apart_long(s: &[u8], form: Form, at: usize, n: u64, room: usize) -> bool
-    requires { ⌜ (at ≤ length (now s)) × (whole (recIn form) n (now s) at ≡ true) × (0 < room) × (room ≤ 65536) ⌝ }
-    ensures { λ r. ⌜ r ≡ apart? (listAt (recIn form) n (now (s .entry)) at) ⌝ }
+fn apart_long(s: &[u8], form: Form, at: usize, n: u64, unread: bool, room: usize) -> bool
+    requires { ⌜ (at ≤ length (now s)) × (whole (recIn form) n (now s) at ≡ true) × (0 < room) × (room ≤ 65536) × (unread ≡ true → all? unread? (listAt (recIn form) n (now s) at) ≡ true) ⌝ }
+    ensures { λ r. ⌜ r ≡ (apart? (listAt (recIn form) n (now (s .entry)) at) && readApart? (listAt (recIn form) n (now (s .entry)) at)) ⌝ }
 {
     if both(s.len() < 4294967296, n < 4294967296) {
-        return apart_many(s, form, at, n, room) == 1;
+        return apart_many(s, form, at, n, unread, room) == 1;
     }
-    apart_passes(s, form, at, n)
+    apart_passes(s, form, at, n, unread)
 }
 
-// Is no input in two records? Few inputs are looked at with small tables, as often as needed.
+// Is no input in two records, and does no record spend what another reads? Few inputs are looked at with small tables, as often as
+// needed; `unread` says that no record reads an id.
 // The long way is called at two places that differ in two numbers: the compiler then makes no single call of them, which it
 // would take in here together with the large tables.
-pub fn apart(s: &[u8], form: Form, at: usize, n: u64, few: bool) -> bool
-    requires { ⌜ (at ≤ length (now s)) × (whole (recIn form) n (now s) at ≡ true) ⌝ }
-    ensures { λ r. ⌜ r ≡ apart? (listAt (recIn form) n (now (s .entry)) at) ⌝ }
+pub fn apart(s: &[u8], form: Form, at: usize, n: u64, unread: bool, few: bool) -> bool
+    requires { ⌜ (at ≤ length (now s)) × (whole (recIn form) n (now s) at ≡ true) × (unread ≡ true → all? unread? (listAt (recIn form) n (now s) at) ≡ true) ⌝ }
+    ensures { λ r. ⌜ r ≡ (apart? (listAt (recIn form) n (now (s .entry)) at) && readApart? (listAt (recIn form) n (now (s .entry)) at)) ⌝ }
 {
-    let r = apart_few(s, form, at, n, few);
+    let r = apart_few(s, form, at, n, unread, few);
     if r == 1 {
         return true;
     }
@@ -293,9 +306,9 @@ pub fn apart(s: &[u8], form: Form, at: usize, n: u64, few: bool) -> bool
         return false;
     }
     if form.hex {
-        return apart_long(s, form, at, n, 32768);
+        return apart_long(s, form, at, n, unread, 32768);
     }
-    apart_long(s, form, at, n, 65536)
+    apart_long(s, form, at, n, unread, 65536)
 }
 
 // No early way out, so that the loop can be done many bytes at a time.

@@ -9,10 +9,11 @@ use super::frame::id_read;
 use super::frame::rec_in;
 use super::logic::both;
 use super::logic::either;
+use super::reads::reads_by;
 use super::view::cmp_at;
 use super::view::size;
 ghost use mathlib.Core.Path.{_≡_};
-ghost use mathlib.Core.Bool.{Bool, true, false};
+ghost use mathlib.Core.Bool.{Bool, true, false, _&&_};
 ghost use Prim.Native.Nat.{_+_, _/_, _%_, _≤_, _<_};
 ghost use lib.ListN.{length, take, drop, getD};
 ghost use Rattle.queue.specs.Ids.{part};
@@ -20,10 +21,11 @@ ghost use Rattle.queue.specs.Frames.{idC};
 ghost use Rattle.queue.specs.Forms.{recIn};
 ghost use Rattle.queue.specs.View.{view};
 ghost use Rattle.queue.specs.Reads.{whole, listAt};
-ghost use Rattle.queue.specs.Suspects.{idR, noR, upTo, later, meets, crosses, held?, first?, Shuffled, InOrder, Cut, Looked, Grown, Noted, Said, Owned};
+ghost use Rattle.queue.specs.Sums.{unread?};
+ghost use Rattle.queue.specs.Suspects.{idR, noR, upTo, later, meets, crosses, held?, first?, Shuffled, InOrder, Cut, Grown, Noted, Said, Marks, Owned};
 ghost use Rattle.queue.specs.paper.Ids.{cmpL, same?};
 ghost use Rattle.queue.specs.paper.Lists.{any?, all?};
-ghost use Rattle.queue.specs.paper.Sound.{among?, apart?};
+ghost use Rattle.queue.specs.paper.Sound.{among?, apart?, readApart?};
 
 // Where the byte i of the frame at base stands.
 fn place(s: &[u8], hex: bool, base: usize, i: usize) -> usize
@@ -267,10 +269,10 @@ fn pass(s: &[u8], form: Form, at: usize, n: u64, v: &[u64], ordered: bool) -> bo
     false
 }
 
-// Is the id of a row in a record before its own?
-fn crossed(s: &[u8], form: Form, at: usize, n: u64, v: &mut [u64]) -> bool
+// Is the id of a row in a record before its own? The rows are put in another order.
+pub fn crossed(s: &[u8], form: Form, at: usize, n: u64, v: &mut [u64]) -> bool
     requires { ⌜ (at ≤ length (now s)) × (whole (recIn form) n (now s) at ≡ true) × (length (now s) < 4294967296) × (n < 4294967296) ⌝ }
-    ensures { λ r. ⌜ Looked (form .hex) (now (s .entry)) (listAt (recIn form) n (now (s .entry)) at) (now (v .entry)) r (now (v .exit)) ⌝ }
+    ensures { λ r. ⌜ Shuffled (now (v .entry)) (now (v .exit)) × (r ≡ crosses (form .hex) (now (s .entry)) (now (v .entry)) 0 (listAt (recIn form) n (now (s .entry)) at)) ⌝ }
 {
     if v.len() == 0 {
         return false;
@@ -280,15 +282,25 @@ fn crossed(s: &[u8], form: Form, at: usize, n: u64, v: &mut [u64]) -> bool
     pass(s, form, at, n, v, o)
 }
 
-// How many rows there are; not ok: an id is in two records, or the table is full and not the last one.
-struct Rows {
-    ok: bool,
-    len: usize,
+// How many rows there are; not ok: a full table was looked through and a row's id is in a record before its own, or it was not the last
+// table and is given up.
+pub struct Rows {
+    pub ok: bool,
+    pub len: usize,
 }
 
 // The row w behind m others. Full, the last table is looked through and begun anew.
-fn add(s: &[u8], form: Form, at: usize, n: u64, v: &mut [u64], last: bool, m: usize, w: u64) -> Rows
-    requires { ⌜ (at ≤ length (now s)) × (whole (recIn form) n (now s) at ≡ true) × (length (now s) < 4294967296) × (n < 4294967296) × (m ≤ length (now v)) × (0 < length (now v)) × (all? (held? (form .hex) (now s) (listAt (recIn form) n (now s) at)) (take m (now v)) ≡ true) × (held? (form .hex) (now s) (listAt (recIn form) n (now s) at) w ≡ true) ⌝ }
+pub fn add(
+    s: &[u8],
+    form: Form,
+    at: usize,
+    n: u64,
+    v: &mut [u64],
+    last: bool,
+    m: usize,
+    w: u64,
+) -> Rows
+    requires { ⌜ (at ≤ length (now s)) × (whole (recIn form) n (now s) at ≡ true) × (length (now s) < 4294967296) × (n < 4294967296) × (m ≤ length (now v)) × (0 < length (now v)) ⌝ }
     ensures { λ r. ⌜ Grown last (form .hex) (now (s .entry)) (listAt (recIn form) n (now (s .entry)) at) (take m (now (v .entry))) w (r .ok) (take (r .len) (now (v .exit))) × (r .len ≤ length (now (v .entry))) ⌝ }
 {
     if m < v.len() {
@@ -371,10 +383,10 @@ fn note_all(
 }
 
 // 1: the records are apart; 0: they are not; 2: not known, the table is full and not the last one.
-// Whatever t holds: what it holds too much only costs time.
+// Whatever t holds: what it holds too much only costs time. Where the answer is 1, t has every input then.
 fn apart_by(s: &[u8], form: Form, at: usize, n: u64, t: &mut [u64], v: &mut [u64], last: bool) -> u8
     requires { ⌜ (at ≤ length (now s)) × (whole (recIn form) n (now s) at ≡ true) × (length (now s) < 4294967296) × (n < 4294967296) × (0 < length (now v)) × (0 < length (now t)) ⌝ }
-    ensures { λ r. ⌜ Said last (listAt (recIn form) n (now (s .entry)) at) r ⌝ }
+    ensures { λ r. ⌜ Said last (apart? (listAt (recIn form) n (now (s .entry)) at)) r × (r ≡ 1 → Marks (listAt (recIn form) n (now (s .entry)) at) (now (t .exit))) ⌝ }
 {
     let mut i = at;
     let mut left = n;
@@ -401,25 +413,50 @@ fn apart_by(s: &[u8], form: Form, at: usize, n: u64, t: &mut [u64], v: &mut [u64
     1
 }
 
+// The same of two tests: is no input in two records, and does no record spend what another reads? Where none reads an id,
+// the second needs no look.
+fn clear_by(
+    s: &[u8],
+    form: Form,
+    at: usize,
+    n: u64,
+    unread: bool,
+    t: &mut [u64],
+    v: &mut [u64],
+    last: bool,
+) -> u8
+    requires { ⌜ (at ≤ length (now s)) × (whole (recIn form) n (now s) at ≡ true) × (length (now s) < 4294967296) × (n < 4294967296) × (0 < length (now v)) × (0 < length (now t)) × (unread ≡ true → all? unread? (listAt (recIn form) n (now s) at) ≡ true) ⌝ }
+    ensures { λ r. ⌜ Said last (apart? (listAt (recIn form) n (now (s .entry)) at) && readApart? (listAt (recIn form) n (now (s .entry)) at)) r ⌝ }
+{
+    let r = apart_by(s, form, at, n, t, v, last);
+    if r == 1 {
+        if unread {
+            return 1;
+        }
+        return reads_by(s, form, at, n, t, v, last);
+    }
+    r
+}
+
 // With room for few suspects; as often as needed, where it is the last table.
-pub fn apart_few(s: &[u8], form: Form, at: usize, n: u64, last: bool) -> u8
-    requires { ⌜ (at ≤ length (now s)) × (whole (recIn form) n (now s) at ≡ true) ⌝ }
-    ensures { λ r. ⌜ Said false (listAt (recIn form) n (now (s .entry)) at) r ⌝ }
+pub fn apart_few(s: &[u8], form: Form, at: usize, n: u64, unread: bool, last: bool) -> u8
+    requires { ⌜ (at ≤ length (now s)) × (whole (recIn form) n (now s) at ≡ true) × (unread ≡ true → all? unread? (listAt (recIn form) n (now s) at) ≡ true) ⌝ }
+    ensures { λ r. ⌜ Said false (apart? (listAt (recIn form) n (now (s .entry)) at) && readApart? (listAt (recIn form) n (now (s .entry)) at)) r ⌝ }
 {
     if !both(s.len() < 4294967296, n < 4294967296) {
         return 2;
     }
     let mut t = [0u64; 2048];
     let mut v = [0u64; 2048];
-    apart_by(s, form, at, n, &mut t, &mut v, last)
+    clear_by(s, form, at, n, unread, &mut t, &mut v, last)
 }
 
 // With room for many, as often as needed.
-pub fn apart_many(s: &[u8], form: Form, at: usize, n: u64, room: usize) -> u8
-    requires { ⌜ (at ≤ length (now s)) × (whole (recIn form) n (now s) at ≡ true) × (length (now s) < 4294967296) × (n < 4294967296) × (0 < room) × (room ≤ 65536) ⌝ }
-    ensures { λ r. ⌜ Said true (listAt (recIn form) n (now (s .entry)) at) r ⌝ }
+pub fn apart_many(s: &[u8], form: Form, at: usize, n: u64, unread: bool, room: usize) -> u8
+    requires { ⌜ (at ≤ length (now s)) × (whole (recIn form) n (now s) at ≡ true) × (length (now s) < 4294967296) × (n < 4294967296) × (0 < room) × (room ≤ 65536) × (unread ≡ true → all? unread? (listAt (recIn form) n (now s) at) ≡ true) ⌝ }
+    ensures { λ r. ⌜ Said true (apart? (listAt (recIn form) n (now (s .entry)) at) && readApart? (listAt (recIn form) n (now (s .entry)) at)) r ⌝ }
 {
     let mut t = [0u64; 16384];
     let mut v = [0u64; 65536];
-    apart_by(s, form, at, n, &mut t, &mut v[..room], true)
+    clear_by(s, form, at, n, unread, &mut t, &mut v[..room], true)
 }

@@ -23,8 +23,7 @@ ghost use Rattle.queue.specs.Reads.{whole, listAt};
 ghost use Rattle.queue.specs.Forms.{formC};
 ghost use Rattle.queue.specs.View.{view};
 ghost use Rattle.queue.specs.Reopens.{IdsRise, idsAt};
-ghost use Rattle.queue.specs.Reserving.{inputsOf};
-ghost use Rattle.queue.specs.Owning.{FlagsAre, QuickFor};
+ghost use Rattle.queue.specs.Owning.{wantedOf, wantedAt, FlagsAre, QuickFor};
 ghost use Rattle.queue.specs.Touching.{appliedIn, EntriesRise, EntryAs, SeenHere, ConfirmedIs, ownIds, judgeF, verdictOf, InEntry, TouchIs, Judged, changed?};
 ghost use Rattle.queue.specs.paper.Lists.{any?, all?};
 ghost use Rattle.queue.specs.paper.Sound.{among?};
@@ -116,14 +115,13 @@ fn owned(s: &[u8], at: usize, n: u64, ids: &[u8], m: u64, id: [u8; 32]) -> bool
     is_output(s, at, n, id)
 }
 
-// Are all inputs of the record read at base owned?
-fn fine(s: &[u8], at: usize, n: u64, base: usize, x: Seen, ids: &[u8], m: u64) -> bool
-    requires { ⌜ (at ≤ length (now s)) × (whole (formC false recC) n (now s) at ≡ true) × IdsRise (now ids) m × (x .at ≤ length (view false (now s) base)) × (whole idC (x .facts .ins) (view false (now s) base) (x .at) ≡ true) ⌝ }
-    ensures { λ r. ⌜ r ≡ all? (λ i. among? i (ownIds (idsAt (now (ids .entry)) m) (listAt (formC false recC) n (now (s .entry)) at))) (listAt idC (x .facts .ins) (view false (now (s .entry)) base) (x .at)) ⌝ }
+// Are the c ids at offset `from` of the frame at base owned?
+fn fine(s: &[u8], at: usize, n: u64, base: usize, from: usize, c: u64, ids: &[u8], m: u64) -> bool
+    requires { ⌜ (at ≤ length (now s)) × (whole (formC false recC) n (now s) at ≡ true) × IdsRise (now ids) m × (from ≤ length (view false (now s) base)) × (whole idC c (view false (now s) base) from ≡ true) ⌝ }
+    ensures { λ r. ⌜ r ≡ all? (λ i. among? i (ownIds (idsAt (now (ids .entry)) m) (listAt (formC false recC) n (now (s .entry)) at))) (listAt idC c (view false (now (s .entry)) base) from) ⌝ }
 {
-    let f = x.facts;
-    let mut i = x.at;
-    let mut left = f.ins;
+    let mut i = from;
+    let mut left = c;
     while 0 < left {
         let y = id_read(s, false, base, i);
         let id = y.id;
@@ -136,7 +134,7 @@ fn fine(s: &[u8], at: usize, n: u64, base: usize, x: Seen, ids: &[u8], m: u64) -
     true
 }
 
-// The same; by the flags of its inputs, which begin at g, where there are flags.
+// Are all ids that the record read at base wants owned? By their flags, which begin at g, where there are flags.
 fn all_owned(
     s: &[u8],
     at: usize,
@@ -149,14 +147,17 @@ fn all_owned(
     flags: &[u8],
     g: usize,
 ) -> bool
-    requires { ⌜ (at ≤ length (now s)) × (whole (formC false recC) n (now s) at ≡ true) × IdsRise (now ids) m × (x .at ≤ length (view false (now s) base)) × (whole idC (x .facts .ins) (view false (now s) base) (x .at) ≡ true) × QuickFor quick (ownIds (idsAt (now ids) m) (listAt (formC false recC) n (now s) at)) (listAt idC (x .facts .ins) (view false (now s) base) (x .at)) (now flags) g (x .facts .ins) ⌝ }
-    ensures { λ r. ⌜ r ≡ all? (λ i. among? i (ownIds (idsAt (now (ids .entry)) m) (listAt (formC false recC) n (now (s .entry)) at))) (listAt idC (x .facts .ins) (view false (now (s .entry)) base) (x .at)) ⌝ }
+    requires { ⌜ (at ≤ length (now s)) × (whole (formC false recC) n (now s) at ≡ true) × IdsRise (now ids) m × SeenHere (now s) base x × QuickFor quick (ownIds (idsAt (now ids) m) (listAt (formC false recC) n (now s) at)) (wantedAt (view false (now s) base) x) (now flags) g (x .facts .ins + x .facts .reads) ⌝ }
+    ensures { λ r. ⌜ r ≡ all? (λ i. among? i (ownIds (idsAt (now (ids .entry)) m) (listAt (formC false recC) n (now (s .entry)) at))) (wantedAt (view false (now (s .entry)) base) x) ⌝ }
 {
     let f = x.facts;
     if quick {
-        return all_set(flags, g, f.ins);
+        return all_set(flags, g, f.ins + f.reads);
     }
-    fine(s, at, n, base, x, ids, m)
+    if !fine(s, at, n, base, x.at, f.ins, ids, m) {
+        return false;
+    }
+    fine(s, at, n, base, x.reads, f.reads, ids, m)
 }
 
 // What becomes of a record: 0 it stays, 1 it is confirmed by the applied entry at `at`, 2 Queued, 3 Conflicted.
@@ -181,7 +182,7 @@ fn judge(fine: bool, f: Facts) -> u64
 }
 
 // The verdict on the record read at base, of the n records at `at`; t has k applied entries, ids m available ids, and the flags of
-// the record's inputs begin at g, where there are flags.
+// the ids that it wants begin at g, where there are flags.
 // In one number: what, and four times the number of the applied entry.
 fn touched(
     s: &[u8],
@@ -198,7 +199,7 @@ fn touched(
     flags: &[u8],
     g: usize,
 ) -> u64
-    requires { ⌜ (at ≤ length (now s)) × (whole (formC false recC) n (now s) at ≡ true) × SeenHere (now s) base x × EntriesRise (now t) k × IdsRise (now ids) m × QuickFor quick (ownIds (idsAt (now ids) m) (listAt (formC false recC) n (now s) at)) (listAt idC (x .facts .ins) (view false (now s) base) (x .at)) (now flags) g (x .facts .ins) ⌝ }
+    requires { ⌜ (at ≤ length (now s)) × (whole (formC false recC) n (now s) at ≡ true) × SeenHere (now s) base x × EntriesRise (now t) k × IdsRise (now ids) m × QuickFor quick (ownIds (idsAt (now ids) m) (listAt (formC false recC) n (now s) at)) (wantedAt (view false (now s) base) x) (now flags) g (x .facts .ins + x .facts .reads) ⌝ }
     ensures { λ r. ⌜ TouchIs (now (s .entry)) at n base x (now (t .entry)) k caught (idsAt (now (ids .entry)) m) r ⌝ }
 {
     let id = x.id;
@@ -232,7 +233,7 @@ pub fn verdict_of(t: &[u8], c: u64) -> Verdict
     Verdict { what: what, at: 0 }
 }
 
-// The verdicts on the n records at `at`, to the front of vs; quickly where there are flags of all inputs.
+// The verdicts on the n records at `at`, to the front of vs; quickly where there are flags of all wanted ids.
 pub fn judge_all(
     s: &[u8],
     at: usize,
@@ -246,7 +247,7 @@ pub fn judge_all(
     flags: &[u8],
     vs: &mut [u64],
 )
-    requires { ⌜ (at ≤ length (now s)) × (whole (formC false recC) n (now s) at ≡ true) × EntriesRise (now t) k × IdsRise (now ids) m × (n ≤ length (now vs)) × (n < 4294967296) × (quick ≡ true → FlagsAre (λ z. among? z (ownIds (idsAt (now ids) m) (listAt (formC false recC) n (now s) at))) (inputsOf (listAt (formC false recC) n (now s) at)) (now flags)) ⌝ }
+    requires { ⌜ (at ≤ length (now s)) × (whole (formC false recC) n (now s) at ≡ true) × EntriesRise (now t) k × IdsRise (now ids) m × (n ≤ length (now vs)) × (n < 4294967296) × (quick ≡ true → FlagsAre (λ z. among? z (ownIds (idsAt (now ids) m) (listAt (formC false recC) n (now s) at))) (wantedOf (listAt (formC false recC) n (now s) at)) (now flags)) ⌝ }
     ensures { λ _. ⌜ Judged (now (t .entry)) caught (ownIds (idsAt (now (ids .entry)) m) (listAt (formC false recC) n (now (s .entry)) at)) (appliedIn (now (t .entry)) k) (listAt (formC false recC) n (now (s .entry)) at) (take n (now (vs .exit))) ⌝ }
 {
     let mut i = at;
@@ -258,7 +259,7 @@ pub fn judge_all(
         let f = x.facts;
         let c = touched(s, at, n, i, x, t, k, caught, ids, m, quick, flags, g);
         vs[j] = c;
-        g = g + f.ins as usize;
+        g = g + (f.ins + f.reads) as usize;
         i = after_in(s, false, i, x.size);
         left = left - 1;
         j += 1;

@@ -1,7 +1,8 @@
-// The verdicts of a reconciliation, worked out once, with tables as large as the number of inputs asks for.
+// The verdicts of a reconciliation, worked out once, with tables as large as the number of wanted ids, inputs and read ids, asks for.
 use super::logic::both;
-use super::own::count_inputs;
+use super::own::count_wanted;
 use super::own::few_flags;
+use super::own::most_flags;
 use super::own::own_flags;
 use super::touch::judge_all;
 ghost use mathlib.Core.Path.{_≡_};
@@ -12,10 +13,10 @@ ghost use Rattle.queue.specs.Frames.{recC};
 ghost use Rattle.queue.specs.Forms.{formC};
 ghost use Rattle.queue.specs.Reads.{whole, listAt};
 ghost use Rattle.queue.specs.Reopens.{IdsRise, idsAt};
-ghost use Rattle.queue.specs.Reserving.{inputsOf};
+ghost use Rattle.queue.specs.Owning.{wantedOf};
 ghost use Rattle.queue.specs.Touching.{appliedIn, EntriesRise, ownIds, Judged};
 
-// With flags for all inputs.
+// With flags for all wanted ids.
 fn judge_with(
     s: &[u8],
     at: usize,
@@ -30,14 +31,14 @@ fn judge_with(
     flags: &mut [u8],
     vs: &mut [u64],
 )
-    requires { ⌜ (at ≤ length (now s)) × (whole (formC false recC) n (now s) at ≡ true) × EntriesRise (now t) k × IdsRise (now ids) m × (n ≤ length (now vs)) × (n < 4294967296) × (length (now s) < 4294967296) × (total ≡ length (inputsOf (listAt (formC false recC) n (now s) at))) × (total ≤ length (now flags)) × (0 < length (now v)) ⌝ }
+    requires { ⌜ (at ≤ length (now s)) × (whole (formC false recC) n (now s) at ≡ true) × EntriesRise (now t) k × IdsRise (now ids) m × (n ≤ length (now vs)) × (n < 4294967296) × (length (now s) < 4294967296) × (total ≡ length (wantedOf (listAt (formC false recC) n (now s) at))) × (total ≤ length (now flags)) × (0 < length (now v)) ⌝ }
     ensures { λ _. ⌜ Judged (now (t .entry)) caught (ownIds (idsAt (now (ids .entry)) m) (listAt (formC false recC) n (now (s .entry)) at)) (appliedIn (now (t .entry)) k) (listAt (formC false recC) n (now (s .entry)) at) (take n (now (vs .exit))) ⌝ }
 {
     own_flags(s, at, n, ids, m, v, flags, total);
     judge_all(s, at, n, t, k, caught, ids, m, true, flags, vs);
 }
 
-// The same for few inputs.
+// The same for few.
 fn few_with(
     s: &[u8],
     at: usize,
@@ -52,10 +53,32 @@ fn few_with(
     flags: &mut [u8],
     vs: &mut [u64],
 )
-    requires { ⌜ (at ≤ length (now s)) × (whole (formC false recC) n (now s) at ≡ true) × EntriesRise (now t) k × IdsRise (now ids) m × (n ≤ length (now vs)) × (n < 4294967296) × (length (now s) < 4294967296) × (total ≡ length (inputsOf (listAt (formC false recC) n (now s) at))) × (total ≤ length (now flags)) × (0 < length (now v)) ⌝ }
+    requires { ⌜ (at ≤ length (now s)) × (whole (formC false recC) n (now s) at ≡ true) × EntriesRise (now t) k × IdsRise (now ids) m × (n ≤ length (now vs)) × (n < 4294967296) × (length (now s) < 4294967296) × (total ≡ length (wantedOf (listAt (formC false recC) n (now s) at))) × (total ≤ length (now flags)) × (0 < length (now v)) ⌝ }
     ensures { λ _. ⌜ Judged (now (t .entry)) caught (ownIds (idsAt (now (ids .entry)) m) (listAt (formC false recC) n (now (s .entry)) at)) (appliedIn (now (t .entry)) k) (listAt (formC false recC) n (now (s .entry)) at) (take n (now (vs .exit))) ⌝ }
 {
     few_flags(s, at, n, ids, m, v, flags, total);
+    judge_all(s, at, n, t, k, caught, ids, m, true, flags, vs);
+}
+
+// The same for the most.
+fn most_with(
+    s: &[u8],
+    at: usize,
+    n: u64,
+    t: &[u8],
+    k: u64,
+    caught: bool,
+    ids: &[u8],
+    m: u64,
+    total: u64,
+    v: &mut [u64],
+    flags: &mut [u8],
+    vs: &mut [u64],
+)
+    requires { ⌜ (at ≤ length (now s)) × (whole (formC false recC) n (now s) at ≡ true) × EntriesRise (now t) k × IdsRise (now ids) m × (n ≤ length (now vs)) × (n < 4294967296) × (length (now s) < 4294967296) × (total ≡ length (wantedOf (listAt (formC false recC) n (now s) at))) × (total ≤ length (now flags)) × (0 < length (now v)) ⌝ }
+    ensures { λ _. ⌜ Judged (now (t .entry)) caught (ownIds (idsAt (now (ids .entry)) m) (listAt (formC false recC) n (now (s .entry)) at)) (appliedIn (now (t .entry)) k) (listAt (formC false recC) n (now (s .entry)) at) (take n (now (vs .exit))) ⌝ }
+{
+    most_flags(s, at, n, ids, m, v, flags, total);
     judge_all(s, at, n, t, k, caught, ids, m, true, flags, vs);
 }
 
@@ -74,7 +97,7 @@ fn judge_few(
     room: usize,
     vs: &mut [u64],
 )
-    requires { ⌜ (at ≤ length (now s)) × (whole (formC false recC) n (now s) at ≡ true) × EntriesRise (now t) k × IdsRise (now ids) m × (n ≤ length (now vs)) × (n < 4294967296) × (length (now s) < 4294967296) × (total ≡ length (inputsOf (listAt (formC false recC) n (now s) at))) × (total ≤ room) × ((room ≤ 8192) × (0 < rows) × (rows ≤ 2048)) ⌝ }
+    requires { ⌜ (at ≤ length (now s)) × (whole (formC false recC) n (now s) at ≡ true) × EntriesRise (now t) k × IdsRise (now ids) m × (n ≤ length (now vs)) × (n < 4294967296) × (length (now s) < 4294967296) × (total ≡ length (wantedOf (listAt (formC false recC) n (now s) at))) × (total ≤ room) × ((room ≤ 8192) × (0 < rows) × (rows ≤ 2048)) ⌝ }
     ensures { λ _. ⌜ Judged (now (t .entry)) caught (ownIds (idsAt (now (ids .entry)) m) (listAt (formC false recC) n (now (s .entry)) at)) (appliedIn (now (t .entry)) k) (listAt (formC false recC) n (now (s .entry)) at) (take n (now (vs .exit))) ⌝ }
 {
     let mut v = [0u64; 2048];
@@ -110,12 +133,48 @@ fn judge_many(
     room: usize,
     vs: &mut [u64],
 )
-    requires { ⌜ (at ≤ length (now s)) × (whole (formC false recC) n (now s) at ≡ true) × EntriesRise (now t) k × IdsRise (now ids) m × (n ≤ length (now vs)) × (n < 4294967296) × (length (now s) < 4294967296) × (total ≡ length (inputsOf (listAt (formC false recC) n (now s) at))) × (total ≤ room) × ((room ≤ 262144) × (0 < rows) × (rows ≤ 65536)) ⌝ }
+    requires { ⌜ (at ≤ length (now s)) × (whole (formC false recC) n (now s) at ≡ true) × EntriesRise (now t) k × IdsRise (now ids) m × (n ≤ length (now vs)) × (n < 4294967296) × (length (now s) < 4294967296) × (total ≡ length (wantedOf (listAt (formC false recC) n (now s) at))) × (total ≤ room) × ((room ≤ 262144) × (0 < rows) × (rows ≤ 65536)) ⌝ }
     ensures { λ _. ⌜ Judged (now (t .entry)) caught (ownIds (idsAt (now (ids .entry)) m) (listAt (formC false recC) n (now (s .entry)) at)) (appliedIn (now (t .entry)) k) (listAt (formC false recC) n (now (s .entry)) at) (take n (now (vs .exit))) ⌝ }
 {
     let mut v = [0u64; 65536];
     let mut flags = [0u8; 262144];
     judge_with(
+        s,
+        at,
+        n,
+        t,
+        k,
+        caught,
+        ids,
+        m,
+        total,
+        &mut v[..rows],
+        &mut flags[..room],
+        vs,
+    );
+}
+
+// With room for the most, by fewer rows.
+fn judge_most(
+    s: &[u8],
+    at: usize,
+    n: u64,
+    t: &[u8],
+    k: u64,
+    caught: bool,
+    ids: &[u8],
+    m: u64,
+    total: u64,
+    rows: usize,
+    room: usize,
+    vs: &mut [u64],
+)
+    requires { ⌜ (at ≤ length (now s)) × (whole (formC false recC) n (now s) at ≡ true) × EntriesRise (now t) k × IdsRise (now ids) m × (n ≤ length (now vs)) × (n < 4294967296) × (length (now s) < 4294967296) × (total ≡ length (wantedOf (listAt (formC false recC) n (now s) at))) × (total ≤ room) × ((room ≤ 524288) × (0 < rows) × (rows ≤ 32768)) ⌝ }
+    ensures { λ _. ⌜ Judged (now (t .entry)) caught (ownIds (idsAt (now (ids .entry)) m) (listAt (formC false recC) n (now (s .entry)) at)) (appliedIn (now (t .entry)) k) (listAt (formC false recC) n (now (s .entry)) at) (take n (now (vs .exit))) ⌝ }
+{
+    let mut v = [0u64; 32768];
+    let mut flags = [0u8; 524288];
+    most_with(
         s,
         at,
         n,
@@ -147,8 +206,8 @@ pub fn judge(
     requires { ⌜ (at ≤ length (now s)) × (whole (formC false recC) n (now s) at ≡ true) × EntriesRise (now t) k × IdsRise (now ids) m × (n ≤ length (now vs)) × (n < 4294967296) ⌝ }
     ensures { λ _. ⌜ Judged (now (t .entry)) caught (ownIds (idsAt (now (ids .entry)) m) (listAt (formC false recC) n (now (s .entry)) at)) (appliedIn (now (t .entry)) k) (listAt (formC false recC) n (now (s .entry)) at) (take n (now (vs .exit))) ⌝ }
 {
-    let total = count_inputs(s, at, n);
-    if !both(caught, both(s.len() < 4294967296, total <= 262144)) {
+    let total = count_wanted(s, at, n);
+    if !both(caught, both(s.len() < 4294967296, total <= 524288)) {
         judge_all(s, at, n, t, k, caught, ids, m, false, ids, vs);
         return;
     }
@@ -164,5 +223,13 @@ pub fn judge(
         judge_many(s, at, n, t, k, caught, ids, m, total, 32768, 65536, vs);
         return;
     }
-    judge_many(s, at, n, t, k, caught, ids, m, total, 65536, 262144, vs);
+    if total <= 262144 {
+        judge_many(s, at, n, t, k, caught, ids, m, total, 65536, 262144, vs);
+        return;
+    }
+    if total <= 393216 {
+        judge_most(s, at, n, t, k, caught, ids, m, total, 32767, 393216, vs);
+        return;
+    }
+    judge_most(s, at, n, t, k, caught, ids, m, total, 32768, 524288, vs);
 }

@@ -96,22 +96,25 @@ fn admit(a: &[u8], cur: &[u8], next: &mut [u8], out: &mut [u8]) -> u64 {
     let id = length_at(a, 49);
     let inputs = length_at(a, 51);
     let outputs = length_at(a, 53);
-    let signed = length_at(a, 55);
-    let label = length_at(a, 57);
-    let tip = length_at(a, 59);
-    let b = 61 + id;
+    let reads = length_at(a, 55);
+    let signed = length_at(a, 57);
+    let label = length_at(a, 59);
+    let tip = length_at(a, 61);
+    let b = 63 + id;
     let c = b + inputs;
     let d = c + outputs;
-    let e = d + signed;
-    let f = e + label;
+    let e = d + reads;
+    let f = e + signed;
+    let g = f + label;
     pokerbox_admit(
         cur,
         next,
-        part(a, 61, id),
+        part(a, 63, id),
         number_8(a, 48),
         part(a, b, inputs),
         part(a, c, outputs),
-        part(a, d, signed),
+        part(a, d, reads),
+        part(a, e, signed),
         number(a, 0, 8),
         number_8(a, 8),
         number(a, 9, 8),
@@ -119,12 +122,12 @@ fn admit(a: &[u8], cur: &[u8], next: &mut [u8], out: &mut [u8]) -> u64 {
         number_32(a, 18),
         number_32(a, 22),
         number_8(a, 26),
-        part(a, e, label),
+        part(a, f, label),
         number(a, 27, 8),
         number(a, 35, 8),
         number_32(a, 43),
         number_8(a, 47),
-        part(a, f, tip),
+        part(a, g, tip),
         out,
     )
 }

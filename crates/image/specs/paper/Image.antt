@@ -25,7 +25,7 @@ imageOf area out old =
 unfoldable pub openOf : Bytes → Bytes → Answer × Bytes
 openOf text area = maybe (Refused 16, area) (λ q. putQueue (Done Nothing) q area) (readImage text)
 
--- "An area needs 2B + 2P(512 + 64K) + 512T + 512 bytes", behind a reference: 1, as for a fresh queue
+-- "An area needs 2B + 2P(512 + 64K) + 512T + 512 bytes" (document 02, P11: 96K), behind a reference: 1, as for a fresh queue
 unfoldable pub needOf : Limits → ℕ → Answer × ℕ
 needOf m old = cond (inRange m) (Done Nothing, need m) (Refused 1, old)
 

@@ -14,7 +14,7 @@ use Rattle.queue.specs.Lists.{Sub}
 use Rattle.queue.specs.Areas.{readImage}
 use Rattle.queue.specs.paper.Records.{Bytes, Limits, Queue}
 use Rattle.queue.specs.paper.Lists.{maybe, isEmpty?, map}
-use Rattle.queue.specs.paper.Sound.{limitsRight?, need, holders, holderBytes, tombstones, apart?, different?}
+use Rattle.queue.specs.paper.Sound.{limitsRight?, need, holders, holderBytes, tombstones, apart?, readApart?, different?}
 use Rattle.queue.specs.paper.Area.{areaBytes, imageBytes}
 use Rattle.queue.specs.paper.Changing.{Reconciling}
 use Rattle.queue.specs.paper.Decisions.{OnePass}
@@ -33,7 +33,7 @@ Small s = All (λ b. b < 256) s
 
 abbrev pub CallOk : Call → Type 0
 CallOk (admitting a) =
-    (Small (a .id) × (Small (a .inputs) × (Small (a .outputs) × (Small (a .bytes) × (Small (a .label) × Small (a .tip))))))
+    (Small (a .id) × (Small (a .inputs) × (Small (a .outputs) × (Small (a .reads) × (Small (a .bytes) × (Small (a .label) × Small (a .tip)))))))
     × ((a .now < 18446744073709551616) × ((a .time < 18446744073709551616) × ((a .height < 4294967296) × ((a .priority < 4294967296) × ((a .fee < 18446744073709551616) × ((a .cost < 18446744073709551616) × (a .tipHeight < 4294967296)))))))
 CallOk (cancelling i) = Small i
 CallOk (expiring now height) = Unit {0}
@@ -104,6 +104,8 @@ pub record Holds (m : Limits) (o : Option Queue) (File : Option Bytes → Option
   -- as 0."
   pub limits : p .1 .queue .limits ≡ m
   pub apart : apart? (p .1 .queue .recs) ≡ true
+  -- document 02, P11: "What survives a cut must also keep spent and read ids of two records from meeting."
+  pub readApart : readApart? (p .1 .queue .recs) ≡ true
   pub holders : holders (p .1 .queue .recs) ≤ 2 * m .P
   pub bytes : holderBytes (p .1 .queue .recs) ≤ 2 * m .B
   pub tombstones : tombstones (p .1 .queue .recs) ≤ m .T
@@ -137,11 +139,12 @@ FromImage = (m : Limits) (text : Bytes) (q : Queue) (first : Bytes) (second : Op
 -- ---- "An input spent twice in a template voids the block, and the reward goes to another pool."
 
 -- What the selection answers on the bytes in the area, for any time and height: the ids of some records of the queue. No id
--- stands there twice, and no input id is in two of these records.
+-- stands there twice, no input id is in two of these records, and none of them spends what another reads (document 02, P11).
 pub record Template (area : Bytes) (q : Queue) (now height : ℕ) : Type 0 where
   pub told : (out : Bytes) → selectionAtOf area now height out ≡ toldOut (idsBytes (map (λ r. r .id) (selectedAt now height q))) out
   pub once : different? (map (λ r. r .id) (selectedAt now height q)) ≡ true
   pub apart : apart? (selectedAt now height q) ≡ true
+  pub readApart : readApart? (selectedAt now height q) ≡ true
 
 unfoldable pub Templates : Type 0
 Templates = Always λ m xs v p. (now height : ℕ) → Template (v .1 .area) (p .1 .queue) now height
@@ -154,17 +157,19 @@ pub record BestSet (area : Bytes) (q : Queue) (limit budget now height : ℕ) : 
   pub part : Sub (bestFees sizeOf feeOf (candidates now height q) limit budget .set) (selectedAt now height q)
   pub once : different? (map (λ r. r .id) (bestFees sizeOf feeOf (candidates now height q) limit budget .set)) ≡ true
   pub apart : apart? (bestFees sizeOf feeOf (candidates now height q) limit budget .set) ≡ true
+  pub readApart : readApart? (bestFees sizeOf feeOf (candidates now height q) limit budget .set) ≡ true
 
 unfoldable pub BestSets : Type 0
 BestSets = Always λ m xs v p. (limit budget now height : ℕ) → BestSet (v .1 .area) (p .1 .queue) limit budget now height
 
 -- Document 02, P7: what `selection_parents_first` answers on the bytes in the area, for any time and height: the ids of records as
--- the request promises them, no id twice, and no input id in two of these records.
+-- the request promises them, no id twice, no input id in two of these records, and none of them spends what another reads.
 pub record Ordered (area : Bytes) (q : Queue) (now height : ℕ) : Type 0 where
   pub told : (out : Bytes) → parentsFirstOf area now height out ≡ toldOut (idsBytes (map (λ r. r .id) (parentsFirstAt now height q))) out
   pub promised : ParentsFirst now height q
   pub once : different? (map (λ r. r .id) (parentsFirstAt now height q)) ≡ true
   pub apart : apart? (parentsFirstAt now height q) ≡ true
+  pub readApart : readApart? (parentsFirstAt now height q) ≡ true
 
 unfoldable pub OrderedLists : Type 0
 OrderedLists = Always λ m xs v p. (now height : ℕ) → Ordered (v .1 .area) (p .1 .queue) now height

@@ -11,7 +11,7 @@ use Rattle.queue.specs.declared.Answer.the-variants.{Refused, Done}
 use Rattle.queue.specs.Areas.{readArea, readImage}
 use Rattle.queue.specs.paper.Records.{Bytes, Id, Limits, Rec, Queue}
 use Rattle.queue.specs.paper.Lists.{isSome, maybe, any?, total, count, find}
-use Rattle.queue.specs.paper.Sound.{inRange, sharesRight?, need, holder?, pending?, mined?, labelLen, clash?}
+use Rattle.queue.specs.paper.Sound.{inRange, sharesRight?, need, holder?, pending?, mined?, labelLen, clash?, crossed?}
 use Rattle.queue.specs.paper.Area.{imageBytes}
 use Rattle.queue.specs.paper.Changing.{Out, refused, done, top, named?, reached?, pendings, pendingBytes, pendingsOf, shareOf, admit, cancel, due?, expire, toRelease, reconcile}
 use Rattle.queue.specs.paper.Calls.{id?, entryBytes, idsBytes, releasedBytes, Call, admitting, cancelling, expiring, reconciling, reopening, settingCursor, admission, reconciliation, shape?, overK?, callOf, limitsOf, freshOf, soundOf, settleShape?, settleOf, readOf, numberOf, entryOf, signedBytesOf}
@@ -49,7 +49,7 @@ abbrev pub answer : {A : Type 0} → (A → Bytes) → Out A → Bytes
 answer bytes (refused n) = []
 answer bytes (done k q a) = bytes a
 
--- "a pending or Mined id then gives its old record": none of 10, 18, 11, 12 is asked
+-- "a pending or Mined id then gives its old record": none of 10, 18, 11, 12, 20 is asked
 abbrev pub known? : Id → Queue → Bool
 known? i q = maybe false (λ r. pending? (r .state) || mined? r) (find (named? i) (q .recs))
 
@@ -61,6 +61,7 @@ ruleChecks (admitting a) q room =
     ∷ (18, not (known? (x .id) q) && leb (shareOf (x .caller) (q .limits)) (pendingsOf (x .caller) (q .recs)))
     ∷ (11, not (known? (x .id) q) && ltb (q .limits .B) (pendingBytes (q .recs) + length (x .held .bytes)))
     ∷ (12, not (known? (x .id) q) && clash? (x .held .ins) (q .recs))
+    ∷ (20, not (known? (x .id) q) && crossed? (x .held .ins) (x .held .reads) (q .recs))
     ∷ (4, ltb room (length (answer entryBytes (admit x q)))) ∷ []
 ruleChecks (cancelling i) q room =
     (13, not (isSome (find (named? i) (q .recs)))) ∷ (14, maybe false mined? (find (named? i) (q .recs)))

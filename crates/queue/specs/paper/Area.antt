@@ -7,7 +7,7 @@ use lib.ListN.{length, drop, replicate}
 use Rattle.queue.specs.paper.Records.{Bytes, Id, Terms, Held, Rec, Queue}
 use Rattle.queue.specs.paper.Lists.{maybe, map, concat}
 use Rattle.queue.specs.paper.Sound.{need}
-use Rattle.queue.specs.paper.Kinds.{newest, hasCallers}
+use Rattle.queue.specs.paper.Kinds.{newest, hasCallers, hasReads}
 use Rattle.queue.specs.Codec.{be}
 use Rattle.queue.specs.Hex.{textOf}
 
@@ -28,14 +28,23 @@ termsBytes t =
 unfoldable pub placeBytes : Option (ℕ × Id) → Bytes
 placeBytes o = flagged (λ p. be 4 (p .0) ++ p .1) o
 
--- "for a holder input count 2, ids, output count 2, ids, byte count 4, bytes"
-unfoldable pub heldBytes : Held → Bytes
-heldBytes h =
-    be 2 (length (h .ins)) ++ (concat (h .ins) ++ (be 2 (length (h .outs)) ++ (concat (h .outs) ++ (be 4 (length (h .bytes)) ++ h .bytes))))
-
 -- what only some kinds have
 abbrev pub since : Bool → Bytes → Bytes
 since has bytes = cond has bytes []
+
+-- a count of 2 bytes, and as many ids
+abbrev pub idListBytes : List Id → Bytes
+idListBytes l = be 2 (length l) ++ concat l
+
+-- "for a holder input count 2, ids, output count 2, ids, byte count 4, bytes". Document 02, P11: the read ids' "count, 2 bytes, and ids
+-- after the outputs"
+unfoldable pub heldUnder : ℕ → Held → Bytes
+heldUnder k h =
+    idListBytes (h .ins)
+    ++ (idListBytes (h .outs) ++ (since (hasReads k) (idListBytes (h .reads)) ++ (be 4 (length (h .bytes)) ++ h .bytes)))
+
+abbrev pub heldBytes : Held → Bytes
+heldBytes h = heldUnder newest h
 
 -- "kind 02; id 32; state; reason; .. ; mined ..; withdrawn mark; finish number 8; holder flag; .." Document 02, P8: "the caller, one
 -- byte after the id"
@@ -45,7 +54,7 @@ recUnder k r =
     ++ (since (hasCallers k) (be 1 (r .caller))
     ++ (be 1 (r .state)
     ++ (be 1 (r .reason)
-    ++ (termsBytes (r .terms) ++ (placeBytes (r .place) ++ (be 1 (r .mark) ++ (be 8 (r .finish) ++ flagged heldBytes (r .body)))))))))
+    ++ (termsBytes (r .terms) ++ (placeBytes (r .place) ++ (be 1 (r .mark) ++ (be 8 (r .finish) ++ flagged (heldUnder k) (r .body)))))))))
 
 abbrev pub recBytes : Rec → Bytes
 recBytes r = recUnder newest r
@@ -55,7 +64,7 @@ unfoldable pub sharesBytes : List ℕ → Bytes
 sharesBytes l = concat (map (be 4) l)
 
 -- "Header: kind 01; P, B, T, K 4 each; revision 8; cursor height 4; tip flag, tip 32; counter 8; record count 4." Document 02, P4:
--- "header kind 03"; P8: "the header kind becomes 04, with the shares, 4 bytes each, after K"
+-- "header kind 03"; P8: "the header kind becomes 04, with the shares, 4 bytes each, after K"; P11: "header kind 05"
 unfoldable pub headUnder : ℕ → Queue → Bytes
 headUnder k q =
     k ∷ (be 4 (q .limits .P)

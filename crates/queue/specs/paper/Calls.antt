@@ -16,8 +16,8 @@ use Rattle.queue.specs.Areas.{readArea}
 use Rattle.queue.specs.paper.Records.{Bytes, Id, Limits, Terms, Held, Rec, Queue}
 use Rattle.queue.specs.paper.Lists.{isSome, maybe, one, find, map, concat}
 use Rattle.queue.specs.paper.Ids.{rise?}
-use Rattle.queue.specs.paper.Sound.{inRange, sharesRight?, need, inputs, callerRight?}
-use Rattle.queue.specs.paper.Area.{flagged, termsBytes, placeBytes, headBytes, recBytes, areaBytes, beVal, over}
+use Rattle.queue.specs.paper.Sound.{inRange, sharesRight?, need, inputs, reads, callerRight?}
+use Rattle.queue.specs.paper.Area.{flagged, idListBytes, termsBytes, placeBytes, headBytes, recBytes, areaBytes, beVal, over}
 use Rattle.queue.specs.paper.Changing.{Out, refused, done, named?, moved, Admission, admit, cancel, expire, Applied, Reconciling, reconcile, reopen, setCursor}
 use Rattle.queue.specs.paper.Reading.{selectionAt}
 
@@ -79,14 +79,14 @@ givenId? flag s = flag? flag && (eqb flag 0 || id? s)
 abbrev pub counted : {A : Type 0} → (A → Bytes) → List A → Bytes
 counted f l = be 4 (length l) ++ concat (map f l)
 
--- an entry: the record frame from the id to the mined place, and the inputs
+-- an entry: the record frame from the id to the mined place, the inputs and the read ids
 unfoldable pub entryBytes : Rec → Bytes
 entryBytes r =
     r .id
     ++ (be 1 (r .caller)
     ++ (be 1 (r .state)
     ++ (be 1 (r .reason)
-    ++ (termsBytes (r .terms) ++ (placeBytes (r .place) ++ (be 2 (length (inputs (r .body))) ++ concat (inputs (r .body))))))))
+    ++ (termsBytes (r .terms) ++ (placeBytes (r .place) ++ (idListBytes (inputs (r .body)) ++ idListBytes (reads (r .body))))))))
 
 unfoldable pub idsBytes : List Id → Bytes
 idsBytes l = be 4 (length l) ++ concat l
@@ -114,6 +114,7 @@ pub record AdmitArgs : Type 0 where
   pub caller : ℕ
   pub inputs : Bytes
   pub outputs : Bytes
+  pub reads : Bytes
   pub bytes : Bytes
   pub now : ℕ
   pub timeFlag : ℕ
@@ -130,8 +131,8 @@ pub record AdmitArgs : Type 0 where
   pub tip : Bytes
 
 -- in the order of docs/CALLS.md
-abbrev pub admitArgs : Bytes → ℕ → Bytes → Bytes → Bytes → ℕ → ℕ → ℕ → ℕ → ℕ → ℕ → ℕ → Bytes → ℕ → ℕ → ℕ → ℕ → Bytes → AdmitArgs
-admitArgs id caller inputs outputs bytes now timeFlag time heightFlag height priority labelFlag label fee cost tipHeight tipFlag tip = record { id = id; caller = caller; inputs = inputs; outputs = outputs; bytes = bytes; now = now; timeFlag = timeFlag; time = time; heightFlag = heightFlag; height = height; priority = priority; labelFlag = labelFlag; label = label; fee = fee; cost = cost; tipHeight = tipHeight; tipFlag = tipFlag; tip = tip }
+abbrev pub admitArgs : Bytes → ℕ → Bytes → Bytes → Bytes → Bytes → ℕ → ℕ → ℕ → ℕ → ℕ → ℕ → ℕ → Bytes → ℕ → ℕ → ℕ → ℕ → Bytes → AdmitArgs
+admitArgs id caller inputs outputs reads bytes now timeFlag time heightFlag height priority labelFlag label fee cost tipHeight tipFlag tip = record { id = id; caller = caller; inputs = inputs; outputs = outputs; reads = reads; bytes = bytes; now = now; timeFlag = timeFlag; time = time; heightFlag = heightFlag; height = height; priority = priority; labelFlag = labelFlag; label = label; fee = fee; cost = cost; tipHeight = tipHeight; tipFlag = tipFlag; tip = tip }
 
 abbrev pub admission : AdmitArgs → Admission
 admission a = record {
@@ -144,7 +145,7 @@ admission a = record {
   label = given (a .labelFlag) (a .label);
   fee = a .fee;
   cost = a .cost;
-  held = record { ins = items 32 (a .inputs); outs = items 32 (a .outputs); bytes = a .bytes };
+  held = record { ins = items 32 (a .inputs); outs = items 32 (a .outputs); reads = items 32 (a .reads); bytes = a .bytes };
   tipHeight = a .tipHeight;
   tip = given (a .tipFlag) (a .tip);
 }
@@ -180,7 +181,7 @@ pub data Call : Type 0 where
 -- "a caller number over 15 is 5"
 abbrev pub shape? : Call → Bool
 shape? (admitting a) =
-    ((id? (a .id) && callerRight? (a .caller)) && (whole? 32 (a .inputs) && whole? 32 (a .outputs)))
+    ((id? (a .id) && callerRight? (a .caller)) && (whole? 32 (a .inputs) && (whole? 32 (a .outputs) && whole? 32 (a .reads))))
     && ((flag? (a .timeFlag) && flag? (a .heightFlag)) && (flag? (a .labelFlag) && givenId? (a .tipFlag) (a .tip)))
 shape? (cancelling i) = id? i
 shape? (expiring now height) = true
@@ -190,9 +191,9 @@ shape? (reconciling a) =
 shape? (reopening ids) = idList? ids
 shape? (settingCursor height flag tip) = givenId? flag tip
 
--- 6: "over K inputs or outputs"
+-- 6: "over K inputs or outputs". Document 02, P11: "over K of them", the read ids, "is 6"
 abbrev pub overK? : ℕ → AdmitArgs → Bool
-overK? K a = ltb K (length (a .inputs) / 32) || ltb K (length (a .outputs) / 32)
+overK? K a = ltb K (length (a .inputs) / 32) || (ltb K (length (a .outputs) / 32) || ltb K (length (a .reads) / 32))
 
 -- "Each answer, kind and next it works out from its own queue, by this paper's rules and refusals", from the lengths of what is
 -- lent: the answer, the next queue, and the answer's bytes

@@ -10,7 +10,7 @@ use Rattle.queue.specs.declared.Answer.{Answer}
 use Rattle.queue.specs.paper.Records.{Bytes, Id, Rec, Queue}
 use Rattle.queue.specs.paper.Lists.{maybe, any?, find, map}
 use Rattle.queue.specs.paper.Ids.{same?}
-use Rattle.queue.specs.paper.Sound.{inputs, outputs, among?}
+use Rattle.queue.specs.paper.Sound.{outputs, wanted, among?}
 use Rattle.queue.specs.paper.Reading.{selected?, selectedAt}
 use Rattle.queue.specs.paper.Calls.{idsBytes, readOf}
 
@@ -35,13 +35,10 @@ module _ {A : Type 0} (waits? : A → A → Bool) where
   abbrev pub parentsFirst : List A → List A
   parentsFirst selected = listed (length selected) selected
 
--- "one of its inputs": the ids that a record waits for
-abbrev pub wanted : Rec → List Id
-wanted r = inputs (r .body)
-
--- "A record waits for every other selected record that has one of its inputs among its outputs."
+-- "A record waits for every other selected record that has one of its inputs among its outputs." P11: it "waits for them", its read ids,
+-- "as for inputs"
 unfoldable pub waitsFor? : Rec → Rec → Bool
-waitsFor? r x = not (same? (r .id) (x .id)) && any? (λ i. among? i (outputs (x .body))) (wanted r)
+waitsFor? r x = not (same? (r .id) (x .id)) && any? (λ i. among? i (outputs (x .body))) (wanted (r .body))
 
 -- ---- the call
 

@@ -2,9 +2,9 @@
 use mathlib.Core.Path.{_≡_}
 use mathlib.Core.Bool.{Bool, true, false, cond, not, _&&_, _||_}
 use mathlib.Core.List.{List, [], _∷_, _++_}
-use Prim.Native.Nat.{ℕ, zero, suc, _+_, _*_, _/_, _%_, _^_, _≤_, _<_}
+use Prim.Native.Nat.{ℕ, zero, suc, _+_, _-_, _*_, _/_, _%_, _^_, _≤_, _<_}
 use lib.Dec.{ltb, eqb}
-use lib.ListN.{length, getD, set}
+use lib.ListN.{length, getD, set, take, drop}
 use Rattle.queue.specs.Filter.{slotL, marked, markL}
 use Rattle.queue.specs.View.{view}
 use Rattle.queue.specs.ReadLaws.{beAt}
@@ -15,7 +15,7 @@ use Rattle.queue.specs.fees.Told.{recAt, Known}
 use Rattle.queue.specs.paper.Records.{Bytes, Id, Rec}
 use Rattle.queue.specs.paper.Lists.{any?, all?}
 use Rattle.queue.specs.paper.Ids.{same?}
-use Rattle.queue.specs.paper.Sound.{inputs, outputs, among?}
+use Rattle.queue.specs.paper.Sound.{inputs, outputs, reads, wanted, among?}
 
 -- any number of an id serves: only speed depends on it
 unfoldable pub hashAll : Id → ℕ
@@ -23,14 +23,14 @@ hashAll x = ((beAt 8 (view false x 0) 0 + beAt 8 (view false x 0) 8) % 2 ^ 64 + 
 
 -- what the record at place number i of `at` wants, and its outputs
 abbrev pub wantsAt : Bytes → List ℕ → ℕ → List Id
-wantsAt s at i = inputs (recAt s (getD at i 0) .body)
+wantsAt s at i = wanted (recAt s (getD at i 0) .body)
 
 abbrev pub outsAt : Bytes → List ℕ → ℕ → List Id
 outsAt s at i = outputs (recAt s (getD at i 0) .body)
 
--- one that wants at most 128 ids
+-- one that spends at most 128 ids, and reads as many
 abbrev pub Modest : Rec → Type 0
-Modest r = length (inputs (r .body)) ≤ 128
+Modest r = (length (inputs (r .body)) ≤ 128) × (length (reads (r .body)) ≤ 128)
 
 abbrev pub Short : Bytes → ℕ → Type 0
 Short s p = Modest (recAt s p)
@@ -90,6 +90,25 @@ pub record Held (s : Bytes) (slots t rows : List ℕ) (own : ℕ → Id → Bool
 pub record Rowed (s : Bytes) (j : ℕ) (ids : List Id) (slots t rows slots′ t′ rows′ : List ℕ) : Type 0 where
   pub sizes : (length slots′ ≡ length slots) × (length t′ ≡ length t)
   pub by : (own : ℕ → Id → Bool) → Held s slots t rows own → Held s slots′ t′ rows′ (λ i z. own i z || (eqb i j && among? z ids))
+
+-- the row before place k of v has the id and the number of x
+pub record Again (s : Bytes) (v : List ℕ) (k x : ℕ) : Type 0 where
+  pub some : 0 < k
+  pub id : idR false s (getD v (k - 1) 0) ≡ idR false s x
+  pub number : noR (getD v (k - 1) 0) ≡ noR x
+
+-- z has some of the rows v, and says the same
+pub record Thinned (s : Bytes) (v z : List ℕ) : Type 0 where
+  pub same : (j : ℕ) (i : Id) → any? (hit s j i) z ≡ any? (hit s j i) v
+  pub some : (p : ℕ → Bool) → all? p v ≡ true → all? p z ≡ true
+
+-- the row x behind the first k of v, or not
+pub record Thinner (s : Bytes) (v : List ℕ) (k x r : ℕ) (v′ : List ℕ) : Type 0 where
+  pub size : length v′ ≡ length v
+  pub up : r ≤ k + 1
+  pub rest : drop (k + 1) v′ ≡ drop (k + 1) v
+  pub same : (j : ℕ) (i : Id) → any? (hit s j i) (take r v′) ≡ (any? (hit s j i) (take k v) || hit s j i x)
+  pub some : (p : ℕ → Bool) → all? p (take k v) ≡ true → p x ≡ true → all? p (take r v′) ≡ true
 
 -- bits that come of the rows, whatever these say
 pub record Linked (w : ℕ) (s : Bytes) (slots t rows bits bits′ : List ℕ) (new : (ℕ → Id → Bool) → ℕ → ℕ → Bool) : Type 0 where

@@ -28,22 +28,22 @@ either-requires : tie.Need-either-requires
 either-requires c κs = search needs
 
 entry-len-requires : tie.Need-entry-len-requires
-entry-len-requires c κs = entry-asks (c .before .before .before .before .before .before .before .before .before .before .before .before .before .before .pre .0) (c .before .before .before .before .before .rec-at .ensures)
+entry-len-requires c κs = entry-asks (c .before .before .before .before .before .before .before .before .before .before .before .before .before .before .before .pre .0) (c .before .before .before .before .before .rec-at .ensures)
 
 returns : tie.Need-returns
-returns c = known-4 (c .before .before .before .before .before .before .before .before .before .before .before .before .before .before .before .before .pre .0) (c .before .before .before .before .before .before .before .rec-at .ensures) (argsOf (c .before .before .before .before .before .before .before .before .before .before .before .before .before .before .before .before .args .x) (c .before .before .before .before .before .before .before .before .before .before .before .before .before .before .before .before .args .id) (c .before .before .before .before .before .before .before .before .before .before .before .before .before .before .before .before .args .inputs .now) (c .before .before .before .before .before .before .before .before .before .before .before .before .before .before .before .before .args .outputs .now) (c .before .before .before .before .before .before .before .before .before .before .before .before .before .before .before .before .args .bytes .now) (c .before .before .before .before .before .before .before .before .before .before .before .before .before .before .before .before .args .label .now) (c .before .before .before .before .before .before .before .before .before .before .before .before .before .before .before .before .args .tip .now)) refl (c .before .before .before .either .ensures ∙ ap (λ (p : Bool). p || eqb (c .before .before .before .before .before .before .before .rec-at .result .facts .state) 2) (c .before .before .before .before .before .pending .ensures)) _ _ (c .before .before .if1 .taken) (c .before .entry-len .ensures .0) (c .if2 .taken)
+returns c = known-4 (c .before .before .before .before .before .before .before .before .before .before .before .before .before .before .before .before .before .pre .0) (c .before .before .before .before .before .before .before .rec-at .ensures) (argsOf (c .before .before .before .before .before .before .before .before .before .before .before .before .before .before .before .before .before .args .x) (c .before .before .before .before .before .before .before .before .before .before .before .before .before .before .before .before .before .args .id) (c .before .before .before .before .before .before .before .before .before .before .before .before .before .before .before .before .before .args .inputs .now) (c .before .before .before .before .before .before .before .before .before .before .before .before .before .before .before .before .before .args .outputs .now) (c .before .before .before .before .before .before .before .before .before .before .before .before .before .before .before .before .before .args .reads .now) (c .before .before .before .before .before .before .before .before .before .before .before .before .before .before .before .before .before .args .bytes .now) (c .before .before .before .before .before .before .before .before .before .before .before .before .before .before .before .before .before .args .label .now) (c .before .before .before .before .before .before .before .before .before .before .before .before .before .before .before .before .before .args .tip .now)) refl (c .before .before .before .either .ensures ∙ ap (λ (p : Bool). p || eqb (c .before .before .before .before .before .before .before .rec-at .result .facts .state) 2) (c .before .before .before .before .before .pending .ensures)) _ _ (c .before .before .if1 .taken) (c .before .entry-len .ensures .0) (c .if2 .taken)
 
 put-entry-requires : tie.Need-put-entry-requires
-put-entry-requires c κs = (put-asks (c .before .before .before .before .before .before .before .before .before .before .before .before .before .before .before .before .before .pre .0) (c .before .before .before .before .before .before .before .before .rec-at .ensures), omega (arith, c .before .before .entry-len .ensures .0, c .before .if2 .left))
+put-entry-requires c κs = (put-asks (c .before .before .before .before .before .before .before .before .before .before .before .before .before .before .before .before .before .before .pre .0) (c .before .before .before .before .before .before .before .before .rec-at .ensures), omega (arith, c .before .before .entry-len .ensures .0, c .before .if2 .left))
 
 same-length : tie.Need-same-length
 same-length c = search needs
 
 returns-2 : tie.Need-returns-2
-returns-2 c = known-100 (c .before .before .before .before .before .before .before .before .before .before .before .before .before .before .before .before .before .before .before .before .pre .0) (c .before .before .before .before .before .before .before .before .before .before .before .rec-at .ensures) (argsOf (c .before .before .before .before .before .before .before .before .before .before .before .before .before .before .before .before .before .before .before .before .args .x) (c .before .before .before .before .before .before .before .before .before .before .before .before .before .before .before .before .before .before .before .before .args .id) (c .before .before .before .before .before .before .before .before .before .before .before .before .before .before .before .before .before .before .before .before .args .inputs .now) (c .before .before .before .before .before .before .before .before .before .before .before .before .before .before .before .before .before .before .before .before .args .outputs .now) (c .before .before .before .before .before .before .before .before .before .before .before .before .before .before .before .before .before .before .before .before .args .bytes .now) (c .before .before .before .before .before .before .before .before .before .before .before .before .before .before .before .before .before .before .before .before .args .label .now) (c .before .before .before .before .before .before .before .before .before .before .before .before .before .before .before .before .before .before .before .before .args .tip .now)) refl (c .before .before .before .before .before .before .before .either .ensures ∙ ap (λ (p : Bool). p || eqb (c .before .before .before .before .before .before .before .before .before .before .before .rec-at .result .facts .state) 2) (c .before .before .before .before .before .before .before .before .before .pending .ensures)) _ _ (c .before .before .before .before .before .before .if1 .taken) (c .before .before .before .before .before .entry-len .ensures .0) (c .before .before .before .before .if2 .left) (c .before .before .put-entry .ensures)
+returns-2 c = known-100 (c .before .before .before .before .before .before .before .before .before .before .before .before .before .before .before .before .before .before .before .before .before .pre .0) (c .before .before .before .before .before .before .before .before .before .before .before .rec-at .ensures) (argsOf (c .before .before .before .before .before .before .before .before .before .before .before .before .before .before .before .before .before .before .before .before .before .args .x) (c .before .before .before .before .before .before .before .before .before .before .before .before .before .before .before .before .before .before .before .before .before .args .id) (c .before .before .before .before .before .before .before .before .before .before .before .before .before .before .before .before .before .before .before .before .before .args .inputs .now) (c .before .before .before .before .before .before .before .before .before .before .before .before .before .before .before .before .before .before .before .before .before .args .outputs .now) (c .before .before .before .before .before .before .before .before .before .before .before .before .before .before .before .before .before .before .before .before .before .args .reads .now) (c .before .before .before .before .before .before .before .before .before .before .before .before .before .before .before .before .before .before .before .before .before .args .bytes .now) (c .before .before .before .before .before .before .before .before .before .before .before .before .before .before .before .before .before .before .before .before .before .args .label .now) (c .before .before .before .before .before .before .before .before .before .before .before .before .before .before .before .before .before .before .before .before .before .args .tip .now)) refl (c .before .before .before .before .before .before .before .either .ensures ∙ ap (λ (p : Bool). p || eqb (c .before .before .before .before .before .before .before .before .before .before .before .rec-at .result .facts .state) 2) (c .before .before .before .before .before .before .before .before .before .pending .ensures)) _ _ (c .before .before .before .before .before .before .if1 .taken) (c .before .before .before .before .before .entry-len .ensures .0) (c .before .before .before .before .if2 .left) (c .before .before .put-entry .ensures)
 
 admit-new-requires : tie.Need-admit-new-requires
-admit-new-requires c κs = (area-of (c .before .before .before .before .before .before .before .before .before .before .before .before .before .before .before .before .pre .0), c .before .before .before .before .before .before .before .before .before .before .before .before .before .before .before .before .pre .1, c .before .before .before .before .before .before .before .before .before .before .before .before .before .before .before .before .pre .2)
+admit-new-requires c κs = (area-of (c .before .before .before .before .before .before .before .before .before .before .before .before .before .before .before .before .before .pre .0), c .before .before .before .before .before .before .before .before .before .before .before .before .before .before .before .before .before .pre .1, c .before .before .before .before .before .before .before .before .before .before .before .before .before .before .before .before .before .pre .2)
 
 same-length-2 : tie.Need-same-length-2
 same-length-2 c = search needs
@@ -52,7 +52,7 @@ same-length-3 : tie.Need-same-length-3
 same-length-3 c = search needs
 
 returns-3 : tie.Need-returns-3
-returns-3 c = known-not (c .before .before .before .before .before .before .before .before .before .before .before .before .before .before .before .before .before .before .before .before .before .pre .0) (c .before .before .before .before .before .before .before .before .before .before .before .before .rec-at .ensures) (argsOf (c .before .before .before .before .before .before .before .before .before .before .before .before .before .before .before .before .before .before .before .before .before .args .x) (c .before .before .before .before .before .before .before .before .before .before .before .before .before .before .before .before .before .before .before .before .before .args .id) (c .before .before .before .before .before .before .before .before .before .before .before .before .before .before .before .before .before .before .before .before .before .args .inputs .now) (c .before .before .before .before .before .before .before .before .before .before .before .before .before .before .before .before .before .before .before .before .before .args .outputs .now) (c .before .before .before .before .before .before .before .before .before .before .before .before .before .before .before .before .before .before .before .before .before .args .bytes .now) (c .before .before .before .before .before .before .before .before .before .before .before .before .before .before .before .before .before .before .before .before .before .args .label .now) (c .before .before .before .before .before .before .before .before .before .before .before .before .before .before .before .before .before .before .before .before .before .args .tip .now)) refl (c .before .before .before .before .before .before .before .before .either .ensures ∙ ap (λ (p : Bool). p || eqb (c .before .before .before .before .before .before .before .before .before .before .before .before .rec-at .result .facts .state) 2) (c .before .before .before .before .before .before .before .before .before .before .pending .ensures)) _ _ (c .before .before .before .before .before .before .before .if1 .left) (c .before .before .before .before .admit-new .ensures)
+returns-3 c = known-not (c .before .before .before .before .before .before .before .before .before .before .before .before .before .before .before .before .before .before .before .before .before .before .pre .0) (c .before .before .before .before .before .before .before .before .before .before .before .before .rec-at .ensures) (argsOf (c .before .before .before .before .before .before .before .before .before .before .before .before .before .before .before .before .before .before .before .before .before .before .args .x) (c .before .before .before .before .before .before .before .before .before .before .before .before .before .before .before .before .before .before .before .before .before .before .args .id) (c .before .before .before .before .before .before .before .before .before .before .before .before .before .before .before .before .before .before .before .before .before .before .args .inputs .now) (c .before .before .before .before .before .before .before .before .before .before .before .before .before .before .before .before .before .before .before .before .before .before .args .outputs .now) (c .before .before .before .before .before .before .before .before .before .before .before .before .before .before .before .before .before .before .before .before .before .before .args .reads .now) (c .before .before .before .before .before .before .before .before .before .before .before .before .before .before .before .before .before .before .before .before .before .before .args .bytes .now) (c .before .before .before .before .before .before .before .before .before .before .before .before .before .before .before .before .before .before .before .before .before .before .args .label .now) (c .before .before .before .before .before .before .before .before .before .before .before .before .before .before .before .before .before .before .before .before .before .before .args .tip .now)) refl (c .before .before .before .before .before .before .before .before .either .ensures ∙ ap (λ (p : Bool). p || eqb (c .before .before .before .before .before .before .before .before .before .before .before .before .rec-at .result .facts .state) 2) (c .before .before .before .before .before .before .before .before .before .before .pending .ensures)) _ _ (c .before .before .before .before .before .before .before .if1 .left) (c .before .before .before .before .admit-new .ensures)
 
 pub admit-found-spec : {M : Type 1} → statement M
 admit-found-spec =

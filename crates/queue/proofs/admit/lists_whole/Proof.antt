@@ -17,6 +17,9 @@ size-requires-2 c κs = search needs
 size-requires-3 : tie.Need-size-requires-3
 size-requires-3 c κs = search needs
 
+size-requires-4 : tie.Need-size-requires-4
+size-requires-4 c κs = search needs
+
 both-requires : tie.Need-both-requires
 both-requires c κs = search needs
 
@@ -26,8 +29,11 @@ both-requires-2 c κs = search needs
 both-requires-3 : tie.Need-both-requires-3
 both-requires-3 c κs = search needs
 
+both-requires-4 : tie.Need-both-requires-4
+both-requires-4 c κs = search needs
+
 returns : tie.Need-returns
-returns c = lists-are (c .before .before .before .before .before .before .before .before .before .args .id .now) (c .before .before .before .before .before .before .before .before .before .args .inputs .now) (c .before .before .before .before .before .before .before .before .before .args .outputs .now) (c .before .before .before .before .before .before .before .before .before .args .caller) (c .both3 .ensures) (c .before .before .both .ensures) (c .before .both2 .ensures) (c .before .before .before .before .before .size .ensures .0) (c .before .before .before .before .before .size .ensures .2) (c .before .before .before .before .size2 .ensures .0) (c .before .before .before .before .size2 .ensures .2) (c .before .before .before .size3 .ensures .0) (c .before .before .before .size3 .ensures .2)
+returns c = lists-are (c .before .before .before .before .before .before .before .before .before .before .before .before .args .id .now) (c .before .before .before .before .before .before .before .before .before .before .before .before .args .inputs .now) (c .before .before .before .before .before .before .before .before .before .before .before .before .args .outputs .now) (c .before .before .before .before .before .before .before .before .before .before .before .before .args .reads .now) (c .before .before .before .before .before .before .before .before .before .before .before .before .args .caller) (c .both4 .ensures) (c .before .before .before .both .ensures) (c .before .both3 .ensures) (c .before .before .both2 .ensures) (c .before .before .before .before .before .before .before .size .ensures .0) (c .before .before .before .before .before .before .before .size .ensures .2) (c .before .before .before .before .before .before .size2 .ensures .0) (c .before .before .before .before .before .before .size2 .ensures .2) (c .before .before .before .before .before .size3 .ensures .0) (c .before .before .before .before .before .size3 .ensures .2) (c .before .before .before .before .size4 .ensures .0) (c .before .before .before .before .size4 .ensures .2)
 
 pub lists-whole-spec : {M : Type 1} → statement M
 lists-whole-spec =
@@ -36,7 +42,9 @@ lists-whole-spec =
     size-requires
     size-requires-2
     size-requires-3
+    size-requires-4
     both-requires
     both-requires-2
     both-requires-3
+    both-requires-4
     returns)

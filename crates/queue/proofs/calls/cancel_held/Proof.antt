@@ -6,6 +6,8 @@ use Rattle.queue.proofs.calls.cancel_held.Statement.{statement}
 use Rattle.queue.proofs.calls.cancel_held.Tie as tie
 use Rattle.queue.proofs.calls.cancel_held.Reads as reads
 use Rattle.queue.proofs.calls.cancel_held.Lts as lts
+use Rattle.queue.proofs.calls.put_end.Reads as put-end-reads
+use Rattle.queue.proofs.write.put_ended.Reads as put-ended-reads
 
 sub-if1 : tie.Need-sub-if1
 sub-if1 c = omega (arith, c .before .before .before .before .before .before .before .pre .0 .read .store .head .counterSmall)

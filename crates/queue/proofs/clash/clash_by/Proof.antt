@@ -6,6 +6,9 @@ use Rattle.queue.proofs.clash.clash_by.Statement.{statement}
 use Rattle.queue.proofs.clash.clash_by.Tie as tie
 use Rattle.queue.proofs.clash.clash_by.Reads as reads
 use Rattle.queue.proofs.clash.clash_by.Lts as lts
+use Rattle.queue.proofs.clash.any_meets.Reads as any-meets-reads
+use Rattle.queue.proofs.suspects.in_order.Reads as in-order-reads
+use Rattle.queue.proofs.suspects.order_rows.Reads as order-rows-reads
 
 order-rows-requires : tie.Need-order-rows-requires
 order-rows-requires c κs = search needs
@@ -13,21 +16,16 @@ order-rows-requires c κs = search needs
 in-order-requires : tie.Need-in-order-requires
 in-order-requires c κs = search needs
 
-any-input-requires : tie.Need-any-input-requires
-any-input-requires c κs = (c .before .before .before .before .before .before .before .before .before .before .pre .0, c .before .before .before .before .before .before .before .before .before .before .pre .1, c .before .before .before .before .before .before .before .before .before .before .pre .2, rows-moved (c .before .before .before .before .before .order-rows .ensures) (c .before .before .before .before .before .before .before .before .before .before .pre .3), c .before .in-order .ensures)
+any-meets-requires : tie.Need-any-meets-requires
+any-meets-requires c κs = (c .before .before .before .before .before .before .before .before .before .before .pre .0, c .before .before .before .before .before .before .before .before .before .before .pre .1, c .before .before .before .before .before .before .before .before .before .before .pre .2, rows-moved (c .before .before .before .before .before .order-rows .ensures) (c .before .before .before .before .before .before .before .before .before .before .pre .3), c .before .in-order .ensures)
 
 same-length : tie.Need-same-length
 same-length c = search needs
 
 returns : tie.Need-returns
-returns c = c .any-input .ensures ∙ meets-clash _ _
+returns c = c .any-meets .ensures ∙ meets-clash _ _ _
 
 pub clash-by-spec : {M : Type 1} → statement M
 clash-by-spec =
     tie.close
-    (tie.spec
-    order-rows-requires
-    in-order-requires
-    any-input-requires
-    same-length
-    returns)
+    (tie.spec order-rows-requires in-order-requires any-meets-requires same-length returns)

@@ -7,6 +7,8 @@ use Rattle.queue.proofs.clash.ids_clash.Statement.{statement}
 use Rattle.queue.proofs.clash.ids_clash.Tie as tie
 use Rattle.queue.proofs.clash.ids_clash.Reads as reads
 use Rattle.queue.proofs.clash.ids_clash.Lts as lts
+use Rattle.queue.proofs.clash.clash_by.Reads as clash-by-reads
+use Rattle.queue.proofs.clash.place_rows.Reads as place-rows-reads
 
 slice-aggregate-place-rows : tie.Need-slice-aggregate-place-rows
 slice-aggregate-place-rows c = search needs

@@ -42,7 +42,7 @@ all4-requires-2 : tie.Need-all4-requires-2
 all4-requires-2 c κs = search needs
 
 returns : tie.Need-returns
-returns c = rec-read (c .before .before .before .before .before .before .before .before .before .before .before .before .before .before .before .before .before .args .form .kind) _ _ _ (c .before .before .before .before .before .before .before .before .before .before .before .before .before .before .before .tag-at .ensures) (c .before .before .before .before .before .before .before .before .before .before .before .before .before .before .id-read .ensures) (c .before .before .before .before .before .before .before .before .before .before .before .before .before .caller-at .ensures) (c .before .before .before .before .before .before .before .before .before .before .before .before .num .ensures) (c .before .before .before .before .before .before .before .before .before .before .before .num2 .ensures) (c .before .before .before .before .before .before .before .before .before .before .terms-at .ensures) (c .before .before .before .before .before .before .before .before .before .rest-at .ensures) (c .before .all42 .ensures ∙ rw (c .before .before .all4 .ensures)) refl refl refl refl refl refl refl refl refl refl
+returns c = rec-read (c .before .before .before .before .before .before .before .before .before .before .before .before .before .before .before .before .before .args .form .kind) _ _ _ (c .before .before .before .before .before .before .before .before .before .before .before .before .before .before .before .tag-at .ensures) (c .before .before .before .before .before .before .before .before .before .before .before .before .before .before .id-read .ensures) (c .before .before .before .before .before .before .before .before .before .before .before .before .before .caller-at .ensures) (c .before .before .before .before .before .before .before .before .before .before .before .before .num .ensures) (c .before .before .before .before .before .before .before .before .before .before .before .num2 .ensures) (c .before .before .before .before .before .before .before .before .before .before .terms-at .ensures) (c .before .before .before .before .before .before .before .before .before .rest-at .ensures) (c .before .all42 .ensures ∙ rw (c .before .before .all4 .ensures)) refl refl refl refl refl refl refl refl refl refl refl
 
 pub rec-any-spec : {M : Type 1} → statement M
 rec-any-spec =

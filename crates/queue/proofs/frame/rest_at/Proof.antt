@@ -28,7 +28,7 @@ all4-requires : tie.Need-all4-requires
 all4-requires c κs = search needs
 
 returns : tie.Need-returns
-returns c = rest-read (c .before .before .before .before .before .before .before .args .form .kind) _ _ (c .before .before .before .before .before .place-at .ensures) (c .before .before .before .before .mark-at .ensures) (c .before .before .before .num .ensures) (c .before .before .body-at .ensures) (c .before .all4 .ensures) refl refl refl refl refl
+returns c = rest-read (c .before .before .before .before .before .before .before .args .form .kind) _ _ (c .before .before .before .before .before .place-at .ensures) (c .before .before .before .before .mark-at .ensures) (c .before .before .before .num .ensures) (c .before .before .body-at .ensures) (c .before .all4 .ensures) refl refl refl refl refl refl
 
 pub rest-at-spec : {M : Type 1} → statement M
 rest-at-spec =

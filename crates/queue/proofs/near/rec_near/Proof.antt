@@ -40,7 +40,7 @@ all4-requires-2 : tie.Need-all4-requires-2
 all4-requires-2 c κs = search needs
 
 returns : tie.Need-returns
-returns c = rec-read newest _ _ _ (tag-good 2 (omega (arith, c .before .before .before .before .before .before .before .before .before .before .before .before .before .before .before .pre .0 .1)) (c .before .before .before .before .before .before .before .before .before .before .before .before .before .before .before .pre .0 .2 _ (omega (arith, c .before .before .before .before .before .before .before .before .before .before .before .before .before .before .before .pre .0 .1))) refl (c .before .before .before .before .before .before .before .before .before .before .before .before .before .before .before .pre .1)) (id-good (span-near (omega (arith, c .before .before .before .before .before .before .before .before .before .before .before .before .before .before .before .pre .0 .1)) (c .before .before .before .before .before .before .before .before .before .before .before .before .before .before .before .pre .0 .2)) refl (c .before .before .before .before .before .before .before .before .before .before .before .before .before .id-at .ensures)) (caller-yes newest refl (c .before .before .before .before .before .before .before .before .before .before .before .before .num-near .ensures .0)) (c .before .before .before .before .before .before .before .before .before .before .before .num-near2 .ensures .0) (c .before .before .before .before .before .before .before .before .before .before .num-near3 .ensures .0) (c .before .before .before .before .before .before .before .before .before .terms-near .ensures .0) (c .before .before .before .before .before .before .before .before .rest-near .ensures) (c .all42 .ensures ∙ rw (c .before .all4 .ensures)) refl refl refl refl refl refl refl refl refl refl
+returns c = rec-read newest _ _ _ (tag-good 2 (omega (arith, c .before .before .before .before .before .before .before .before .before .before .before .before .before .before .before .pre .0 .1)) (c .before .before .before .before .before .before .before .before .before .before .before .before .before .before .before .pre .0 .2 _ (omega (arith, c .before .before .before .before .before .before .before .before .before .before .before .before .before .before .before .pre .0 .1))) refl (c .before .before .before .before .before .before .before .before .before .before .before .before .before .before .before .pre .1)) (id-good (span-near (omega (arith, c .before .before .before .before .before .before .before .before .before .before .before .before .before .before .before .pre .0 .1)) (c .before .before .before .before .before .before .before .before .before .before .before .before .before .before .before .pre .0 .2)) refl (c .before .before .before .before .before .before .before .before .before .before .before .before .before .id-at .ensures)) (caller-yes newest refl (c .before .before .before .before .before .before .before .before .before .before .before .before .num-near .ensures .0)) (c .before .before .before .before .before .before .before .before .before .before .before .num-near2 .ensures .0) (c .before .before .before .before .before .before .before .before .before .before .num-near3 .ensures .0) (c .before .before .before .before .before .before .before .before .before .terms-near .ensures .0) (c .before .before .before .before .before .before .before .before .rest-near .ensures) (c .all42 .ensures ∙ rw (c .before .all4 .ensures)) refl refl refl refl refl refl refl refl refl refl refl
 
 pub rec-near-spec : {M : Type 1} → statement M
 rec-near-spec =

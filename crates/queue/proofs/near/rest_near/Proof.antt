@@ -8,7 +8,7 @@ use Rattle.queue.proofs.near.rest_near.Statement.{statement}
 use Rattle.queue.proofs.near.rest_near.Tie as tie
 use Rattle.queue.proofs.near.rest_near.Reads as reads
 use Rattle.queue.proofs.near.rest_near.Lts as lts
-use Rattle.queue.proofs.frame.body_at.Reads as body-at-reads
+use Rattle.queue.proofs.near.body_near.Reads as body-near-reads
 use Rattle.queue.proofs.logic.all4.Reads as all4-reads
 use Rattle.queue.proofs.near.num_near.Reads as num-near-reads
 use Rattle.queue.proofs.near.place_near.Reads as place-near-reads
@@ -22,14 +22,14 @@ num-near-requires c κs = (omega arith, (omega (arith, c .place-near .ensures .1
 num-near-requires-2 : tie.Need-num-near-requires-2
 num-near-requires-2 c κs = (omega arith, (omega (arith, c .num-near .ensures .1, c .before .place-near .ensures .1, c .before .before .before .pre .0), omega (arith, c .num-near .ensures .1, c .before .place-near .ensures .1, c .before .before .before .pre .1), c .before .before .before .pre .2))
 
-body-at-requires : tie.Need-body-at-requires
-body-at-requires c κs = search needs
+body-near-requires : tie.Need-body-near-requires
+body-near-requires c κs = search needs
 
 all4-requires : tie.Need-all4-requires
 all4-requires c κs = search needs
 
 returns : tie.Need-returns
-returns c = rest-read newest _ _ (c .before .before .before .before .before .place-near .ensures .0) (c .before .before .before .before .num-near .ensures .0) (c .before .before .before .num-near2 .ensures .0) (c .before .before .body-at .ensures) (c .before .all4 .ensures) refl refl refl refl refl
+returns c = rest-read newest _ _ (c .before .before .before .before .before .place-near .ensures .0) (c .before .before .before .before .num-near .ensures .0) (c .before .before .before .num-near2 .ensures .0) (c .before .before .body-near .ensures) (c .before .all4 .ensures) refl refl refl refl refl refl
 
 pub rest-near-spec : {M : Type 1} → statement M
 rest-near-spec =
@@ -38,6 +38,6 @@ rest-near-spec =
     place-near-requires
     num-near-requires
     num-near-requires-2
-    body-at-requires
+    body-near-requires
     all4-requires
     returns)

@@ -4,8 +4,8 @@ use Rattle.queue.proofs.OwnLaws.{Queuing, queue-end, queue-go, queuing}
 use Rattle.queue.proofs.Turns.{seen}
 use Rattle.queue.specs.Forms.{formC}
 use Rattle.queue.specs.Frames.{recC}
+use Rattle.queue.specs.Owning.{wantedOf}
 use Rattle.queue.specs.Reads.{listAt}
-use Rattle.queue.specs.Reserving.{inputsOf}
 use borrow.Author.Needs.{needs}
 use lib.ListN.{length, take}
 use mathlib.Core.Bool.{false}
@@ -20,7 +20,7 @@ use Rattle.queue.proofs.frame.rec_at.Reads as rec-at-reads
 use Rattle.queue.proofs.own.add_outputs.Reads as add-outputs-reads
 
 abbrev Inv-loop : tie.InvT-loop
-Inv-loop s at n ids m v₀ flags₀ i₀ left₀ k₀ v flags i left k = Queuing s (inputsOf (listAt (formC false recC) n s at)) n at flags₀ flags (take k v) i left × (k ≤ length v) × (length v ≡ length v₀) × (length flags ≡ length flags₀)
+Inv-loop s at n ids m v₀ flags₀ i₀ left₀ k₀ v flags i left k = Queuing s (wantedOf (listAt (formC false recC) n s at)) n at flags₀ flags (take k v) i left × (k ≤ length v) × (length v ≡ length v₀) × (length flags ≡ length flags₀)
 
 abbrev μ-loop : tie.MeasureT-loop
 μ-loop s at n ids m v₀ flags₀ i₀ left₀ k₀ v flags i left k = left

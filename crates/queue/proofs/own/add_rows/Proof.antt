@@ -5,8 +5,8 @@ use Rattle.queue.proofs.SuspectLaws.{id-bytes}
 use Rattle.queue.proofs.Turns.{here}
 use Rattle.queue.specs.Forms.{formC}
 use Rattle.queue.specs.Frames.{recC}
+use Rattle.queue.specs.Owning.{wantedOf}
 use Rattle.queue.specs.Reads.{listAt}
-use Rattle.queue.specs.Reserving.{inputsOf}
 use Rattle.queue.specs.View.{view}
 use borrow.Author.Needs.{needs}
 use lib.ListN.{length, take}
@@ -22,7 +22,7 @@ use Rattle.queue.proofs.own.add_row.Reads as add-row-reads
 use Rattle.queue.proofs.suspects.row_at.Reads as row-at-reads
 
 abbrev Inv-loop : tie.InvT-loop
-Inv-loop s at n ids m v₀ flags₀ k base outs c i₀ left₀ h₀ v flags i left h = Adding s (inputsOf (listAt (formC false recC) n s at)) (view false s base) c outs flags₀ (take k v₀) flags (take h v) i left × (h ≤ length v) × (length v ≡ length v₀) × (length flags ≡ length flags₀)
+Inv-loop s at n ids m v₀ flags₀ k base outs c i₀ left₀ h₀ v flags i left h = Adding s (wantedOf (listAt (formC false recC) n s at)) (view false s base) c outs flags₀ (take k v₀) flags (take h v) i left × (h ≤ length v) × (length v ≡ length v₀) × (length flags ≡ length flags₀)
 
 abbrev μ-loop : tie.MeasureT-loop
 μ-loop s at n ids m v₀ flags₀ k base outs c i₀ left₀ h₀ v flags i left h = left

@@ -4,10 +4,9 @@ use Rattle.queue.proofs.OwnLaws.{markR, marks-end, marks-go, marks-room
 use Rattle.queue.proofs.Turns.{Scan, seen, start}
 use Rattle.queue.specs.Forms.{formC}
 use Rattle.queue.specs.Frames.{recC}
-use Rattle.queue.specs.Owning.{ownF}
+use Rattle.queue.specs.Owning.{ownF, wantedOf}
 use Rattle.queue.specs.Reads.{listAt}
 use Rattle.queue.specs.Reopens.{idsAt}
-use Rattle.queue.specs.Reserving.{inputsOf}
 use borrow.Author.Needs.{needs}
 use lib.ListN.{length}
 use mathlib.Core.Bool.{false}
@@ -22,7 +21,7 @@ use Rattle.queue.proofs.frame.rec_at.Reads as rec-at-reads
 use Rattle.queue.proofs.own.mark_ids.Reads as mark-ids-reads
 
 abbrev Inv-loop : tie.InvT-loop
-Inv-loop s at n first ids m v ordered flags₀ i₀ left₀ g₀ flags i left g = Scan (formC false recC) (markR (ownF first (idsAt ids m) s v)) s n at (flags₀, 0) i left (flags, g) × (length flags ≡ length flags₀) × (g + length (inputsOf (listAt (formC false recC) left s i)) ≤ length flags₀)
+Inv-loop s at n first ids m v ordered flags₀ i₀ left₀ g₀ flags i left g = Scan (formC false recC) (markR (ownF first (idsAt ids m) s v)) s n at (flags₀, 0) i left (flags, g) × (length flags ≡ length flags₀) × (g + length (wantedOf (listAt (formC false recC) left s i)) ≤ length flags₀)
 
 abbrev μ-loop : tie.MeasureT-loop
 μ-loop s at n first ids m v ordered flags₀ i₀ left₀ g₀ flags i left g = left
@@ -39,8 +38,14 @@ mark-ids-requires c κs = let t = seen false (c .before .before .before .before 
 add-g : tie.Need-add-g Inv-loop μ-loop
 add-g c = let h = c .before .before .before .before .before .before .before .before .before .before .before .before .good in omega (arith, c .before .before .before .before .before .before .before .loop .inv .1, c .before .before .before .before .before .before .before .loop .inv .2, marks-room (ownF (c .before .before .before .before .before .before .before .before .before .before .before .before .args .first) (idsAt (c .before .before .before .before .before .before .before .before .before .before .before .before .args .ids .now) (c .before .before .before .before .before .before .before .before .before .before .before .before .args .m)) (c .before .before .before .before .before .before .before .before .before .before .before .before .args .s .now) (c .before .before .before .before .before .before .before .before .before .before .before .before .args .v .now)) (c .before .before .before .before .before .before .before .loop .inv .0) (c .before .before .before .before .before .before .loop-test .taken) (c .before .before .before .before .before .rec-at .ensures) refl)
 
+mark-ids-requires-2 : tie.Need-mark-ids-requires-2 Inv-loop μ-loop
+mark-ids-requires-2 c κs = let t = seen false (c .before .before .before .before .before .before .before .before .loop .inv .0) (c .before .before .before .before .before .before .before .loop-test .taken) (c .before .before .before .before .before .before .rec-at .ensures) in let h = c .before .before .before .before .before .before .before .before .before .before .before .before .before .good in (t .is .0 .readsIn, t .is .0 .readsAll, c .before .before .before .before .before .before .before .before .before .before .before .before .before .pre .2, c .before .before .before .before .before .before .before .before .before .before .before .before .before .pre .3, c .before .before .before .before .before .before .before .before .before .before .before .before .before .pre .4, omega (arith, c .before .before .before .before .before .before .before .before .loop .inv .1, c .before .before .before .before .before .before .before .before .loop .inv .2, marks-room (ownF (c .before .before .before .before .before .before .before .before .before .before .before .before .before .args .first) (idsAt (c .before .before .before .before .before .before .before .before .before .before .before .before .before .args .ids .now) (c .before .before .before .before .before .before .before .before .before .before .before .before .before .args .m)) (c .before .before .before .before .before .before .before .before .before .before .before .before .before .args .s .now) (c .before .before .before .before .before .before .before .before .before .before .before .before .before .args .v .now)) (c .before .before .before .before .before .before .before .before .loop .inv .0) (c .before .before .before .before .before .before .before .loop-test .taken) (c .before .before .before .before .before .before .rec-at .ensures) refl))
+
+add-g-2 : tie.Need-add-g-2 Inv-loop μ-loop
+add-g-2 c = let h = c .before .before .before .before .before .before .before .before .before .before .before .before .before .before .before .before .good in omega (arith, c .before .before .before .before .before .before .before .before .before .before .before .loop .inv .1, c .before .before .before .before .before .before .before .before .before .before .before .loop .inv .2, marks-room (ownF (c .before .before .before .before .before .before .before .before .before .before .before .before .before .before .before .before .args .first) (idsAt (c .before .before .before .before .before .before .before .before .before .before .before .before .before .before .before .before .args .ids .now) (c .before .before .before .before .before .before .before .before .before .before .before .before .before .before .before .before .args .m)) (c .before .before .before .before .before .before .before .before .before .before .before .before .before .before .before .before .args .s .now) (c .before .before .before .before .before .before .before .before .before .before .before .before .before .before .before .before .args .v .now)) (c .before .before .before .before .before .before .before .before .before .before .before .loop .inv .0) (c .before .before .before .before .before .before .before .before .before .before .loop-test .taken) (c .before .before .before .before .before .before .before .before .before .rec-at .ensures) refl)
+
 after-in-requires : tie.Need-after-in-requires Inv-loop μ-loop
-after-in-requires c κs = seen false (c .before .before .before .before .before .before .before .loop .inv .0) (c .before .before .before .before .before .before .loop-test .taken) (c .before .before .before .before .before .rec-at .ensures) .is .1 .within
+after-in-requires c κs = seen false (c .before .before .before .before .before .before .before .before .before .before .before .loop .inv .0) (c .before .before .before .before .before .before .before .before .before .before .loop-test .taken) (c .before .before .before .before .before .before .before .before .before .rec-at .ensures) .is .1 .within
 
 sub-left : tie.Need-sub-left Inv-loop μ-loop
 sub-left c = search needs
@@ -49,7 +54,7 @@ loop-less : tie.Need-loop-less Inv-loop μ-loop
 loop-less c = search needs
 
 loop-again : tie.Need-loop-again Inv-loop μ-loop
-loop-again c = (marks-go (ownF (c .before .before .before .before .before .before .before .before .before .before .before .before .before .args .first) (idsAt (c .before .before .before .before .before .before .before .before .before .before .before .before .before .args .ids .now) (c .before .before .before .before .before .before .before .before .before .before .before .before .before .args .m)) (c .before .before .before .before .before .before .before .before .before .before .before .before .before .args .s .now) (c .before .before .before .before .before .before .before .before .before .before .before .before .before .args .v .now)) (c .before .before .before .before .before .before .before .before .loop .inv .0) (c .before .before .before .before .before .before .before .loop-test .taken) (c .before .before .before .before .before .before .rec-at .ensures) (c .after-in .ensures) (c .before .before .before .mark-ids .ensures), omega (arith, c .before .before .before .before .before .before .before .before .loop .inv .1), omega (arith, c .before .before .before .before .before .before .before .before .loop .inv .2, marks-room (ownF (c .before .before .before .before .before .before .before .before .before .before .before .before .before .args .first) (idsAt (c .before .before .before .before .before .before .before .before .before .before .before .before .before .args .ids .now) (c .before .before .before .before .before .before .before .before .before .before .before .before .before .args .m)) (c .before .before .before .before .before .before .before .before .before .before .before .before .before .args .s .now) (c .before .before .before .before .before .before .before .before .before .before .before .before .before .args .v .now)) (c .before .before .before .before .before .before .before .before .loop .inv .0) (c .before .before .before .before .before .before .before .loop-test .taken) (c .before .before .before .before .before .before .rec-at .ensures) (c .after-in .ensures)))
+loop-again c = (marks-go (ownF (c .before .before .before .before .before .before .before .before .before .before .before .before .before .before .before .before .before .args .first) (idsAt (c .before .before .before .before .before .before .before .before .before .before .before .before .before .before .before .before .before .args .ids .now) (c .before .before .before .before .before .before .before .before .before .before .before .before .before .before .before .before .before .args .m)) (c .before .before .before .before .before .before .before .before .before .before .before .before .before .before .before .before .before .args .s .now) (c .before .before .before .before .before .before .before .before .before .before .before .before .before .before .before .before .before .args .v .now)) (c .before .before .before .before .before .before .before .before .before .before .before .before .loop .inv .0) (c .before .before .before .before .before .before .before .before .before .before .before .loop-test .taken) (c .before .before .before .before .before .before .before .before .before .before .rec-at .ensures) (c .after-in .ensures) (c .before .before .before .before .before .before .before .mark-ids .ensures) (c .before .before .before .mark-ids2 .ensures), omega (arith, c .before .before .before .before .before .before .before .before .before .before .before .before .loop .inv .1), omega (arith, c .before .before .before .before .before .before .before .before .before .before .before .before .loop .inv .2, marks-room (ownF (c .before .before .before .before .before .before .before .before .before .before .before .before .before .before .before .before .before .args .first) (idsAt (c .before .before .before .before .before .before .before .before .before .before .before .before .before .before .before .before .before .args .ids .now) (c .before .before .before .before .before .before .before .before .before .before .before .before .before .before .before .before .before .args .m)) (c .before .before .before .before .before .before .before .before .before .before .before .before .before .before .before .before .before .args .s .now) (c .before .before .before .before .before .before .before .before .before .before .before .before .before .before .before .before .before .args .v .now)) (c .before .before .before .before .before .before .before .before .before .before .before .before .loop .inv .0) (c .before .before .before .before .before .before .before .before .before .before .before .loop-test .taken) (c .before .before .before .before .before .before .before .before .before .before .rec-at .ensures) (c .after-in .ensures)))
 
 same-length : tie.Need-same-length Inv-loop μ-loop
 same-length c = search needs
@@ -67,6 +72,8 @@ mark-all-spec =
     rec-at-requires
     mark-ids-requires
     add-g
+    mark-ids-requires-2
+    add-g-2
     after-in-requires
     sub-left
     loop-less

@@ -35,7 +35,7 @@ add-count : tie.Need-add-count Inv-loop μ-loop
 add-count c = omega (arith, c .before .before .before .before .before .loop .inv .few, c .one-if .ensures .1, c .before .before .before .before .before .before .before .pre .2)
 
 piece-len-requires : tie.Need-piece-len-requires Inv-loop μ-loop
-piece-len-requires c κs = let e = measure-in (c .before .before .before .before .before .loop .inv) (c .before .before .before .before .loop-test .taken) (c .before .before .before .rec-at .ensures) in (e .up, e .entry .most, e .entry .few)
+piece-len-requires c κs = let e = measure-in (c .before .before .before .before .before .loop .inv) (c .before .before .before .before .loop-test .taken) (c .before .before .before .rec-at .ensures) in (e .up, e .entry .most, e .entry .few, e .entry .fewReads)
 
 size-if-requires : tie.Need-size-if-requires Inv-loop μ-loop
 size-if-requires c κs = search needs

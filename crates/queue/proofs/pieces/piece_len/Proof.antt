@@ -33,7 +33,7 @@ enum-told-5 : tie.Need-enum-told-5
 enum-told-5 c = search needs
 
 entry-len-requires : tie.Need-entry-len-requires
-entry-len-requires c κs = (omega (arith, c .before .before .pre .0), c .before .before .pre .1, c .before .before .pre .2)
+entry-len-requires c κs = (omega (arith, c .before .before .pre .0), c .before .before .pre .1, c .before .before .pre .2, c .before .before .pre .3)
 
 returns : tie.Need-returns
 unfolding pieceLen

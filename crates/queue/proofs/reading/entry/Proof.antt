@@ -21,7 +21,7 @@ rec-at-requires : tie.Need-rec-at-requires
 rec-at-requires c κs = search needs
 
 entry-len-requires : tie.Need-entry-len-requires
-entry-len-requires c κs = let e = entry-fits (c .before .before .before .before .before .before .before .args .area .now) (c .before .before .before .before .before .before .before .args .id .now) (c .before .before .before .before .before .before .before .args .out .now) (c .before .before .before .look .ensures) (c .before .if1 .left) (c .rec-at .ensures) in (e .up, e .most, e .few)
+entry-len-requires c κs = let e = entry-fits (c .before .before .before .before .before .before .before .args .area .now) (c .before .before .before .before .before .before .before .args .id .now) (c .before .before .before .before .before .before .before .args .out .now) (c .before .before .before .look .ensures) (c .before .if1 .left) (c .rec-at .ensures) in (e .up, e .most, e .few, e .fewReads)
 
 returns-2 : tie.Need-returns-2
 returns-2 c = entry-4 (c .before .before .before .before .before .before .before .before .before .args .area .now) (c .before .before .before .before .before .before .before .before .before .args .id .now) (c .before .before .before .before .before .before .before .before .before .args .out .now) (c .before .before .before .before .before .look .ensures) (c .before .before .before .if1 .left) (c .before .before .rec-at .ensures) (omega (arith, c .before .entry-len .ensures .0, c .if2 .taken))

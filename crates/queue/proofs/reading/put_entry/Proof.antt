@@ -1,7 +1,8 @@
 -- Filled from its answers by tools/proofkit.py: change those, and fill it again.
-use Rattle.queue.proofs.PutLaws.{kept, then}
+use Rattle.queue.proofs.PutLaws.{kept, recast, then}
 use Rattle.queue.specs.ReadingAs.{entryAt}
 use borrow.Author.Needs.{needs}
+use mathlib.Core.Path.{refl}
 use native.Mathlib.Omega.{arith}
 use Rattle.queue.proofs.reading.put_entry.Statement.{statement}
 use Rattle.queue.proofs.reading.put_entry.Tie as tie
@@ -13,8 +14,14 @@ use Rattle.queue.proofs.put.put_be.Reads as put-be-reads
 mul-n : tie.Need-mul-n
 mul-n c = search needs
 
+mul-m : tie.Need-mul-m
+mul-m c = search needs
+
 add-i : tie.Need-add-i
 add-i c = search needs
+
+add-j : tie.Need-add-j
+add-j c = search needs
 
 add-copy-part : tie.Need-add-copy-part
 add-copy-part c = search needs
@@ -29,25 +36,35 @@ put-be-requires : tie.Need-put-be-requires
 put-be-requires c κs = search needs
 
 copy-part-requires-2 : tie.Need-copy-part-requires-2
-copy-part-requires-2 c κs = (omega (arith, c .before .before .before .before .before .before .before .before .before .before .before .before .before .before .before .pre .0 .ins), omega (arith, kept (c .before .before .before .before .before .before .before .copy-part .ensures), kept (c .before .before .before .put-be .ensures), c .before .before .before .before .before .before .before .copy-part .ensures .next, c .before .before .before .put-be .ensures .next, c .before .before .before .before .before .before .before .before .before .before .before .before .before .before .before .pre .1))
+copy-part-requires-2 c κs = (omega (arith, c .before .before .before .before .before .before .before .before .before .before .before .before .before .before .before .before .before .pre .0 .ins), omega (arith, kept (c .before .before .before .before .before .before .before .copy-part .ensures), kept (c .before .before .before .put-be .ensures), c .before .before .before .before .before .before .before .copy-part .ensures .next, c .before .before .before .put-be .ensures .next, c .before .before .before .before .before .before .before .before .before .before .before .before .before .before .before .before .before .pre .1))
+
+put-be-requires-2 : tie.Need-put-be-requires-2
+put-be-requires-2 c κs = omega (arith, kept (c .before .before .before .before .before .before .before .before .before .before .before .copy-part .ensures), kept (c .before .before .before .before .before .before .before .put-be .ensures), kept (c .before .before .before .copy-part2 .ensures), c .before .before .before .before .before .before .before .before .before .before .before .copy-part .ensures .next, c .before .before .before .before .before .before .before .put-be .ensures .next, c .before .before .before .copy-part2 .ensures .next, c .before .before .before .before .before .before .before .before .before .before .before .before .before .before .before .before .before .before .before .before .before .pre .1)
+
+copy-part-requires-3 : tie.Need-copy-part-requires-3
+copy-part-requires-3 c κs = (omega (arith, c .before .before .before .before .before .before .before .before .before .before .before .before .before .before .before .before .before .before .before .before .before .before .before .before .before .pre .0 .reads), omega (arith, kept (c .before .before .before .before .before .before .before .before .before .before .before .before .before .before .before .copy-part .ensures), kept (c .before .before .before .before .before .before .before .before .before .before .before .put-be .ensures), kept (c .before .before .before .before .before .before .before .copy-part2 .ensures), kept (c .before .before .before .put-be2 .ensures), c .before .before .before .before .before .before .before .before .before .before .before .before .before .before .before .copy-part .ensures .next, c .before .before .before .before .before .before .before .before .before .before .before .put-be .ensures .next, c .before .before .before .before .before .before .before .copy-part2 .ensures .next, c .before .before .before .put-be2 .ensures .next, c .before .before .before .before .before .before .before .before .before .before .before .before .before .before .before .before .before .before .before .before .before .before .before .before .before .pre .1))
 
 same-length : tie.Need-same-length
 same-length c = search needs
 
 returns : tie.Need-returns
 unfolding entryAt
-returns c = then (c .before .before .before .before .before .before .before .before .before .before .copy-part .ensures) (then (c .before .before .before .before .before .before .put-be .ensures) (c .before .before .copy-part2 .ensures))
+returns c = recast (then (c .before .before .before .before .before .before .before .before .before .before .before .before .before .before .before .before .before .before .copy-part .ensures) (then (c .before .before .before .before .before .before .before .before .before .before .before .before .before .before .put-be .ensures) (then (c .before .before .before .before .before .before .before .before .before .before .copy-part2 .ensures) (then (c .before .before .before .before .before .before .put-be2 .ensures) (c .before .before .copy-part3 .ensures))))) refl (omega arith) refl
 
 pub put-entry-spec : {M : Type 1} → statement M
 put-entry-spec =
     tie.close
     (tie.spec
     mul-n
+    mul-m
     add-i
+    add-j
     add-copy-part
     sub-copy-part
     copy-part-requires
     put-be-requires
     copy-part-requires-2
+    put-be-requires-2
+    copy-part-requires-3
     same-length
     returns)

@@ -14,15 +14,25 @@ both-requires c κs = search needs
 both-requires-2 : tie.Need-both-requires-2
 both-requires-2 c κs = search needs
 
-either-requires : tie.Need-either-requires
-either-requires c κs = search needs
-
 both-requires-3 : tie.Need-both-requires-3
 both-requires-3 c κs = search needs
 
+either-requires : tie.Need-either-requires
+either-requires c κs = search needs
+
+both-requires-4 : tie.Need-both-requires-4
+both-requires-4 c κs = search needs
+
 returns : tie.Need-returns
-returns c = c .both3 .ensures ∙ simp (c .before .either .ensures, c .before .before .before .before .both2 .ensures, c .before .before .before .before .before .both .ensures)
+returns c = c .both4 .ensures ∙ simp (c .before .either .ensures, c .before .before .before .before .both3 .ensures, c .before .before .before .before .before .both2 .ensures, c .before .before .before .before .before .before .both .ensures)
 
 pub sizes-right-spec : {M : Type 1} → statement M
 sizes-right-spec =
-    tie.close (tie.spec both-requires both-requires-2 either-requires both-requires-3 returns)
+    tie.close
+    (tie.spec
+    both-requires
+    both-requires-2
+    both-requires-3
+    either-requires
+    both-requires-4
+    returns)

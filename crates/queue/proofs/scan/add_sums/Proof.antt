@@ -9,6 +9,10 @@ use Rattle.queue.proofs.scan.add_sums.Statement.{statement}
 use Rattle.queue.proofs.scan.add_sums.Tie as tie
 use Rattle.queue.proofs.scan.add_sums.Reads as reads
 use Rattle.queue.proofs.scan.add_sums.Lts as lts
+use Rattle.queue.proofs.logic.both.Reads as both-reads
+use Rattle.queue.proofs.rules.right.Reads as right-reads
+use Rattle.queue.proofs.rules.weigh.Reads as weigh-reads
+use Rattle.std.proofs.num.wrapping_add_u64.Reads as wrapping-add-u64-reads
 
 weigh-requires : tie.Need-weigh-requires
 weigh-requires c κs = c .pre .1
@@ -43,11 +47,14 @@ both-requires c κs = search needs
 both-requires-2 : tie.Need-both-requires-2
 both-requires-2 c κs = search needs
 
+both-requires-3 : tie.Need-both-requires-3
+both-requires-3 c κs = search needs
+
 wrapping-add-u64-requires : tie.Need-wrapping-add-u64-requires
 wrapping-add-u64-requires c κs = search needs
 
 returns : tie.Need-returns
-returns c = added (ap (λ (x : ℕ). c .before .before .before .before .before .before .before .before .before .before .before .before .args .a .holders + x) (c .before .before .before .before .before .before .before .before .before .before .before .weigh .ensures .0)) (ap (λ (x : ℕ). c .before .before .before .before .before .before .before .before .before .before .before .before .args .a .bytes + x) (c .before .before .before .before .before .before .before .before .before .weigh2 .ensures .0)) (ap (λ (x : ℕ). c .before .before .before .before .before .before .before .before .before .before .before .before .args .a .mined + x) (c .before .before .before .before .before .before .before .weigh3 .ensures .0)) (ap (λ (x : ℕ). c .before .before .before .before .before .before .before .before .before .before .before .before .args .a .minedbytes + x) (c .before .before .before .before .before .weigh4 .ensures .0)) (c .before .before .both .ensures ∙ ap (λ (x : Bool). c .before .before .before .before .before .before .before .before .before .before .before .before .args .a .right && x) (c .before .before .before .right .ensures)) (c .before .both2 .ensures) (omega (arith, c .before .before .before .before .before .before .before .before .before .before .before .weigh .ensures .0, c .before .before .before .before .before .before .before .before .before .before .before .weigh .ensures .1)) (omega (arith, c .before .before .before .before .before .before .before .before .before .weigh2 .ensures .0, c .before .before .before .before .before .before .before .before .before .weigh2 .ensures .1)) (omega (arith, c .before .before .before .before .before .before .before .weigh3 .ensures .0, c .before .before .before .before .before .before .before .weigh3 .ensures .1)) (omega (arith, c .before .before .before .before .before .weigh4 .ensures .0, c .before .before .before .before .before .weigh4 .ensures .1))
+returns c = added (ap (λ (x : ℕ). c .before .before .before .before .before .before .before .before .before .before .before .before .before .before .args .a .holders + x) (c .before .before .before .before .before .before .before .before .before .before .before .before .before .weigh .ensures .0)) (ap (λ (x : ℕ). c .before .before .before .before .before .before .before .before .before .before .before .before .before .before .args .a .bytes + x) (c .before .before .before .before .before .before .before .before .before .before .before .weigh2 .ensures .0)) (ap (λ (x : ℕ). c .before .before .before .before .before .before .before .before .before .before .before .before .before .before .args .a .mined + x) (c .before .before .before .before .before .before .before .before .before .weigh3 .ensures .0)) (ap (λ (x : ℕ). c .before .before .before .before .before .before .before .before .before .before .before .before .before .before .args .a .minedbytes + x) (c .before .before .before .before .before .before .before .weigh4 .ensures .0)) (c .before .before .before .before .both .ensures ∙ ap (λ (x : Bool). c .before .before .before .before .before .before .before .before .before .before .before .before .before .before .args .a .right && x) (c .before .before .before .before .before .right .ensures)) (c .before .before .before .both2 .ensures) (c .before .both3 .ensures) (omega (arith, c .before .before .before .before .before .before .before .before .before .before .before .before .before .weigh .ensures .0, c .before .before .before .before .before .before .before .before .before .before .before .before .before .weigh .ensures .1)) (omega (arith, c .before .before .before .before .before .before .before .before .before .before .before .weigh2 .ensures .0, c .before .before .before .before .before .before .before .before .before .before .before .weigh2 .ensures .1)) (omega (arith, c .before .before .before .before .before .before .before .before .before .weigh3 .ensures .0, c .before .before .before .before .before .before .before .before .before .weigh3 .ensures .1)) (omega (arith, c .before .before .before .before .before .before .before .weigh4 .ensures .0, c .before .before .before .before .before .before .before .weigh4 .ensures .1))
 
 pub add-sums-spec : {M : Type 1} → statement M
 add-sums-spec =
@@ -64,5 +71,6 @@ add-sums-spec =
     right-requires
     both-requires
     both-requires-2
+    both-requires-3
     wrapping-add-u64-requires
     returns)

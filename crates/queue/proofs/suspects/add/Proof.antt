@@ -23,7 +23,7 @@ same-length : tie.Need-same-length
 same-length c = search needs
 
 returns : tie.Need-returns
-returns c = (grown-room (c .before .before .before .args .v .now) (c .before .before .before .args .m) (c .if1 .taken) (c .before .before .before .pre .6) (c .before .before .before .pre .7) refl, omega (arith, c .if1 .taken))
+returns c = (grown-room (c .before .before .before .args .v .now) (c .before .before .before .args .m) (c .if1 .taken) refl, omega (arith, c .if1 .taken))
 
 returns-2 : tie.Need-returns-2
 returns-2 c = (grown-out (not-true _ (c .if2 .taken)), omega arith)
@@ -35,7 +35,7 @@ same-length-2 : tie.Need-same-length-2
 same-length-2 c = search needs
 
 returns-3 : tie.Need-returns-3
-returns-3 c = (grown-bad (c .before .before .before .crossed .ensures) (c .before .before .before .before .before .before .before .before .before .args .m) (omega (arith, c .before .before .before .before .before .before .if1 .left)) (c .if3 .taken) (c .before .before .before .before .before .before .before .before .before .pre .6), omega arith)
+returns-3 c = (grown-bad (c .before .before .before .before .before .before .before .before .before .args .v .now) (c .before .before .before .crossed .ensures .1) (c .before .before .before .before .before .before .before .before .before .args .m) (omega (arith, c .before .before .before .before .before .before .if1 .left)) (c .if3 .taken), omega arith)
 
 slice-write-v-2 : tie.Need-slice-write-v-2
 slice-write-v-2 c = search needs
@@ -44,7 +44,7 @@ same-length-3 : tie.Need-same-length-3
 same-length-3 c = search needs
 
 returns-4 : tie.Need-returns-4
-returns-4 c = (grown-new (c .before .before .before .crossed .ensures) (c .before .before .before .before .before .before .before .before .before .args .m) (omega (arith, c .before .before .before .before .before .before .if1 .left)) (c .if3 .left) (c .before .before .before .before .before .before .before .before .before .pre .7) (omega (arith, c .before .before .before .before .before .before .before .before .before .pre .5)) refl, omega (arith, c .before .before .before .before .before .before .before .before .before .pre .5))
+returns-4 c = (grown-new (c .before .before .before .before .before .before .before .before .before .args .v .now) (c .before .before .before .crossed .ensures .1) (c .before .before .before .before .before .before .before .before .before .args .m) (omega (arith, c .before .before .before .before .before .before .if1 .left)) (c .before .before .before .crossed .ensures .0) (c .if3 .left) (omega (arith, c .before .before .before .before .before .before .before .before .before .pre .5)) refl, omega (arith, c .before .before .before .before .before .before .before .before .before .pre .5))
 
 pub add-spec : {M : Type 1} → statement M
 add-spec =

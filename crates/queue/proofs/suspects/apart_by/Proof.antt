@@ -1,7 +1,7 @@
 -- Filled from its answers by tools/proofkit.py: change those, and fill it again.
 use Prim.Native.Nat.{_+_, _≤_}
 use Rattle.queue.proofs.ScanLaws.{nothingF}
-use Rattle.queue.proofs.SuspectLaws.{Gone, gone-last, gone-on, gone-own, gone-start, said-clear, said-crossed, said-no, said-out}
+use Rattle.queue.proofs.SuspectLaws.{Gone, gone-last, gone-marks, gone-on, gone-own, gone-start, no-marks, said-clear, said-crossed, said-no, said-out}
 use Rattle.queue.proofs.Turns.{Scan, seen-in, start}
 use Rattle.queue.specs.Forms.{recIn}
 use Rattle.queue.specs.Reads.{listAt}
@@ -42,7 +42,7 @@ same-length-2 : tie.Need-same-length-2 Inv-loop μ-loop
 same-length-2 c = search needs
 
 returns : tie.Need-returns Inv-loop μ-loop
-returns c = said-no (c .before .before .before .before .before .before .before .note-all .ensures .0 .bad (not-true _ (c .before .if1 .taken)) (c .if2 .taken))
+returns c = (said-no (c .before .before .before .before .before .before .before .note-all .ensures .0 .bad (not-true _ (c .before .if1 .taken)) (c .if2 .taken)), no-marks 0 refl)
 
 same-length-3 : tie.Need-same-length-3 Inv-loop μ-loop
 same-length-3 c = search needs
@@ -51,7 +51,7 @@ same-length-4 : tie.Need-same-length-4 Inv-loop μ-loop
 same-length-4 c = search needs
 
 returns-2 : tie.Need-returns-2 Inv-loop μ-loop
-returns-2 c = said-out (c .if2 .left)
+returns-2 c = (said-out (c .if2 .left), no-marks 2 refl)
 
 after-in-requires : tie.Need-after-in-requires Inv-loop μ-loop
 after-in-requires c κs = seen-in (c .before .before .before .before .before .before .before .before .before .before .before .before .before .before .before .before .args .form) (c .before .before .before .before .before .before .before .before .before .before .before .before .loop .inv .0) (c .before .before .before .before .before .before .before .before .before .before .before .loop-test .taken) (c .before .before .before .before .before .before .before .before .before .before .rec-in .ensures) .is .1 .within
@@ -84,7 +84,7 @@ same-length-6 : tie.Need-same-length-6 Inv-loop μ-loop
 same-length-6 c = search needs
 
 returns-3 : tie.Need-returns-3 Inv-loop μ-loop
-returns-3 c = said-crossed (gone-last (c .before .before .before .before .before .before .before .before .before .before .args .form) (c .before .before .before .before .before .before .loop .k) (c .before .before .before .before .before .before .loop .inv .0) (c .before .before .before .before .before .before .loop .inv .1) (omega arith) (c .before .before .before .before .before .before .loop .inv .2) (c .before .before .before .crossed .ensures)) (c .if3 .taken)
+returns-3 c = (said-crossed (gone-last (c .before .before .before .before .before .before .before .before .before .before .args .form) (c .before .before .before .before .before .before .loop .k) (c .before .before .before .before .before .before .loop .inv .0) (c .before .before .before .before .before .before .loop .inv .1) (omega arith) (c .before .before .before .before .before .before .loop .inv .2) (c .before .before .before .crossed .ensures .1)) (c .if3 .taken), no-marks 0 refl)
 
 same-length-7 : tie.Need-same-length-7 Inv-loop μ-loop
 same-length-7 c = search needs
@@ -93,7 +93,7 @@ same-length-8 : tie.Need-same-length-8 Inv-loop μ-loop
 same-length-8 c = search needs
 
 returns-4 : tie.Need-returns-4 Inv-loop μ-loop
-returns-4 c = said-clear (gone-last (c .before .before .before .before .before .before .before .before .before .before .args .form) (c .before .before .before .before .before .before .loop .k) (c .before .before .before .before .before .before .loop .inv .0) (c .before .before .before .before .before .before .loop .inv .1) (omega arith) (c .before .before .before .before .before .before .loop .inv .2) (c .before .before .before .crossed .ensures)) (c .if3 .left)
+returns-4 c = (said-clear (gone-last (c .before .before .before .before .before .before .before .before .before .before .args .form) (c .before .before .before .before .before .before .loop .k) (c .before .before .before .before .before .before .loop .inv .0) (c .before .before .before .before .before .before .loop .inv .1) (omega arith) (c .before .before .before .before .before .before .loop .inv .2) (c .before .before .before .crossed .ensures .1)) (c .if3 .left), λ _. gone-marks (c .before .before .before .before .before .before .before .before .before .before .args .form) (c .before .before .before .before .before .before .loop .k) (c .before .before .before .before .before .before .loop .inv .0) (c .before .before .before .before .before .before .loop .inv .1) (omega arith) (c .before .before .before .before .before .before .loop .inv .2))
 
 pub apart-by-spec : {M : Type 1} → statement M
 apart-by-spec =

@@ -9,6 +9,8 @@ use Rattle.queue.proofs.suspects.apart_few.Statement.{statement}
 use Rattle.queue.proofs.suspects.apart_few.Tie as tie
 use Rattle.queue.proofs.suspects.apart_few.Reads as reads
 use Rattle.queue.proofs.suspects.apart_few.Lts as lts
+use Rattle.queue.proofs.logic.both.Reads as both-reads
+use Rattle.queue.proofs.suspects.clear_by.Reads as clear-by-reads
 
 both-requires : tie.Need-both-requires
 both-requires c κs = search needs
@@ -16,17 +18,17 @@ both-requires c κs = search needs
 returns : tie.Need-returns
 returns c = said-out refl
 
-slice-aggregate-apart-by : tie.Need-slice-aggregate-apart-by
-slice-aggregate-apart-by c = search needs
+slice-aggregate-clear-by : tie.Need-slice-aggregate-clear-by
+slice-aggregate-clear-by c = search needs
 
-slice-aggregate-apart-by-2 : tie.Need-slice-aggregate-apart-by-2
-slice-aggregate-apart-by-2 c = search needs
+slice-aggregate-clear-by-2 : tie.Need-slice-aggregate-clear-by-2
+slice-aggregate-clear-by-2 c = search needs
 
-apart-by-requires : tie.Need-apart-by-requires
-apart-by-requires c κs = let u = and-true _ _ (sym (c .before .before .before .both .ensures) ∙ not-false _ (c .before .before .if1 .left)) in (c .before .before .before .before .before .pre .0, c .before .before .before .before .before .pre .1, ltb-true _ _ (u .0), ltb-true _ _ (u .1), zero-lt-suc _, zero-lt-suc _)
+clear-by-requires : tie.Need-clear-by-requires
+clear-by-requires c κs = let u = and-true _ _ (sym (c .before .before .before .both .ensures) ∙ not-false _ (c .before .before .if1 .left)) in (c .before .before .before .before .before .pre .0, c .before .before .before .before .before .pre .1, ltb-true _ _ (u .0), ltb-true _ _ (u .1), zero-lt-suc _, zero-lt-suc _, c .before .before .before .before .before .pre .2)
 
 returns-2 : tie.Need-returns-2
-returns-2 c = said-any (c .before .before .apart-by .ensures)
+returns-2 c = said-any (c .before .before .clear-by .ensures)
 
 pub apart-few-spec : {M : Type 1} → statement M
 apart-few-spec =
@@ -34,7 +36,7 @@ apart-few-spec =
     (tie.spec
     both-requires
     returns
-    slice-aggregate-apart-by
-    slice-aggregate-apart-by-2
-    apart-by-requires
+    slice-aggregate-clear-by
+    slice-aggregate-clear-by-2
+    clear-by-requires
     returns-2)

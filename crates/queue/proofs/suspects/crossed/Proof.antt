@@ -1,4 +1,5 @@
 -- Filled from its answers by tools/proofkit.py: change those, and fill it again.
+use Rattle.queue.proofs.RowLaws.{shuffled-self}
 use Rattle.queue.proofs.SuspectLaws.{looked, looked-none}
 use borrow.Author.Needs.{needs}
 use Rattle.queue.proofs.suspects.crossed.Statement.{statement}
@@ -10,7 +11,7 @@ use Rattle.queue.proofs.suspects.order_rows.Reads as order-rows-reads
 use Rattle.queue.proofs.suspects.pass.Reads as pass-reads
 
 returns : tie.Need-returns
-returns c = looked-none (c .before .before .before .args .v .now) (c .if1 .taken)
+returns c = (shuffled-self _, looked-none (c .before .before .before .args .form .hex) (c .before .before .before .args .s .now) _ (c .before .before .before .args .v .now) (c .if1 .taken))
 
 order-rows-requires : tie.Need-order-rows-requires
 order-rows-requires c κs = search needs
@@ -25,7 +26,7 @@ same-length : tie.Need-same-length
 same-length c = search needs
 
 returns-2 : tie.Need-returns-2
-returns-2 c = looked (c .before .before .before .before .before .before .order-rows .ensures) (c .pass .ensures)
+returns-2 c = (c .before .before .before .before .before .before .order-rows .ensures, looked (c .before .before .before .before .before .before .before .before .before .before .before .args .form .hex) (c .before .before .before .before .before .before .before .before .before .before .before .args .s .now) _ (c .before .before .before .before .before .before .order-rows .ensures) (c .pass .ensures))
 
 pub crossed-spec : {M : Type 1} → statement M
 crossed-spec =

@@ -22,7 +22,7 @@ row-at-requires : tie.Need-row-at-requires
 row-at-requires c κs = search needs
 
 add-requires : tie.Need-add-requires
-add-requires c κs = (c .before .before .before .before .before .before .before .before .before .pre .0, c .before .before .before .before .before .before .before .before .before .pre .1, c .before .before .before .before .before .before .before .before .before .pre .2, c .before .before .before .before .before .before .before .before .before .pre .3, c .before .before .before .before .before .before .before .before .before .pre .4, c .before .before .before .before .before .before .before .before .before .pre .5, c .before .before .before .before .before .before .before .before .before .pre .10, held-row (c .before .before .before .before .before .before .before .before .before .args .form .hex) (c .before .before .before .before .before .before .before .before .before .args .s .now) _ (c .before .before .before .before .before .before .before .before .before .args .k) _ _ (c .before .row-at .ensures .0 ∙ c .before .before .before .before .before .before .before .before .before .pre .9) (c .before .row-at .ensures .1) (c .before .before .before .before .before .before .before .before .before .pre .11))
+add-requires c κs = (c .before .before .before .before .before .before .before .before .before .pre .0, c .before .before .before .before .before .before .before .before .before .pre .1, c .before .before .before .before .before .before .before .before .before .pre .2, c .before .before .before .before .before .before .before .before .before .pre .3, c .before .before .before .before .before .before .before .before .before .pre .4, c .before .before .before .before .before .before .before .before .before .pre .5)
 
 same-length : tie.Need-same-length
 same-length c = search needs
@@ -31,7 +31,7 @@ same-length-2 : tie.Need-same-length-2
 same-length-2 c = search needs
 
 returns : tie.Need-returns
-returns c = (note-seen _ (c .before .before .before .before .before .before .before .before .hash .ensures) (c .before .before .before .before .before .before .seen .ensures) (c .before .before .before .before .before .if1 .taken) (c .before .before .before .before .row-at .ensures .0 ∙ c .before .before .before .before .before .before .before .before .before .before .before .before .pre .9) (c .before .before .before .before .row-at .ensures .1) (c .before .before .add .ensures .0), c .before .before .add .ensures .1)
+returns c = (note-seen _ (c .before .before .before .before .before .before .before .before .hash .ensures) (c .before .before .before .before .before .before .seen .ensures) (c .before .before .before .before .before .if1 .taken) (c .before .before .before .before .row-at .ensures .0 ∙ c .before .before .before .before .before .before .before .before .before .before .before .before .pre .9) (c .before .before .before .before .row-at .ensures .1) (c .before .before .before .before .before .before .before .before .before .before .before .before .pre .10) (held-row (c .before .before .before .before .before .before .before .before .before .before .before .before .args .form .hex) (c .before .before .before .before .before .before .before .before .before .before .before .before .args .s .now) _ (c .before .before .before .before .before .before .before .before .before .before .before .before .args .k) _ _ (c .before .before .before .before .row-at .ensures .0 ∙ c .before .before .before .before .before .before .before .before .before .before .before .before .pre .9) (c .before .before .before .before .row-at .ensures .1) (c .before .before .before .before .before .before .before .before .before .before .before .before .pre .11)) (c .before .before .add .ensures .0), c .before .before .add .ensures .1)
 
 mark-requires : tie.Need-mark-requires
 mark-requires c κs = search needs

@@ -1,6 +1,15 @@
 -- Filled from its answers by tools/proofkit.py: change those, and fill it again.
 use Rattle.queue.proofs.OwnLaws.{owned-by}
+use Rattle.queue.proofs.TouchLaws.{fine-both, fine-not}
+use Rattle.queue.specs.Forms.{formC}
+use Rattle.queue.specs.Frames.{recC}
+use Rattle.queue.specs.Reads.{listAt}
+use Rattle.queue.specs.Reopens.{idsAt}
+use Rattle.queue.specs.Touching.{ownIds}
+use Rattle.queue.specs.View.{view}
 use borrow.Author.Needs.{needs}
+use borrow.Author.Tests.{not-false, not-true}
+use mathlib.Core.Bool.{false}
 use Rattle.queue.proofs.touch.all_owned.Statement.{statement}
 use Rattle.queue.proofs.touch.all_owned.Tie as tie
 use Rattle.queue.proofs.touch.all_owned.Reads as reads
@@ -8,17 +17,35 @@ use Rattle.queue.proofs.touch.all_owned.Lts as lts
 use Rattle.queue.proofs.own.all_set.Reads as all-set-reads
 use Rattle.queue.proofs.touch.fine.Reads as fine-reads
 
+add-all-set : tie.Need-add-all-set
+add-all-set c = search needs
+
 all-set-requires : tie.Need-all-set-requires
-all-set-requires c κs = c .before .before .before .before .before .pre .5 .room (c .if1 .taken)
+all-set-requires c κs = c .before .before .before .before .before .before .pre .4 .room (c .before .if1 .taken)
 
 returns : tie.Need-returns
-returns c = owned-by _ _ (c .before .before .before .before .before .before .pre .5) (c .before .if1 .taken) (c .all-set .ensures)
+returns c = owned-by _ _ (c .before .before .before .before .before .before .before .pre .4) (c .before .before .if1 .taken) (c .all-set .ensures)
 
 fine-requires : tie.Need-fine-requires
-fine-requires c κs = (c .before .before .before .before .before .pre .0, c .before .before .before .before .before .pre .1, c .before .before .before .before .before .pre .2, c .before .before .before .before .before .pre .3, c .before .before .before .before .before .pre .4)
+fine-requires c κs = (c .before .before .before .before .before .pre .0, c .before .before .before .before .before .pre .1, c .before .before .before .before .before .pre .2, c .before .before .before .before .before .pre .3 .1 .0 .insIn, c .before .before .before .before .before .pre .3 .1 .0 .insAll)
 
 returns-2 : tie.Need-returns-2
-returns-2 c = c .fine .ensures
+returns-2 c = fine-not (ownIds (idsAt (c .before .before .before .before .before .before .before .args .ids .now) (c .before .before .before .before .before .before .before .args .m)) (listAt (formC false recC) (c .before .before .before .before .before .before .before .args .n) (c .before .before .before .before .before .before .before .args .s .now) (c .before .before .before .before .before .before .before .args .at))) (view false (c .before .before .before .before .before .before .before .args .s .now) (c .before .before .before .before .before .before .before .args .base)) (c .before .before .before .before .before .before .before .args .x) (c .before .fine .ensures) (not-true _ (c .if2 .taken))
+
+fine-requires-2 : tie.Need-fine-requires-2
+fine-requires-2 c κs = (c .before .before .before .before .before .before .before .pre .0, c .before .before .before .before .before .before .before .pre .1, c .before .before .before .before .before .before .before .pre .2, c .before .before .before .before .before .before .before .pre .3 .1 .0 .readsIn, c .before .before .before .before .before .before .before .pre .3 .1 .0 .readsAll)
+
+returns-3 : tie.Need-returns-3
+returns-3 c = fine-both (ownIds (idsAt (c .before .before .before .before .before .before .before .before .args .ids .now) (c .before .before .before .before .before .before .before .before .args .m)) (listAt (formC false recC) (c .before .before .before .before .before .before .before .before .args .n) (c .before .before .before .before .before .before .before .before .args .s .now) (c .before .before .before .before .before .before .before .before .args .at))) (view false (c .before .before .before .before .before .before .before .before .args .s .now) (c .before .before .before .before .before .before .before .before .args .base)) (c .before .before .before .before .before .before .before .before .args .x) (c .before .before .fine .ensures) (not-false _ (c .before .if2 .left)) (c .fine2 .ensures)
 
 pub all-owned-spec : {M : Type 1} → statement M
-all-owned-spec = tie.close (tie.spec all-set-requires returns fine-requires returns-2)
+all-owned-spec =
+    tie.close
+    (tie.spec
+    add-all-set
+    all-set-requires
+    returns
+    fine-requires
+    returns-2
+    fine-requires-2
+    returns-3)

@@ -5,10 +5,9 @@ use Rattle.queue.proofs.TouchLaws.{Judging, judge-end, judge-go, judge-
 use Rattle.queue.proofs.Turns.{seen}
 use Rattle.queue.specs.Forms.{formC}
 use Rattle.queue.specs.Frames.{recC}
-use Rattle.queue.specs.Owning.{FlagsFrom}
+use Rattle.queue.specs.Owning.{FlagsFrom, wantedOf}
 use Rattle.queue.specs.Reads.{listAt}
 use Rattle.queue.specs.Reopens.{idsAt}
-use Rattle.queue.specs.Reserving.{inputsOf}
 use Rattle.queue.specs.Touching.{appliedIn, ownIds}
 use borrow.Author.Needs.{needs}
 use lib.ListN.{length}
@@ -24,7 +23,7 @@ use Rattle.queue.proofs.frame.rec_at.Reads as rec-at-reads
 use Rattle.queue.proofs.touch.touched.Reads as touched-reads
 
 abbrev Inv-loop : tie.InvT-loop
-Inv-loop s at n t k caught ids m quick flags vs₀ i₀ left₀ j₀ g₀ vs i left j g = Judging t caught (ownIds (idsAt ids m) (listAt (formC false recC) n s at)) (appliedIn t k) s n at (length vs₀) i left j vs × (g + left * 65535 ≤ n * 65535) × (quick ≡ true → FlagsFrom (ownIds (idsAt ids m) (listAt (formC false recC) n s at)) (inputsOf (listAt (formC false recC) left s i)) flags g)
+Inv-loop s at n t k caught ids m quick flags vs₀ i₀ left₀ j₀ g₀ vs i left j g = Judging t caught (ownIds (idsAt ids m) (listAt (formC false recC) n s at)) (appliedIn t k) s n at (length vs₀) i left j vs × (g + left * 131070 ≤ n * 131070) × (quick ≡ true → FlagsFrom (ownIds (idsAt ids m) (listAt (formC false recC) n s at)) (wantedOf (listAt (formC false recC) left s i)) flags g)
 
 abbrev μ-loop : tie.MeasureT-loop
 μ-loop s at n t k caught ids m quick flags vs₀ i₀ left₀ j₀ g₀ vs i left j g = left
@@ -45,22 +44,25 @@ slice-write-vs : tie.Need-slice-write-vs Inv-loop μ-loop
 slice-write-vs c = omega (arith, c .before .before .before .before .loop .inv .0 .count, c .before .before .before .before .loop .inv .0 .long, c .before .before .before .before .before .before .before .before .before .before .pre .4, c .before .before .before .loop-test .taken)
 
 add-g : tie.Need-add-g Inv-loop μ-loop
-add-g c = omega (arith, c .before .before .before .before .loop .inv .1, c .before .before .before .before .before .before .before .before .before .before .pre .5, seen false (c .before .before .before .before .loop .inv .0 .scan) (c .before .before .before .loop-test .taken) (c .before .before .rec-at .ensures) .is .0 .small .ins)
+add-g c = omega (arith, c .before .before .before .before .before .loop .inv .1, c .before .before .before .before .before .before .before .before .before .before .before .pre .5, seen false (c .before .before .before .before .before .loop .inv .0 .scan) (c .before .before .before .before .loop-test .taken) (c .before .before .before .rec-at .ensures) .is .0 .small .ins, seen false (c .before .before .before .before .before .loop .inv .0 .scan) (c .before .before .before .before .loop-test .taken) (c .before .before .before .rec-at .ensures) .is .0 .small .reads)
+
+add-g-2 : tie.Need-add-g-2 Inv-loop μ-loop
+add-g-2 c = omega (arith, c .before .before .before .before .before .loop .inv .1, c .before .before .before .before .before .before .before .before .before .before .before .pre .5, seen false (c .before .before .before .before .before .loop .inv .0 .scan) (c .before .before .before .before .loop-test .taken) (c .before .before .before .rec-at .ensures) .is .0 .small .ins, seen false (c .before .before .before .before .before .loop .inv .0 .scan) (c .before .before .before .before .loop-test .taken) (c .before .before .before .rec-at .ensures) .is .0 .small .reads)
 
 after-in-requires : tie.Need-after-in-requires Inv-loop μ-loop
-after-in-requires c κs = seen false (c .before .before .before .before .loop .inv .0 .scan) (c .before .before .before .loop-test .taken) (c .before .before .rec-at .ensures) .is .1 .within
+after-in-requires c κs = seen false (c .before .before .before .before .before .loop .inv .0 .scan) (c .before .before .before .before .loop-test .taken) (c .before .before .before .rec-at .ensures) .is .1 .within
 
 sub-left : tie.Need-sub-left Inv-loop μ-loop
 sub-left c = search needs
 
 add-j : tie.Need-add-j Inv-loop μ-loop
-add-j c = omega (arith, c .before .before .before .before .before .loop .inv .0 .count, c .before .before .before .before .loop-test .taken, c .before .before .before .before .before .before .before .before .before .before .before .pre .5)
+add-j c = omega (arith, c .before .before .before .before .before .before .loop .inv .0 .count, c .before .before .before .before .before .loop-test .taken, c .before .before .before .before .before .before .before .before .before .before .before .before .pre .5)
 
 loop-less : tie.Need-loop-less Inv-loop μ-loop
 loop-less c = search needs
 
 loop-again : tie.Need-loop-again Inv-loop μ-loop
-loop-again c = (judge-go (c .before .before .before .before .before .before .before .before .before .before .before .args .k) (idsAt (c .before .before .before .before .before .before .before .before .before .before .before .args .ids .now) (c .before .before .before .before .before .before .before .before .before .before .before .args .m)) (c .before .before .before .before .before .loop .inv .0) (c .before .before .before .before .loop-test .taken) (c .before .before .before .rec-at .ensures) (c .before .before .before .before .before .before .before .before .before .before .before .pre .4) (c .before .touched .ensures) (c .after-in .ensures), omega (arith, c .before .before .before .before .before .loop .inv .1, c .before .before .before .before .loop-test .taken, seen false (c .before .before .before .before .before .loop .inv .0 .scan) (c .before .before .before .before .loop-test .taken) (c .before .before .before .rec-at .ensures) .is .0 .small .ins), quick-next (ownIds (idsAt (c .before .before .before .before .before .before .before .before .before .before .before .args .ids .now) (c .before .before .before .before .before .before .before .before .before .before .before .args .m)) (listAt (formC false recC) (c .before .before .before .before .before .before .before .before .before .before .before .args .n) (c .before .before .before .before .before .before .before .before .before .before .before .args .s .now) (c .before .before .before .before .before .before .before .before .before .before .before .args .at))) (c .before .before .before .before .before .before .before .before .before .before .before .args .flags .now) (c .before .before .before .before .before .loop .g) (c .before .before .before .before .before .before .before .before .before .before .before .args .quick) (c .before .before .before .before .before .loop .inv .0 .scan) (c .before .before .before .before .before .loop .inv .2) (c .before .before .before .before .loop-test .taken) (c .before .before .before .rec-at .ensures) (c .after-in .ensures))
+loop-again c = (judge-go (c .before .before .before .before .before .before .before .before .before .before .before .before .args .k) (idsAt (c .before .before .before .before .before .before .before .before .before .before .before .before .args .ids .now) (c .before .before .before .before .before .before .before .before .before .before .before .before .args .m)) (c .before .before .before .before .before .before .loop .inv .0) (c .before .before .before .before .before .loop-test .taken) (c .before .before .before .before .rec-at .ensures) (c .before .before .before .before .before .before .before .before .before .before .before .before .pre .4) (c .before .before .touched .ensures) (c .after-in .ensures), omega (arith, c .before .before .before .before .before .before .loop .inv .1, c .before .before .before .before .before .loop-test .taken, seen false (c .before .before .before .before .before .before .loop .inv .0 .scan) (c .before .before .before .before .before .loop-test .taken) (c .before .before .before .before .rec-at .ensures) .is .0 .small .ins, seen false (c .before .before .before .before .before .before .loop .inv .0 .scan) (c .before .before .before .before .before .loop-test .taken) (c .before .before .before .before .rec-at .ensures) .is .0 .small .reads), quick-next (ownIds (idsAt (c .before .before .before .before .before .before .before .before .before .before .before .before .args .ids .now) (c .before .before .before .before .before .before .before .before .before .before .before .before .args .m)) (listAt (formC false recC) (c .before .before .before .before .before .before .before .before .before .before .before .before .args .n) (c .before .before .before .before .before .before .before .before .before .before .before .before .args .s .now) (c .before .before .before .before .before .before .before .before .before .before .before .before .args .at))) (c .before .before .before .before .before .before .before .before .before .before .before .before .args .flags .now) (c .before .before .before .before .before .before .loop .g) (c .before .before .before .before .before .before .before .before .before .before .before .before .args .quick) (c .before .before .before .before .before .before .loop .inv .0 .scan) (c .before .before .before .before .before .before .loop .inv .2) (c .before .before .before .before .before .loop-test .taken) (c .before .before .before .before .rec-at .ensures) (c .after-in .ensures))
 
 same-length : tie.Need-same-length Inv-loop μ-loop
 same-length c = c .before .loop .inv .0 .long
@@ -80,6 +82,7 @@ judge-all-spec =
     mul-vs
     slice-write-vs
     add-g
+    add-g-2
     after-in-requires
     sub-left
     add-j

@@ -48,7 +48,7 @@ returns-3 : tie.Need-returns-3
 returns-3 c = verdict-none (c .before .before .before .before .before .before .before .before .before .before .before .args .s .now) (c .before .before .before .before .before .before .before .before .before .before .before .args .at) (c .before .before .before .before .before .before .before .before .before .before .before .args .n) (c .before .before .before .before .before .before .before .before .before .before .before .args .base) (c .before .before .before .before .before .before .before .before .before .before .before .args .x) (c .before .before .before .before .before .before .before .before .before .before .before .args .t .now) (c .before .before .before .before .before .before .before .before .before .before .before .args .k) (c .before .before .before .before .before .before .before .before .before .before .before .args .caught) (idsAt (c .before .before .before .before .before .before .before .before .before .before .before .args .ids .now) (c .before .before .before .before .before .before .before .before .before .before .before .args .m)) (c .before .before .before .before .find-entry .ensures) (c .before .before .before .if1 .left) (c .before .both .ensures ∙ ap (λ v. c .before .before .before .before .before .before .before .before .before .before .before .args .caught && v) (c .before .before .pending .ensures)) (not-true _ (c .if3 .taken))
 
 all-owned-requires : tie.Need-all-owned-requires
-all-owned-requires c κs = (c .before .before .before .before .before .before .before .before .before .before .before .pre .0, c .before .before .before .before .before .before .before .before .before .before .before .pre .1, c .before .before .before .before .before .before .before .before .before .before .before .pre .4, c .before .before .before .before .before .before .before .before .before .before .before .pre .2 .1 .0 .insIn, c .before .before .before .before .before .before .before .before .before .before .before .pre .2 .1 .0 .insAll, c .before .before .before .before .before .before .before .before .before .before .before .pre .5)
+all-owned-requires c κs = (c .before .before .before .before .before .before .before .before .before .before .before .pre .0, c .before .before .before .before .before .before .before .before .before .before .before .pre .1, c .before .before .before .before .before .before .before .before .before .before .before .pre .4, c .before .before .before .before .before .before .before .before .before .before .before .pre .2, c .before .before .before .before .before .before .before .before .before .before .before .pre .5)
 
 judge-requires : tie.Need-judge-requires
 judge-requires c κs = search needs
