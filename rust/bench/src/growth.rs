@@ -5,7 +5,7 @@ use std::time::{Duration, Instant};
 use compare::side::{Library, Side};
 use compare::tables::Tables;
 use model::calls::ReconcileArgs;
-use model::load::{self, Ids, Links, Load};
+use model::load::{self, Ids, Links, Load, Reads};
 use model::random::nth_id;
 use model::{area, image, HeaderKind, Id, State};
 use pokerbox::raw;
@@ -45,8 +45,8 @@ pub struct Lent {
     older: Vec<u8>,
     id: Id,
     mined: Vec<u8>,
-    /// All inputs, rising.
-    inputs: Vec<Id>,
+    /// All inputs and read ids, rising.
+    asked_for: Vec<Id>,
     enough: Duration,
 }
 
@@ -61,9 +61,10 @@ impl Lent {
         };
         let id = first(State::Queued).map_or([0; 32], |record| record.id);
         let mined = first(State::Mined).map_or(vec![], |record| record.id.to_vec());
-        let holders = queue.records.iter().filter_map(|r| r.holder.as_ref());
-        let mut inputs: Vec<Id> = holders.flat_map(|h| h.inputs.clone()).collect();
-        inputs.sort();
+        let records = queue.records.iter();
+        let mut asked_for: Vec<Id> = records.flat_map(|of| of.asks_for().copied()).collect();
+        asked_for.sort();
+        asked_for.dedup();
         let image = image::encode(&queue);
         Lent {
             next: vec![0; area.len()],
@@ -73,7 +74,7 @@ impl Lent {
             older: image::encode_as(HeaderKind::K01, &queue),
             id,
             mined,
-            inputs,
+            asked_for,
             enough,
         }
     }
@@ -92,9 +93,9 @@ impl Lent {
         })
     }
 
-    /// One record found in a block; of the inputs every `step`-th is unavailable, none for 0.
+    /// One record found in a block; of what is spent or read every `step`-th is unavailable, none for 0.
     pub fn reconcile(&mut self, step: usize, with_image: bool) -> (f64, f64) {
-        let kept = self.inputs.iter().enumerate();
+        let kept = self.asked_for.iter().enumerate();
         let kept = kept.filter(|(at, _)| step == 0 || at % step != 0);
         let available: Vec<u8> = kept.flat_map(|(_, id)| *id).collect();
         let (block, height) = (nth_id(0), 101u32);
@@ -186,6 +187,7 @@ pub fn full(ids: Ids, links: Links) -> Load {
         bytes: 8_000,
         ids,
         links,
+        reads: Reads::None,
     }
 }
 
@@ -200,6 +202,7 @@ pub fn plain(queued: u64, ids: Ids, links: Links) -> Load {
         bytes: 300,
         ids,
         links,
+        reads: Reads::None,
     }
 }
 
@@ -212,6 +215,24 @@ fn wide(boxes: u64) -> Load {
     }
 }
 
+/// 2,048 records of 128 inputs and outputs, which all read 128 ids.
+pub fn reading(reads: Reads) -> Load {
+    Load {
+        queued: 1_024,
+        reads,
+        ..full(Ids::Random, Links::Apart)
+    }
+}
+
+/// What records read at the top limits.
+pub const READS: [(Reads, &str); 2] = [
+    (Reads::Apart, "128 read ids of its own in each record"),
+    (Reads::Same, "the same 128 read ids in all records"),
+];
+
+/// The check of a queue with read ids may take so many seconds.
+const MOST_SECONDS: f64 = 2.0;
+
 pub fn ratio(tables: &mut Tables, name: &str, value: f64, most: f64) {
     let verdict = if value <= most { "yes" } else { "no" };
     tables.line(format_args!("| {name} | {value:.2} | {most} | {verdict} |"));
@@ -220,7 +241,8 @@ pub fn ratio(tables: &mut Tables, name: &str, value: f64, most: f64) {
 /// The ratios alone.
 pub fn ratios(enough: Duration, tables: &mut Tables) {
     tables.line("Records of 2 inputs and outputs and 300 signed bytes, P 1024, B 1048576, T 1024, K 2; the row of 128 and 32 inputs: 1,023 Queued");
-    tables.line("records of 8,000 signed bytes and 1,024 tombstones, at the top limits.\n");
+    tables.line("records of 8,000 signed bytes and 1,024 tombstones, at the top limits; the rows with read ids: 1,024 Queued and 1,024 Mined records of");
+    tables.line("128 inputs and outputs and 8,000 signed bytes and 1,024 tombstones, random ids, at the top limits, and no ratio but seconds.\n");
     tables.line("| ratio of least times | is | at most | reached |\n|---|---:|---:|---|");
     for (queued, most) in [(10, 0.7), (1_000, 1.0)] {
         let mut lent = Lent::new(&plain(queued, Ids::Random, Links::Apart), enough);
@@ -241,6 +263,11 @@ pub fn ratios(enough: Duration, tables: &mut Tables) {
     let [few, many] = [32, 128].map(|boxes| Lent::new(&wide(boxes), enough).sound().0);
     let name = "sound, 1,023 x 128 / 1,023 x 32 inputs";
     ratio(tables, name, many / few, 6.0);
+    for (reads, name) in READS {
+        let sound = Lent::new(&reading(reads), enough).sound().0;
+        let name = format!("sound in seconds, 2,048 x 128 inputs, {name}");
+        ratio(tables, &name, sound, MOST_SECONDS);
+    }
     crate::parents::ratios(enough, tables);
     tables.line("");
 }
@@ -249,10 +276,18 @@ pub fn ratios(enough: Duration, tables: &mut Tables) {
 pub fn full_units(enough: Duration, tables: &mut Tables) {
     let [p, b, t, k] = TOP;
     tables.line(format_args!("P {p}, B {b}, T {t}, K {k}: 1,023 Queued and 1,024 Mined records of 128 inputs and outputs and 8,000 signed bytes, 1,024 tombstones.\n"));
-    for (ids, links, name) in ALL {
+    let loads = ALL.map(|(ids, links, name)| (full(ids, links), name.to_string()));
+    let reading = READS.map(|(reads, name)| {
+        let load = Load {
+            reads,
+            ..full(Ids::Random, Links::Apart)
+        };
+        (load, format!("random ids, {name}"))
+    });
+    for (load, name) in loads.into_iter().chain(reading) {
         tables.line(format_args!("## A full unit at the top limits, {name}\n"));
         tables.line("| call | least, ms | median, ms |\n|---|---:|---:|");
-        for (call, (least, median)) in Lent::new(&full(ids, links), enough).every() {
+        for (call, (least, median)) in Lent::new(&load, enough).every() {
             let [least, median] = [least, median].map(|seconds| seconds * 1e3);
             tables.line(format_args!("| {call} | {least:.1} | {median:.1} |"));
         }

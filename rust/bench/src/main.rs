@@ -30,6 +30,8 @@ use reference::private_queue::PrivateTransactionQueue;
 const INPUTS: usize = 2;
 const OUTPUTS: usize = 2;
 const SIGNED_BYTES: usize = 300;
+/// The first of the ids that are only read.
+const READ_FROM: usize = 1_000_000;
 /// The time at which one record is due.
 const DUE: u64 = 5;
 /// Runs of one work: at least and at most, and no more after so long.
@@ -229,6 +231,7 @@ fn record(n: usize, state: State) -> Record {
         holder: pending.then(|| Holder {
             inputs: boxes(INPUTS),
             outputs: boxes(OUTPUTS),
+            reads: Vec::new(),
             bytes: (0..SIGNED_BYTES).map(|at| (n + at) as u8).collect(),
         }),
     }
@@ -337,6 +340,7 @@ impl<'a> Bench<'a> {
         let mut rows = self.changing();
         rows.push(self.admission());
         rows.push(self.shared_admission());
+        rows.push(self.reading_admission());
         rows.push(self.reconciliation());
         rows.push(self.commit());
         rows.extend(self.parts());
@@ -485,6 +489,7 @@ impl<'a> Bench<'a> {
             caller,
             inputs: holder.inputs,
             outputs: holder.outputs,
+            reads: Vec::new(),
             signed: holder.bytes,
             now: TimeMs(DUE),
             time_deadline: None,
@@ -509,8 +514,8 @@ impl<'a> Bench<'a> {
         queue.limits.shares = [share.min(queue.limits.pending); Caller::COUNT];
         let area = area::encode(&queue);
         let given = self.one_more(last);
-        let (inputs, outputs) = (given.inputs.concat(), given.outputs.concat());
-        let args = admit_args(&given, &inputs, &outputs);
+        let lists = [&given.inputs, &given.outputs, &given.reads].map(|ids| ids.concat());
+        let args = admit_args(&given, &lists);
         Row {
             work: "admit and image, 16 callers with a share each".into(),
             oracle: None,
@@ -526,10 +531,46 @@ impl<'a> Bench<'a> {
         }
     }
 
+    /// The same where each record reads ids of its own, as many as it has inputs, and so does the new one.
+    fn reading_admission(&mut self) -> Row {
+        let own = |n: usize| -> Vec<Id> {
+            let from = READ_FROM + n * INPUTS;
+            (from..from + INPUTS).map(nth_id).collect()
+        };
+        let mut queue = self.queue.clone();
+        for (n, record) in queue.records.iter_mut().enumerate() {
+            if let Some(holder) = &mut record.holder {
+                holder.reads = own(n);
+            }
+        }
+        let area = area::encode(&queue);
+        assert_eq!(raw::sound(&area), Ok(()));
+        let given = Admission {
+            reads: own(queue.records.len()),
+            ..self.one_more(Caller(0))
+        };
+        let lists = [&given.inputs, &given.outputs, &given.reads].map(|ids| ids.concat());
+        let args = admit_args(&given, &lists);
+        // Its image is longer.
+        let mut out = vec![0; 2 * area.len()];
+        Row {
+            work: "admit and image, 2 read ids in each record".into(),
+            oracle: None,
+            library: Some(time(
+                || (),
+                || {
+                    let number = Library.admit(&area, &mut self.next, &args, &mut out);
+                    assert_eq!(number, 102);
+                    raw::image(&self.next, &mut out, &mut 0).expect("an image");
+                },
+            )),
+        }
+    }
+
     fn admission(&mut self) -> Row {
         let given = self.one_more(Caller(0));
-        let (inputs, outputs) = (given.inputs.concat(), given.outputs.concat());
-        let args = admit_args(&given, &inputs, &outputs);
+        let lists = [&given.inputs, &given.outputs, &given.reads].map(|ids| ids.concat());
+        let args = admit_args(&given, &lists);
         let entry = pool_entry(&given);
         Row {
             work: "admit and image / JSON".into(),

@@ -4,10 +4,10 @@ use std::time::Duration;
 
 use compare::tables::Tables;
 use model::calls::ids_bytes;
-use model::load::{self, Ids, Links, Load};
+use model::load::{self, Ids, Links, Load, Reads};
 use pokerbox::raw;
 
-use crate::growth::{full, plain, ratio, times, Lent};
+use crate::growth::{full, plain, ratio, times, Lent, READS};
 
 /// With 1,000 records of 2 inputs it may take so many times as long as the selection.
 const MOST_TIMES: f64 = 2.0;
@@ -114,6 +114,25 @@ pub fn rows(enough: Duration, tables: &mut Tables) {
     for (links, name) in &LINKS[..4] {
         let name = format!("one input and one output 128 times; {name}");
         at_the_top(tables, &name, &top(Ids::Repeated, *links), enough);
+    }
+    for (reads, name) in READS {
+        let load = Load {
+            reads,
+            ..top(Ids::Random, Links::Chain)
+        };
+        let name = format!("random ids; chained, the selection has parents first; {name}");
+        at_the_top(tables, &name, &load, enough);
+    }
+    for (ids, name) in [
+        (Ids::Random, "random ids"),
+        (Ids::Repeated, "one id 128 times"),
+    ] {
+        let load = Load {
+            reads: Reads::Made,
+            ..top(ids, Links::Apart)
+        };
+        let name = format!("{name}; all read the same, which are the outputs of all");
+        at_the_top(tables, &name, &load, enough);
     }
     tables.line("");
 }

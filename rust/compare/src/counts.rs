@@ -18,6 +18,7 @@ pub struct Counts {
     pub parents: Parents,
     pub marks: Marks,
     pub callers: Callers,
+    pub reads: Reads,
     /// Texts and areas with other kinds and marks, by what was lent, its kind and the number given back.
     kinds: BTreeMap<(&'static str, u8), BTreeMap<u64, u64>>,
 }
@@ -57,6 +58,39 @@ pub struct Callers {
     /// Shares over P, refused by 1.
     pub over_p: u64,
     /// Shares that are not 64 bytes, refused by 5.
+    pub not_whole: u64,
+}
+
+/// Lists with read ids, which the model judges (document 02, P11).
+#[derive(Debug, Clone, Copy, Default)]
+pub struct Reads {
+    pub lists: u64,
+    pub events: u64,
+    /// Admissions that were refused by 20.
+    pub refused: u64,
+    /// Those of which another record reads an input.
+    pub input_read: u64,
+    /// Those of which another record spends a read id.
+    pub read_spent: u64,
+    /// Those that none but Mined holders stand against.
+    pub by_mined: u64,
+    /// Admissions that were kept, with read ids.
+    pub admitted: u64,
+    /// Those that read what another record reads.
+    pub shared: u64,
+    /// Those that read what they spend.
+    pub own: u64,
+    /// Records whose inputs were all there and that a read id made Conflicted.
+    pub conflicted: u64,
+    /// Records with read ids that became Queued again.
+    pub queued_again: u64,
+    /// Records with read ids that were finished.
+    pub finished: u64,
+    /// Events after which a selected record waits for what it reads alone.
+    pub waiting: u64,
+    /// Read lists over K, refused by 6.
+    pub over_k: u64,
+    /// Read lists that are not whole, refused by 5.
     pub not_whole: u64,
 }
 
@@ -181,6 +215,7 @@ impl fmt::Display for Counts {
         }
         writeln!(f, "  {}", self.marks)?;
         writeln!(f, "  {}", self.callers)?;
+        writeln!(f, "  {}", self.reads)?;
         writeln!(f, "  {}", self.withdrawn)
     }
 }
@@ -214,6 +249,34 @@ impl fmt::Display for Callers {
             self.restarted,
             self.over_15,
             self.over_p,
+            self.not_whole
+        )
+    }
+}
+
+impl fmt::Display for Reads {
+    fn fmt(&self, f: &mut fmt::Formatter<'_>) -> fmt::Result {
+        write!(
+            f,
+            "read ids, by the model: {} lists, {} events; refused by 20: {} ({} with an input that is \
+             read, {} with a read id that is spent, {} by Mined records alone); {} admitted with read \
+             ids, {} of them with what another reads, {} with what they spend; {} Conflicted by a read \
+             id alone, {} Queued again, {} finished; after {} events a record waits for what it reads \
+             alone; read lists over K: {}, not whole: {}",
+            self.lists,
+            self.events,
+            self.refused,
+            self.input_read,
+            self.read_spent,
+            self.by_mined,
+            self.admitted,
+            self.shared,
+            self.own,
+            self.conflicted,
+            self.queued_again,
+            self.finished,
+            self.waiting,
+            self.over_k,
             self.not_whole
         )
     }

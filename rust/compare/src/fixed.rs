@@ -38,7 +38,7 @@ const TO_MEET: [(char, &[u64]); 29] = [
     ('q', &[3, 100]),
     ('s', &[2, 3, 5, 17, 100]),
     ('c', &[2, 3, 4, 5, 13, 14, 15, 100, 102]),
-    ('d', &[2, 3, 4, 5, 6, 7, 8, 9, 10, 11, 12, 18, 100, 102]),
+    ('d', &[2, 3, 4, 5, 6, 7, 8, 9, 10, 11, 12, 18, 20, 100, 102]),
     ('e', &[2, 3, 4, 15, 100, 102]),
     ('n', &[2, 3, 4, 5, 15, 101, 102, 103]),
     ('r', &[2, 3, 5, 100, 102]),
@@ -590,8 +590,8 @@ fn arguments(call: &Call) -> Vec<u8> {
 }
 
 fn admission(given: &Admission) -> Vec<u8> {
-    let (inputs, outputs) = (given.inputs.concat(), given.outputs.concat());
-    admission_bytes(&admit_args(given, &inputs, &outputs))
+    let lists = [&given.inputs, &given.outputs, &given.reads].map(|ids| ids.concat());
+    admission_bytes(&admit_args(given, &lists))
 }
 
 /// What has one length, then the lengths of the rest, then the rest.
@@ -612,12 +612,14 @@ fn admission_bytes(args: &AdmitArgs<'_>) -> Vec<u8> {
         id,
         inputs,
         outputs,
+        reads,
         signed,
         label,
         tip,
         ..
     } = *args;
-    put_lists(&mut bytes, &[id, inputs, outputs, signed, label, tip]);
+    let lists = [id, inputs, outputs, reads, signed, label, tip];
+    put_lists(&mut bytes, &lists);
     bytes
 }
 
@@ -845,6 +847,29 @@ impl Lent<'_> {
         self.fixed.call('o', &[], number, "");
     }
 
+    /// Reconciliations with all that is spent available, and all, some or nothing of what is read; with the
+    /// record of this id found, kept or released; and with the scan behind.
+    fn reconciled_by(&mut self, id: &Id) {
+        let found = [&id[..], &[0, 0, 0, 5], &[7; 32]].concat();
+        let available = [&[][..], &[11, 12, 21], &[11, 12], &[11, 12, 22], &[11, 21]];
+        for applied in [&[][..], &found] {
+            for available in available {
+                for (caught_up, window) in [(1, 9), (1, 0), (0, 9)] {
+                    let args = ReconcileArgs {
+                        applied,
+                        caught_up,
+                        available: &boxes(available).concat(),
+                        window,
+                        ..settling(id)
+                    };
+                    if self.reconcile(80, &args) == 102 {
+                        self.image('w');
+                    }
+                }
+            }
+        }
+    }
+
     /// Every call that reads the current area, with outputs of this length.
     fn every_call(&mut self, length: usize, id: &Id) {
         self.sound();
@@ -872,6 +897,7 @@ fn known(id: &Id) -> AdmitArgs<'_> {
         caller: 0,
         inputs: &[],
         outputs: &[],
+        reads: &[],
         signed: &[],
         now: 5,
         time_flag: 0,
@@ -973,6 +999,7 @@ fn refusals(fixed: &mut Fixed) {
     kinds(&mut lent);
     shares(&mut lent);
     callers(&mut lent);
+    reads(&mut lent);
     top_counter(&mut lent, queue, &id);
 }
 
@@ -1025,6 +1052,14 @@ fn admissions(lent: &mut Lent<'_>, id: &Id, long: &[u8]) {
             ..right
         },
         AdmitArgs {
+            reads: long,
+            ..right
+        },
+        AdmitArgs {
+            reads: &id[..31],
+            ..right
+        },
+        AdmitArgs {
             caller: 16,
             ..right
         },
@@ -1059,6 +1094,10 @@ fn admissions(lent: &mut Lent<'_>, id: &Id, long: &[u8]) {
         },
         AdmitArgs {
             outputs: &many,
+            ..right
+        },
+        AdmitArgs {
+            reads: &many,
             ..right
         },
     ] {
@@ -1248,14 +1287,15 @@ fn not_images(lent: &mut Lent<'_>, queue: &Queue, text: &[u8]) {
     lent.image('q');
 }
 
-/// A queue whose first record is a Mined tombstone with mark 5, as an image of kind 01 can have.
+/// A queue whose first record is a Mined tombstone with mark 5, as an image of kind 01 can have, and that
+/// has a holder.
 fn marked_queue() -> Queue {
     let limits = Limits::checked(2, 10, 2, 2).expect("limits in range");
     let queues = (0..).map(|seed| random::queue(&mut Rng::new(seed), limits));
     let marked = |queue: &Queue| {
         let first = queue.records.first();
         let marked = first.is_some_and(|record| record.withdrawn == Withdrawn::Expired);
-        marked && HeaderKind::K01.can_hold(queue)
+        marked && HeaderKind::K01.can_hold(queue) && queue.holders().next().is_some()
     };
     let mut queues = queues.filter(marked);
     queues.next().expect("there is no last seed")
@@ -1269,15 +1309,15 @@ fn kinds(lent: &mut Lent<'_>) {
         [kind.as_bytes(), &text[2..]].concat()
     };
     lent.fixed.both(
-        "images of kinds 01, 03 and 04, and of no others: without shares and callers, and with",
+        "images of kinds 01, 03, 04 and 05, and of no others: without shares and callers, with them, and with read counts",
     );
-    for form in [HeaderKind::K03, HeaderKind::K04] {
-        for kind in ["01", "03", "04", "00", "02", "05", "06", "0f"] {
+    for form in [HeaderKind::K03, HeaderKind::K04, HeaderKind::K05] {
+        for kind in ["01", "03", "04", "05", "00", "02", "06", "0f"] {
             lent.open(&of_kind(kind, form));
             lent.image('q');
         }
     }
-    lent.fixed.both("marks under kinds 01, 03 and 04");
+    lent.fixed.both("marks under kinds 01, 03, 04 and 05");
     for form in HeaderKind::ALL {
         let digits = image::mark_place(form, &queue, 0);
         for mark in 0..7 {
@@ -1288,7 +1328,7 @@ fn kinds(lent: &mut Lent<'_>) {
         }
     }
     lent.fixed.both("areas of other kinds, and other marks");
-    for kind in [0, 1, 2, 3, 5, 4] {
+    for kind in [0, 1, 2, 3, 4, 6, 5] {
         let mut wrong = bytes.clone();
         wrong[4] = kind;
         lent.put('a', &wrong);
@@ -1467,6 +1507,157 @@ fn rolled_back_above_a_share(lent: &mut Lent<'_>, queue: &Queue, first: &Id) {
         };
         lent.admit(200, &given);
     }
+}
+
+/// P 3, B 10, T 2, K 2. The first record spends 11 and reads 21; the second spends 12, makes 22 and reads
+/// 21 and 12; the third reads 22. The second is a Mined holder where `mined`.
+fn reading_queue(mined: bool) -> (Queue, [Id; 3]) {
+    let limits = Limits::checked(3, 10, 2, 2).expect("limits in range");
+    let mut queue = Queue::fresh(limits);
+    let ids = [0, 1, 2].map(random::nth_id);
+    let lists: [[&[u8]; 3]; 3] = [
+        [&[11], &[], &[21]],
+        [&[12], &[22], &[21, 12]],
+        [&[], &[], &[22]],
+    ];
+    for (id, lists) in ids.iter().zip(lists) {
+        let [inputs, outputs, reads] = lists.map(boxes);
+        let given = Admission {
+            inputs,
+            outputs,
+            reads,
+            ..plain(*id)
+        };
+        let change = model::rules::admit(&queue, &given);
+        queue = change.expect("room").next;
+    }
+    if mined {
+        let Call::Reconcile(given) = found(ids[1], 7, 9) else {
+            unreachable!("a reconciliation");
+        };
+        let given = Reconciliation {
+            caught_up: false,
+            ..given
+        };
+        let change = model::rules::reconcile(&queue, &given);
+        queue = change.expect("entered").next;
+    }
+    (queue, ids)
+}
+
+fn boxes(numbers: &[u8]) -> Vec<Id> {
+    numbers.iter().map(|n| [*n; 32]).collect()
+}
+
+/// Read ids: 20 and what comes before it; in answers, areas and images; what each call makes of them.
+fn reads(lent: &mut Lent<'_>) {
+    let (queue, [first, second, third]) = reading_queue(false);
+    lent.fixed
+        .both(&format!("read ids, 20: {}", head(&queue.limits)));
+    let other = random::nth_id(9);
+    let two = model::rules::cancel(&queue, &third).expect("pending").next;
+    let (mined, _) = reading_queue(true);
+    let mined = model::rules::cancel(&mined, &third).expect("pending").next;
+    for queue in [&two, &mined] {
+        lent.put('a', &area::encode(queue));
+        for (id, inputs, reads) in [
+            // Both halves, each at its first and its last place.
+            (&other, &[21][..], &[][..]),
+            (&other, &[31, 21], &[]),
+            (&other, &[], &[11]),
+            (&other, &[], &[31, 12]),
+            // 12 comes first, and 6 and 5 before that.
+            (&other, &[12], &[11]),
+            (&other, &[12], &[11, 11, 11]),
+            // Others may read the same, and a record what it spends or makes.
+            (&other, &[], &[21, 22]),
+            (&other, &[31], &[31, 32]),
+            (&other, &[], &[33, 33]),
+            // A tombstone neither reads nor spends.
+            (&third, &[31], &[22]),
+            // A pending or Mined id answers its record.
+            (&first, &[21], &[12]),
+            (&second, &[21], &[]),
+        ] {
+            let lists = [boxes(inputs).concat(), boxes(reads).concat()];
+            let given = AdmitArgs {
+                inputs: &lists[0],
+                outputs: &[32; 32],
+                reads: &lists[1],
+                ..known(id)
+            };
+            if lent.admit(200, &given) == 102 {
+                lent.image('w');
+            }
+        }
+        // 11 before 20, and 20 before 4.
+        let meets = AdmitArgs {
+            reads: &[11; 32],
+            ..known(&other)
+        };
+        lent.admit(0, &meets);
+        lent.admit(
+            0,
+            &AdmitArgs {
+                signed: &[0; 11],
+                ..meets
+            },
+        );
+        lent.admit(
+            0,
+            &AdmitArgs {
+                reads: &[31; 32],
+                ..meets
+            },
+        );
+    }
+    lent.fixed.both("what calls make of read ids");
+    lent.put('a', &area::encode(&queue));
+    for letter in ['L', 'N', 'X', 'Y', 'Z', 'T'] {
+        for id in [&first, &second] {
+            lent.read(letter, 700, &reading_arguments(letter, id));
+        }
+    }
+    lent.change('c', 200, &first);
+    lent.image('w');
+    lent.reconciled_by(&second);
+    lent.fixed.both("read ids in areas and images");
+    for (n, reads) in [
+        (0, &[21][..]),
+        (0, &[11, 11]),
+        (0, &[12]),
+        (0, &[21, 12]),
+        (0, &[21, 21, 21]),
+        (2, &[11]),
+        (2, &[21, 22]),
+        (2, &[12]),
+        (2, &[]),
+    ] {
+        let mut other = queue.clone();
+        other.records[n].holder.as_mut().expect("a holder").reads = boxes(reads);
+        lent.put('a', &area::encode(&other));
+        lent.sound();
+        lent.open(&image::encode(&other));
+        lent.image('q');
+    }
+    let (bytes, text) = (area::encode(&queue), image::encode(&queue));
+    for count in [0, 1, 2, 3, 0x100] {
+        let (mut bytes, mut text) = (bytes.clone(), text.clone());
+        let place = area::reads_place(&queue, 1).expect("a holder");
+        let digits = image::reads_place(&queue, 1).expect("a holder");
+        for (at, byte) in (count as u16).to_be_bytes().into_iter().enumerate() {
+            bytes[place + at] = byte;
+            put_digits(&mut text, digits + 2 * at, byte);
+        }
+        lent.put('a', &bytes);
+        lent.sound();
+        lent.open(&text);
+        lent.image('q');
+    }
+    lent.fixed
+        .both("an image of kind 04 opens without read ids");
+    lent.open(&image::encode_as(HeaderKind::K04, &queue));
+    lent.image('q');
 }
 
 fn top_counter(lent: &mut Lent<'_>, mut queue: Queue, id: &Id) {

@@ -123,6 +123,114 @@ pub fn callers_event(rng: &mut Rng, queue: &Queue) -> Event {
     event
 }
 
+/// A list without events whose records read. Some begin with a queue that has read ids, and some with one
+/// that has none, also in an older image.
+pub fn reads_list(rng: &mut Rng) -> List {
+    let small = random::small_limits(rng).numbers();
+    // Room for more pending records, so that they meet before 10.
+    let limits = Limits::checked(small[0] + 3, 10, small[2], small[3]);
+    let limits = limits.expect("limits in range");
+    let start = match rng.below(4) {
+        0 => any_queue(rng, limits),
+        1 => Start::Fresh,
+        _ => {
+            let queue = random::queue(rng, limits);
+            let queue = random::with_reads(rng, queue);
+            Start::Queue(Box::new(queue), HeaderKind::NEWEST)
+        }
+    };
+    List {
+        limits,
+        start,
+        events: Vec::new(),
+        probe: (random::time(rng), random::height(rng)),
+        fees: rng.u64(),
+        look: Look::Reads,
+    }
+}
+
+/// An event of such a list: an admission reads, and mostly nothing but 20 is there to refuse it.
+pub fn reads_event(rng: &mut Rng, queue: &Queue) -> Event {
+    let mut event = event(rng, queue);
+    if let Event::Call(call, _) = &mut event {
+        match &mut **call {
+            // Confirmed with the signed bytes kept, and classified, more often than in other lists.
+            Call::Reconcile(given) => {
+                if rng.once_in(2) {
+                    given.window = u32::MAX;
+                }
+                if rng.once_in(2) {
+                    given.caught_up = true;
+                    given.available = reads_available(rng, queue);
+                }
+            }
+            call @ (Call::Expire(..) | Call::SetCursor(..)) if rng.once_in(2) => {
+                *call = Call::Reopen(rolled_back(rng, queue));
+            }
+            Call::Admit(given) => read_by(rng, queue, given),
+            _ => {}
+        }
+    }
+    event
+}
+
+/// All inputs, and mostly not all of what is read.
+fn reads_available(rng: &mut Rng, queue: &Queue) -> BTreeSet<Id> {
+    let share = rng.pick(&[0, 2, 3, 4]);
+    let mut available = reserved_inputs(queue);
+    let reads = queue.records.iter().flat_map(Record::reads);
+    available.extend(reads.filter(|_| rng.below(4) < share));
+    available
+}
+
+/// Gives the admission read ids: what another record spends or reads, what it spends itself, what
+/// another makes, or any. Its inputs are read by another once in a while.
+fn read_by(rng: &mut Rng, queue: &Queue, given: &mut Admission) {
+    let all = |ids: fn(&Record) -> &[Id]| -> Vec<Id> {
+        queue.records.iter().flat_map(ids).copied().collect()
+    };
+    let (spent, read) = (all(Record::inputs), all(Record::reads));
+    let made = all(Record::outputs);
+    if !rng.once_in(4) {
+        given.signed.clear();
+        given.label = None;
+        (given.time_deadline, given.height_deadline) = (None, None);
+        given
+            .inputs
+            .retain(|id| !spent.contains(id) && !read.contains(id));
+    }
+    let k = queue.limits.inputs as usize;
+    let some = |rng: &mut Rng, from: &[Id]| -> Vec<Id> {
+        let from: Vec<Id> = match from.is_empty() {
+            true => random::box_ids(rng, &queue.limits),
+            false => from.to_vec(),
+        };
+        let count = if from.is_empty() { 0 } else { 1 + rng.below(k) };
+        (0..count).map(|_| rng.pick(&from)).collect()
+    };
+    let apart: Vec<Id> = read
+        .iter()
+        .filter(|id| !spent.contains(id))
+        .copied()
+        .collect();
+    given.reads = match rng.below(12) {
+        0..=2 => some(rng, &spent),
+        3 | 4 => some(rng, &apart),
+        5 | 6 => some(rng, &given.inputs),
+        7 => {
+            let free: Vec<Id> = made.into_iter().filter(|id| !spent.contains(id)).collect();
+            some(rng, &free)
+        }
+        8 => some(rng, &given.outputs),
+        9 => Vec::new(),
+        _ => random::box_ids(rng, &queue.limits),
+    };
+    if rng.once_in(4) {
+        given.inputs.extend(some(rng, &apart));
+        given.inputs.truncate(k);
+    }
+}
+
 /// What best fees is asked of this queue; the draws are the same for all queues.
 pub fn fees(seed: u64, queue: &Queue, (now, height): (TimeMs, Height)) -> [Fees; 3] {
     let mut rng = Rng::new(seed);
@@ -240,6 +348,7 @@ fn admission(rng: &mut Rng, queue: &Queue) -> Admission {
         caller: Caller(0),
         inputs: inputs(rng, queue),
         outputs: random::box_ids(rng, limits),
+        reads: Vec::new(),
         signed: rng.bytes(signed),
         now: random::time(rng),
         time_deadline: sometimes(rng, random::time),
@@ -317,7 +426,7 @@ fn available(rng: &mut Rng, queue: &Queue) -> BTreeSet<Id> {
     queue
         .records
         .iter()
-        .flat_map(|record| record.inputs().iter().copied())
+        .flat_map(|record| record.asks_for().copied())
         .filter(|_| rng.below(4) < share)
         .collect()
 }

@@ -8,12 +8,15 @@
 //! - [`oracle`]: runs events on the oracle.
 //! - [`withdrawn`]: which ids may not be selected.
 //! - [`marks`]: the one reason in which the two part.
-//! - [`callers`]: lists with callers and shares, which the oracle has not, compared with the model.
+//! - [`beside`]: lists that the oracle cannot run, compared with the model.
+//! - [`callers`]: those with callers and shares.
+//! - [`reads`]: those with read ids.
 //! - [`run`]: compares the two after each event.
 //! - [`fixed`]: the fixed list that a Rattle program replays.
 //! - [`shrink`]: makes a list that shows a difference smaller.
 //! - [`tables`]: the files of docs/tables, which `bench` and `mutants` write.
 
+pub mod beside;
 pub mod callers;
 pub mod counts;
 pub mod fixed;
@@ -21,6 +24,7 @@ pub mod generate;
 pub mod list;
 pub mod marks;
 pub mod oracle;
+pub mod reads;
 pub mod run;
 pub mod shrink;
 pub mod side;

@@ -86,7 +86,7 @@ pub struct List {
     /// The time and height with which reading calls are asked after each event.
     pub probe: (TimeMs, Height),
     /// The seed of what best fees is asked, at the start and after each event, and of the kind and the
-    /// mark, caller or share that are put into texts and areas.
+    /// mark, caller, share or read id that are put into texts and areas.
     pub fees: u64,
     pub look: Look,
 }
@@ -103,6 +103,8 @@ pub enum Look {
     /// All that can be seen, of a list with callers and shares (document 02, P8): the oracle has
     /// neither and is not asked; the model is the judge.
     Callers,
+    /// The same of a list with read ids (document 02, P11), which the oracle has not.
+    Reads,
 }
 
 impl fmt::Display for List {

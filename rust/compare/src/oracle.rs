@@ -59,7 +59,8 @@ pub struct Oracle {
 
 impl Oracle {
     /// Uses `folder`, which must exist, and removes what an earlier oracle left there. The oracle has no
-    /// callers and no shares: all is of caller 0, whose share is P, and nothing else is taken.
+    /// callers, no shares and no read ids: all is of caller 0, whose share is P, nothing is only read, and
+    /// nothing else is taken.
     pub fn new(folder: &Path, limits: Limits, start: &Start) -> Result<Oracle, String> {
         if !limits.is_all_to_caller_0() {
             return Err("the oracle has no shares".into());
@@ -92,6 +93,9 @@ impl Oracle {
         let of_caller_0 = |record: &Record| record.caller == Caller(0);
         if queue.limits != self.limits || !queue.records.iter().all(of_caller_0) {
             return Err("the oracle has no callers".into());
+        }
+        if !queue.records.iter().all(|record| record.reads().is_empty()) {
+            return Err("the oracle has no read ids".into());
         }
         self.marked = Marked::new(queue);
         for record in &queue.records {
@@ -150,6 +154,9 @@ impl Oracle {
     pub fn call(&mut self, call: &Call, write: Write) -> Result<Done, String> {
         if matches!(call, Call::Admit(given) if given.caller != Caller(0)) {
             return Err("the oracle has no callers".into());
+        }
+        if matches!(call, Call::Admit(given) if !given.reads.is_empty()) {
+            return Err("the oracle has no read ids".into());
         }
         let fails = match write {
             Write::Kept | Write::CutAfterRename => None,
@@ -229,6 +236,7 @@ impl Oracle {
                 &Holder {
                     inputs: given.inputs.clone(),
                     outputs: given.outputs.clone(),
+                    reads: Vec::new(),
                     bytes: given.signed.clone(),
                 },
             );
@@ -518,6 +526,7 @@ fn record_of(whole: &WholeRecord) -> Record {
             .expect("a registered transaction")
             .outputs
             .clone(),
+        reads: Vec::new(),
         bytes: bytes.clone(),
     });
     assert!(holder.is_some() || shown.inputs().is_empty());

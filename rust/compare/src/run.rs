@@ -7,7 +7,7 @@ use std::path::Path;
 use model::random::Rng;
 use model::{area, calls, image, HeaderKind, Height, Id, Limits, Queue, Record, TimeMs};
 
-use crate::callers;
+use crate::beside;
 use crate::counts::Counts;
 use crate::generate;
 use crate::list::{Call, Event, List, Look, Short, Write};
@@ -358,10 +358,12 @@ impl<'a, S: Side> Pair<'a, S> {
     fn kinds(&self, queue: &Queue, counts: &mut Counts) -> Result<(), Difference> {
         let mut rng = Rng::new(self.fees);
         let (kind, mark) = (rng.pick(&KINDS), rng.pick(&MARKS));
-        // With shares and callers, or without, as older kinds have them.
-        let form = match rng.once_in(2) {
-            true => HeaderKind::K04,
-            false => HeaderKind::K03,
+        // With shares, callers and read counts, without the counts, or without all of them: often as the
+        // kind has it.
+        let form = rng.pick(&[HeaderKind::K05, HeaderKind::K04, HeaderKind::K03]);
+        let form = match HeaderKind::from_number(kind) {
+            Some(own) if rng.once_in(2) => own,
+            _ => form,
         };
         let (mut bytes, mut text) = (self.unit.area().to_vec(), image::encode_as(form, queue));
         bytes[4] = kind;
@@ -532,7 +534,7 @@ impl<'a, S: Side> Pair<'a, S> {
 }
 
 /// Header kinds, mostly those that there are.
-const KINDS: [u8; 10] = [1, 3, 4, 1, 3, 4, 4, 0, 2, 5];
+const KINDS: [u8; 13] = [1, 3, 4, 5, 1, 3, 4, 5, 1, 3, 0, 2, 6];
 /// Withdrawn marks, two numbers that are none, and the mark that is there.
 const MARKS: [Option<u8>; 7] = [Some(3), Some(5), Some(4), Some(0), Some(1), Some(2), None];
 
@@ -619,8 +621,8 @@ fn count(call: &Call, write: Write, done: &unit::Done, counts: &mut Counts) {
 /// Runs a whole list; the first difference.
 pub fn run_list<S: Side>(side: &S, folder: &Path, list: &List) -> Result<(), Difference> {
     let mut counts = Counts::default();
-    if list.look == Look::Callers {
-        return callers::run_list(side, list, &mut counts);
+    if matches!(list.look, Look::Callers | Look::Reads) {
+        return beside::run_list(side, list, &mut counts);
     }
     let mut pair = Pair::new(side, folder, list)?;
     pair.start(&mut counts)?;
@@ -649,7 +651,7 @@ fn started<'a, S: Side>(
 const PARENTS: u64 = 12;
 
 /// What belongs to one seed: a random list, under these limits or random ones, a queue for best fees,
-/// some for parents first, and a list with callers and shares.
+/// some for parents first, a list with callers and shares, and one with read ids.
 pub fn seed<S: Side>(
     side: &S,
     folder: &Path,
@@ -671,7 +673,8 @@ pub fn seed<S: Side>(
         let list = generate::parents_list(&mut Rng::new(seed));
         started(side, folder, &list, counts)?;
     }
-    callers::random_list(side, &mut Rng::new(seed), counts)
+    beside::random_list(side, &mut Rng::new(seed), Look::Callers, counts)?;
+    beside::random_list(side, &mut Rng::new(seed), Look::Reads, counts)
 }
 
 /// Makes and runs one random list. A difference comes with the list up to it.

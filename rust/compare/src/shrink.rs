@@ -66,14 +66,15 @@ fn smaller_starts(list: &List) -> Vec<List> {
         starts.push(Start::Queue(queue, *kind));
     }
     for at in 0..queue.records.len() {
-        for outputs in [false, true] {
+        for list in 0..3 {
             let mut queue = queue.clone();
             let Some(holder) = &mut queue.records[at].holder else {
                 continue;
             };
-            let ids = match outputs {
-                true => &mut holder.outputs,
-                false => &mut holder.inputs,
+            let ids = match list {
+                0 => &mut holder.inputs,
+                1 => &mut holder.outputs,
+                _ => &mut holder.reads,
             };
             if ids.pop().is_some() {
                 starts.push(Start::Queue(queue, *kind));
@@ -113,6 +114,7 @@ fn smaller_calls(call: &Call) -> Vec<Call> {
             };
             add(&|given| given.inputs.clear());
             add(&|given| given.outputs.clear());
+            add(&|given| given.reads.clear());
             add(&|given| given.signed.clear());
             add(&|given| given.label = None);
             add(&|given| given.time_deadline = None);

@@ -271,6 +271,7 @@ fn admit_args<'a>(args: &AdmitArgs<'a>) -> raw::AdmitArgs<'a> {
         caller: args.caller,
         inputs: args.inputs,
         outputs: args.outputs,
+        reads: args.reads,
         signed: args.signed,
         now: args.now,
         time_flag: args.time_flag,

@@ -114,7 +114,7 @@ impl<'s, S: Side> Unit<'s, S> {
             return Err("a call changed the current area".into());
         }
         match number {
-            1..=16 | 18 => Ok(done(number, None, Vec::new())),
+            1..=16 | 18 | 20 => Ok(done(number, None, Vec::new())),
             100 => Ok(done(100, Some(0), out)),
             101 => {
                 std::mem::swap(&mut self.current, &mut self.next);
@@ -129,9 +129,8 @@ impl<'s, S: Side> Unit<'s, S> {
         let (side, cur, next) = (self.side, &self.current, &mut self.next);
         match call {
             Call::Admit(given) => {
-                let (inputs, outputs) = (given.inputs.concat(), given.outputs.concat());
-                let args = admit_args(given, &inputs, &outputs);
-                side.admit(cur, next, &args, out)
+                let lists = [&given.inputs, &given.outputs, &given.reads].map(|ids| ids.concat());
+                side.admit(cur, next, &admit_args(given, &lists), out)
             }
             Call::Cancel(id) => side.cancel(cur, next, id, out),
             Call::Expire(now, height) => side.expire(cur, next, now.0, height.0, out),
@@ -251,14 +250,28 @@ impl<'s, S: Side> Unit<'s, S> {
 
     /// The number that an admission of the caller with this number gives back; it has no effect.
     pub fn admission_by(&self, given: &Admission, caller: u8) -> u64 {
-        let (inputs, outputs) = (given.inputs.concat(), given.outputs.concat());
+        let lists = [&given.inputs, &given.outputs, &given.reads].map(|ids| ids.concat());
         let args = AdmitArgs {
             caller,
-            ..admit_args(given, &inputs, &outputs)
+            ..admit_args(given, &lists)
         };
+        self.admission(&args)
+    }
+
+    /// The number that an admission with these read ids, whole or not, gives back; it has no effect.
+    pub fn admission_reading(&self, given: &Admission, reads: &[u8]) -> u64 {
+        let lists = [
+            given.inputs.concat(),
+            given.outputs.concat(),
+            reads.to_vec(),
+        ];
+        self.admission(&admit_args(given, &lists))
+    }
+
+    fn admission(&self, args: &AdmitArgs<'_>) -> u64 {
         let mut out = vec![UNTOUCHED; answer_bound(&self.first_limits)];
         let mut next = self.next.clone();
-        self.side.admit(&self.current, &mut next, &args, &mut out)
+        self.side.admit(&self.current, &mut next, args, &mut out)
     }
 
     pub fn signed_bytes(&self, id: &Id) -> Result<&[u8], u64> {
@@ -329,13 +342,17 @@ pub(crate) fn ids_of(bytes: &[u8]) -> Option<Vec<Id>> {
     Some(ids.to_vec())
 }
 
-/// What `admit` is given for this admission; its inputs and outputs one after the other.
-pub fn admit_args<'a>(given: &'a Admission, inputs: &'a [u8], outputs: &'a [u8]) -> AdmitArgs<'a> {
+/// What `admit` is given for this admission; its inputs, outputs and read ids, each list as its bytes.
+pub fn admit_args<'a>(
+    given: &'a Admission,
+    [inputs, outputs, reads]: &'a [Vec<u8>; 3],
+) -> AdmitArgs<'a> {
     AdmitArgs {
         id: &given.id,
         caller: given.caller.0,
         inputs,
         outputs,
+        reads,
         signed: &given.signed,
         now: given.now.0,
         time_flag: u8::from(given.time_deadline.is_some()),
@@ -382,5 +399,5 @@ pub(crate) fn optional_id(id: &Option<Id>) -> &[u8] {
 
 /// No changing call's answer is longer.
 fn answer_bound(limits: &Limits) -> usize {
-    400 + 32 * limits.inputs as usize + 64 * limits.pending as usize
+    400 + 64 * limits.inputs as usize + 64 * limits.pending as usize
 }

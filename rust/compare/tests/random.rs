@@ -59,8 +59,9 @@ fn the_model_answers_as_the_oracle() {
     }
     assert_eq!(counts.met_by_fees(), [4, 5, 21, 100]);
     marks_were_met(&counts);
-    // Of caller 0 alone, whose share is P: 10 comes first.
+    // Of caller 0 alone, whose share is P: 10 comes first. Nothing is read.
     assert!(!counts.met("admit", "18"));
+    assert!(!counts.met("admit", "20"));
 }
 
 /// In the lists that the model judges, each rule about callers and shares was met often.
@@ -81,9 +82,36 @@ fn callers_were_met(counts: &Counts) {
     ] {
         assert!(count > least, "{met}");
     }
-    let altered = |lent| counts.met_by_kind(lent, 4);
+    let altered = |lent| counts.met_by_kind(lent, 5);
     assert_eq!(altered("areas with another caller or share"), [3, 100]);
     assert_eq!(altered("texts with another caller or share"), [16, 100]);
+}
+
+/// In the lists that the model judges, each rule about read ids was met often.
+fn reads_were_met(counts: &Counts) {
+    let met = counts.reads;
+    assert!(met.lists >= 100, "{met}");
+    assert!(met.events > 1_500, "{met}");
+    for (count, least) in [
+        (met.refused, 100),
+        (met.input_read, 50),
+        (met.read_spent, 50),
+        (met.by_mined, 10),
+        (met.admitted, 100),
+        (met.shared, 30),
+        (met.own, 30),
+        (met.conflicted, 50),
+        (met.queued_again, 30),
+        (met.finished, 100),
+        (met.waiting, 50),
+        (met.over_k, 500),
+        (met.not_whole, 500),
+    ] {
+        assert!(count > least, "{met}");
+    }
+    let altered = |lent| counts.met_by_kind(lent, 5);
+    assert_eq!(altered("areas with other read ids"), [3, 100]);
+    assert_eq!(altered("texts with other read ids"), [16, 100]);
 }
 
 /// The reason that is left out was there often enough, and so were other kinds and marks.
@@ -96,10 +124,11 @@ fn marks_were_met(counts: &Counts) {
     for (kind, texts, areas) in [
         (1, &[16, 100][..], &[3][..]),
         (3, &[16, 100], &[3]),
-        (4, &[16, 100], &[3, 100]),
+        (4, &[16, 100], &[3]),
+        (5, &[16, 100], &[3, 100]),
         (0, &[16], &[3]),
         (2, &[16], &[3]),
-        (5, &[16], &[3]),
+        (6, &[16], &[3]),
     ] {
         assert_eq!(counts.met_by_kind("texts", kind), texts, "{kind}");
         assert_eq!(counts.met_by_kind("areas", kind), areas, "{kind}");
@@ -132,6 +161,7 @@ fn the_library_answers_as_the_oracle() {
     }
     marks_were_met(&counts);
     callers_were_met(&counts);
+    reads_were_met(&counts);
 }
 
 type Admit = fn(&[u8], &mut [u8], &AdmitArgs<'_>, &mut [u8]) -> u64;
@@ -262,7 +292,7 @@ fn noticed_by(look: Look, side: Faulty, name: &str) -> (List, Difference) {
     let folder = Folder::new(name);
     for seed in 0..500 {
         match lists(&side, &folder, seed..seed + 1, look) {
-            Err(found) if found.0.look != Look::Callers => {
+            Err(found) if !matches!(found.0.look, Look::Callers | Look::Reads) => {
                 return shrink(&side, folder.path(), *found)
             }
             _ => {}
@@ -271,19 +301,14 @@ fn noticed_by(look: Look, side: Faulty, name: &str) -> (List, Difference) {
     panic!("{name} was not noticed");
 }
 
-/// What is right for caller 0 under all to caller 0 is noticed by the model alone.
-fn noticed_by_model(side: Faulty, name: &str) -> (List, Difference) {
+/// What is right for caller 0 under all to caller 0, or for records that read nothing, is noticed by the
+/// model alone, in lists with this look.
+fn noticed_by_model(look: Look, side: Faulty, name: &str) -> (List, Difference) {
     let folder = Folder::new(name);
     let Err(found) = lists(&side, &folder, 0..100, Look::All) else {
         panic!("{name} was not noticed");
     };
-    assert_eq!(
-        found.0.look,
-        Look::Callers,
-        "{name}: {}{}",
-        found.0,
-        found.1
-    );
+    assert_eq!(found.0.look, look, "{name}: {}{}", found.0, found.1);
     shrink(&side, folder.path(), *found)
 }
 
@@ -430,10 +455,257 @@ fn a_wrong_caller_or_share_is_noticed() {
         ),
     ];
     for (side, name, what) in sides {
-        let (list, found) = noticed_by_model(side, name);
+        let (list, found) = noticed_by_model(Look::Callers, side, name);
         assert_eq!(found.what, what, "{list}{found}");
         assert!(list.events.len() <= 4, "{list}{found}");
     }
+}
+
+/// An admission that would be refused by 20 is made without its read ids, or without its inputs too.
+fn admitted_without(
+    cur: &[u8],
+    next: &mut [u8],
+    args: &AdmitArgs<'_>,
+    out: &mut [u8],
+    inputs_too: bool,
+) -> u64 {
+    let number = calls::admit(cur, next, args, out);
+    if number != 20 {
+        return number;
+    }
+    let bare = AdmitArgs {
+        reads: &[],
+        inputs: if inputs_too { &[] } else { args.inputs },
+        ..*args
+    };
+    calls::admit(cur, next, &bare, out)
+}
+
+/// The next area of a queue that is not sound may be longer than what is lent.
+fn put_some(area: &mut [u8], queue: &Queue) {
+    let bytes = model::area::encode(queue);
+    let length = bytes.len().min(area.len());
+    area[..length].copy_from_slice(&bytes[..length]);
+}
+
+#[test]
+fn a_wrong_read_id_is_noticed() {
+    let sides: [(Faulty, &str, &str); 11] = [
+        (
+            // The read ids are left out where another record spends one.
+            Faulty {
+                admit: |cur, next, args, out| admitted_without(cur, next, args, out, false),
+                ..RIGHT
+            },
+            "no-20-for-read-ids",
+            "what admit did, by the model",
+        ),
+        (
+            Faulty {
+                admit: |cur, next, args, out| admitted_without(cur, next, args, out, true),
+                ..RIGHT
+            },
+            "no-20",
+            "what admit did, by the model",
+        ),
+        (
+            // 12 in its place.
+            Faulty {
+                admit: |cur, next, args, out| match calls::admit(cur, next, args, out) {
+                    20 => 12,
+                    number => number,
+                },
+                ..RIGHT
+            },
+            "12-for-20",
+            "what admit did, by the model",
+        ),
+        (
+            // A record may not read what it spends.
+            Faulty {
+                admit: |cur, next, args, out| {
+                    let before = next.to_vec();
+                    let number = calls::admit(cur, next, args, out);
+                    let (inputs, reads) = (args.inputs.chunks(32), args.reads.chunks(32));
+                    let own = inputs
+                        .clone()
+                        .any(|id| reads.clone().any(|read| id == read));
+                    if number == 102 && own {
+                        next.copy_from_slice(&before);
+                        return 20;
+                    }
+                    number
+                },
+                ..RIGHT
+            },
+            "own-read-ids-refused",
+            "what admit did, by the model",
+        ),
+        (
+            // What another reads may not be read.
+            Faulty {
+                admit: |cur, next, args, out| {
+                    let before = next.to_vec();
+                    let number = calls::admit(cur, next, args, out);
+                    let queue = model::area::decode(cur).expect("a sound area");
+                    let read: Vec<_> = queue.records.iter().flat_map(Record::reads).collect();
+                    let shared = |id: &[u8]| read.iter().any(|read| read[..] == *id);
+                    if number == 102 && args.reads.chunks(32).any(shared) {
+                        next.copy_from_slice(&before);
+                        return 20;
+                    }
+                    number
+                },
+                ..RIGHT
+            },
+            "shared-read-ids-refused",
+            "what admit did, by the model",
+        ),
+        (
+            // The stored record has none.
+            Faulty {
+                admit: |cur, next, args, out| {
+                    let number = calls::admit(cur, next, args, out);
+                    if number == 102 {
+                        with_records(next, |record| {
+                            if let (true, Some(holder)) = (record.id == args.id, &mut record.holder)
+                            {
+                                holder.reads.clear();
+                            }
+                        });
+                    }
+                    number
+                },
+                ..RIGHT
+            },
+            "drops-read-ids",
+            "the image, by the model",
+        ),
+        (
+            // What is read counts as reserved.
+            Faulty {
+                read: |reading, area, out| {
+                    let mut shown = area.to_vec();
+                    if reading == Reading::ReservedInputs {
+                        if let Some(mut queue) = model::area::decode(area) {
+                            for holder in
+                                queue.records.iter_mut().filter_map(|of| of.holder.as_mut())
+                            {
+                                holder.inputs.append(&mut holder.reads);
+                            }
+                            let reserved = model::rules::reserved_inputs(&queue);
+                            let answer = calls::ids_bytes(&reserved);
+                            out[..answer.len()].copy_from_slice(&answer);
+                            return 100;
+                        }
+                        shown.truncate(0);
+                    }
+                    Model.read(reading, &shown, out)
+                },
+                ..RIGHT
+            },
+            "reserves-read-ids",
+            "the answer of reserved_inputs, by the model",
+        ),
+        (
+            // Read ids are not asked for availability.
+            Faulty {
+                reconcile: |cur, next, args, out| {
+                    let queue = model::area::decode(cur).expect("a sound area");
+                    let reads = queue.records.iter().flat_map(Record::reads).copied();
+                    let (given, _) = args.available.as_chunks::<32>();
+                    let all: std::collections::BTreeSet<_> = reads.chain(given.to_vec()).collect();
+                    let available = Vec::from_iter(all).concat();
+                    let args = ReconcileArgs {
+                        available: &available,
+                        ..*args
+                    };
+                    calls::reconcile(cur, next, &args, out)
+                },
+                ..RIGHT
+            },
+            "asks-for-inputs-alone",
+            "the image, by the model",
+        ),
+        (
+            // Nobody waits for what is only read.
+            Faulty {
+                parents_first: |area, now, height, out| {
+                    let mut shown = area.to_vec();
+                    with_records(&mut shown, |record| {
+                        if let Some(holder) = &mut record.holder {
+                            holder.reads.clear();
+                        }
+                    });
+                    calls::selection_parents_first(&shown, now, height, out)
+                },
+                ..RIGHT
+            },
+            "waits-for-inputs-alone",
+            "the answer of selection_parents_first, by the model",
+        ),
+        (
+            // What another spends may be read in a sound area.
+            Faulty {
+                sound: |area| match (calls::sound(area), area.get(4)) {
+                    (3, Some(5)) => {
+                        // As if nothing were read, but for over K ids.
+                        let Some(mut queue) = parsed(area) else {
+                            return 3;
+                        };
+                        let k = queue.limits.inputs as usize;
+                        for holder in queue.records.iter_mut().filter_map(|of| of.holder.as_mut()) {
+                            if holder.reads.len() <= k {
+                                holder.reads.clear();
+                            }
+                        }
+                        let mut other = area.to_vec();
+                        put_some(&mut other, &queue);
+                        calls::sound(&other)
+                    }
+                    (number, _) => number,
+                },
+                ..RIGHT
+            },
+            "meeting-ids-are-sound",
+            "the answer of sound, by the model",
+        ),
+        (
+            Faulty {
+                read: |reading, area, out| {
+                    let mut shown = area.to_vec();
+                    if reading == Reading::List {
+                        with_records(&mut shown, |record| {
+                            if let Some(holder) = &mut record.holder {
+                                holder.reads.reverse();
+                            }
+                        });
+                    }
+                    Model.read(reading, &shown, out)
+                },
+                ..RIGHT
+            },
+            "shows-read-ids-turned",
+            "the answer of list, by the model",
+        ),
+    ];
+    for (side, name, what) in sides {
+        let (list, found) = noticed_by_model(Look::Reads, side, name);
+        assert_eq!(found.what, what, "{name}: {list}{found}");
+        assert!(list.events.len() <= 4, "{list}{found}");
+    }
+}
+
+/// The queue that the area's frames have, sound or not; nothing where they are not whole.
+fn parsed(area: &[u8]) -> Option<Queue> {
+    let mut reader = model::frame::Reader::new(area.get(4..)?);
+    let header = reader.header()?;
+    let mut queue = header.queue;
+    for _ in 0..header.record_count {
+        queue.records.push(reader.record(header.kind)?);
+    }
+    queue.persisted = model::Height(u32::from_be_bytes(area[..4].try_into().ok()?));
+    Some(queue)
 }
 
 #[test]
@@ -872,7 +1144,7 @@ fn a_wrong_kind_is_noticed() {
                 sound: |area| {
                     let mut newest = area.to_vec();
                     if newest.get(4) == Some(&1) {
-                        newest[4] = 4;
+                        newest[4] = 5;
                     }
                     calls::sound(&newest)
                 },
@@ -900,6 +1172,7 @@ fn with_tombstones_queued(area: &mut [u8], which: impl Fn(&Record) -> bool) {
             record.holder = Some(Holder {
                 inputs: Vec::new(),
                 outputs: Vec::new(),
+                reads: Vec::new(),
                 bytes: Vec::new(),
             });
         }

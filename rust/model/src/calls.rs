@@ -148,11 +148,12 @@ fn read_applied(bytes: &[u8]) -> Result<BTreeMap<Id, Confirmation>, u64> {
 
 // Answers.
 
-/// An entry: a record frame's fields from the id to the confirmation, then the inputs.
+/// An entry: a record frame's fields from the id to the confirmation, then the inputs and the read ids.
 pub fn entry_bytes(record: &Record) -> Vec<u8> {
     let mut bytes = Vec::new();
     frame::put_head(&mut bytes, HeaderKind::NEWEST, record);
     frame::put_list(&mut bytes, record.inputs());
+    frame::put_list(&mut bytes, record.reads());
     bytes
 }
 
@@ -177,6 +178,7 @@ pub struct AdmitArgs<'a> {
     pub caller: u8,
     pub inputs: &'a [u8],
     pub outputs: &'a [u8],
+    pub reads: &'a [u8],
     pub signed: &'a [u8],
     pub now: u64,
     pub time_flag: u8,
@@ -200,6 +202,7 @@ impl AdmitArgs<'_> {
             caller: read_caller(self.caller)?,
             inputs: read_ids(self.inputs)?,
             outputs: read_ids(self.outputs)?,
+            reads: read_ids(self.reads)?,
             signed: self.signed.to_vec(),
             now: TimeMs(self.now),
             time_deadline: optional(self.time_flag, || Ok(TimeMs(self.time)))?,
@@ -222,7 +225,8 @@ fn try_admit(cur: &[u8], next: &mut [u8], args: &AdmitArgs<'_>, out: &mut [u8]) 
     let queue = read_current(cur, next)?;
     let given = args.read()?;
     let k = queue.limits.inputs as usize;
-    if given.inputs.len() > k || given.outputs.len() > k {
+    let lists = [&given.inputs, &given.outputs, &given.reads];
+    if lists.iter().any(|list| list.len() > k) {
         return Err(OVER_K);
     }
     let change = rules::admit(&queue, &given)?;

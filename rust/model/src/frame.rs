@@ -17,18 +17,26 @@ pub enum HeaderKind {
     K03 = 3,
     /// Document 02, P8: a share for each caller, and each record's caller.
     K04 = 4,
+    /// Document 02, P11: each holder's read ids.
+    K05 = 5,
 }
 
 impl HeaderKind {
-    pub const ALL: [HeaderKind; 3] = [HeaderKind::K01, HeaderKind::K03, HeaderKind::K04];
+    pub const ALL: [HeaderKind; 4] = [
+        HeaderKind::K01,
+        HeaderKind::K03,
+        HeaderKind::K04,
+        HeaderKind::K05,
+    ];
     /// What areas and new images have.
-    pub const NEWEST: HeaderKind = HeaderKind::K04;
+    pub const NEWEST: HeaderKind = HeaderKind::K05;
 
     pub fn from_number(number: u8) -> Option<HeaderKind> {
         match number {
             1 => Some(HeaderKind::K01),
             3 => Some(HeaderKind::K03),
             4 => Some(HeaderKind::K04),
+            5 => Some(HeaderKind::K05),
             _ => None,
         }
     }
@@ -43,11 +51,18 @@ impl HeaderKind {
         self >= HeaderKind::K04
     }
 
+    /// Whether record frames of this kind have read ids. Where they have not, nothing is read.
+    pub fn has_reads(self) -> bool {
+        self >= HeaderKind::K05
+    }
+
     /// Whether an image of this kind can hold the queue.
     pub fn can_hold(self, queue: &Queue) -> bool {
         let records = || queue.records.iter();
         let callers = queue.limits.is_all_to_caller_0() && records().all(|of| of.caller.0 == 0);
-        (self.has_callers() || callers) && records().all(|of| self.has_mark(of.withdrawn))
+        let reads = self.has_reads() || records().all(|of| of.reads().is_empty());
+        let marks = records().all(|of| self.has_mark(of.withdrawn));
+        (self.has_callers() || callers) && reads && marks
     }
 }
 
@@ -95,6 +110,9 @@ pub fn record(kind: HeaderKind, record: &Record) -> Vec<u8> {
     if let Some(holder) = &record.holder {
         put_list(&mut bytes, &holder.inputs);
         put_list(&mut bytes, &holder.outputs);
+        if kind.has_reads() {
+            put_list(&mut bytes, &holder.reads);
+        }
         bytes.extend((holder.bytes.len() as u32).to_be_bytes());
         bytes.extend(&holder.bytes);
     }
@@ -142,6 +160,13 @@ pub fn mark_place(kind: HeaderKind, queue: &Queue, n: usize) -> usize {
 /// Where the `n`-th record's caller stands in the newest kind, counted so.
 pub fn caller_place(queue: &Queue, n: usize) -> usize {
     id_place(HeaderKind::NEWEST, queue, n) + 32
+}
+
+/// Where the `n`-th record's read count stands in the newest kind, counted so; nothing for a tombstone.
+pub fn reads_place(queue: &Queue, n: usize) -> Option<usize> {
+    let holder = queue.records[n].holder.as_ref()?;
+    let end = id_place(HeaderKind::NEWEST, queue, n + 1) - 1;
+    Some(end - holder.bytes.len() - 4 - 32 * holder.reads.len() - 2)
 }
 
 /// Where the `n`-th record's id stands, counted so.
@@ -286,7 +311,7 @@ impl<'a> Reader<'a> {
             mined: self.optional(Self::confirmation)?,
             withdrawn: self.mark(kind)?,
             finish: FinishNumber(self.u64()?),
-            holder: self.optional(Self::holder)?,
+            holder: self.optional(|reader| reader.holder(kind))?,
         })
     }
 
@@ -315,12 +340,21 @@ impl<'a> Reader<'a> {
         })
     }
 
-    fn holder(&mut self) -> Option<Holder> {
+    fn holder(&mut self, kind: HeaderKind) -> Option<Holder> {
         Some(Holder {
             inputs: self.ids()?,
             outputs: self.ids()?,
+            reads: self.reads(kind)?,
             bytes: self.bytes()?,
         })
+    }
+
+    /// Without a count, as in an older kind, there are none.
+    fn reads(&mut self, kind: HeaderKind) -> Option<Vec<Id>> {
+        match kind.has_reads() {
+            true => self.ids(),
+            false => Some(Vec::new()),
+        }
     }
 
     /// Count 4, bytes.

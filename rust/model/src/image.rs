@@ -33,6 +33,13 @@ pub fn caller_place(queue: &Queue, n: usize) -> usize {
     2 * frame::caller_place(queue, n) + lines
 }
 
+/// Where the digits of the `n`-th record's read count begin in the queue's newest image; nothing for a
+/// tombstone.
+pub fn reads_place(queue: &Queue, n: usize) -> Option<usize> {
+    let lines = 1 + n;
+    frame::reads_place(queue, n).map(|place| 2 * place + lines)
+}
+
 /// Where the digits of a caller's share begin in a newest image.
 pub fn share_place(caller: Caller) -> usize {
     2 * frame::share_place(caller)

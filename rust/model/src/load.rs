@@ -42,6 +42,19 @@ pub enum Links {
     Spread,
 }
 
+/// What the holders read without spending it: as many ids as they have inputs, or none.
+#[derive(Debug, Clone, Copy, PartialEq, Eq)]
+pub enum Reads {
+    None,
+    /// Each its own.
+    Apart,
+    /// All of them the same.
+    Same,
+    /// All of them the same, which are also the outputs of each of them: with [`Links::Apart`] each waits for all
+    /// others.
+    Made,
+}
+
 const IDS: [Ids; 6] = [
     Ids::Random,
     Ids::Front,
@@ -86,7 +99,8 @@ fn box_id(ids: Ids, n: u64) -> Id {
     id
 }
 
-/// What a queue is made of: `queued` and `mined` holders of `boxes` inputs and as many outputs, and tombstones.
+/// What a queue is made of: `queued` and `mined` holders of `boxes` inputs, as many outputs and perhaps read
+/// ids, and tombstones.
 #[derive(Debug, Clone, Copy)]
 pub struct Load {
     pub limits: [u64; 4],
@@ -97,9 +111,10 @@ pub struct Load {
     pub bytes: usize,
     pub ids: Ids,
     pub links: Links,
+    pub reads: Reads,
 }
 
-/// An input, or an output: of which record, and which one of its.
+/// An input, an output or a read id: of which record, and which one of its.
 fn box_of(load: &Load, side: u64, n: u64, at: u64) -> Id {
     let at = if load.ids == Ids::Repeated { 0 } else { at };
     box_id(load.ids, (side << 40) + n * load.boxes + at)
@@ -124,9 +139,18 @@ fn holder(load: &Load, n: u64) -> Holder {
         Some(parent) => box_of(load, 1, parent, at),
         None => box_of(load, 0, n, at),
     };
+    let shared = (0..load.boxes).map(|at| box_of(load, 3, 0, at));
     Holder {
         inputs: (0..load.boxes).map(input).collect(),
-        outputs: (0..load.boxes).map(|at| box_of(load, 1, n, at)).collect(),
+        outputs: match load.reads {
+            Reads::Made => shared.clone().collect(),
+            _ => (0..load.boxes).map(|at| box_of(load, 1, n, at)).collect(),
+        },
+        reads: match load.reads {
+            Reads::None => Vec::new(),
+            Reads::Apart => (0..load.boxes).map(|at| box_of(load, 3, n, at)).collect(),
+            Reads::Same | Reads::Made => shared.collect(),
+        },
         bytes: vec![n as u8; load.bytes],
     }
 }
@@ -179,6 +203,9 @@ fn priority(load: &Load, n: u64) -> i32 {
 /// The ids that parents first has to list of the queue, at time 0 and height 0.
 pub fn parents_first(load: &Load) -> Vec<Id> {
     let mut order: Vec<u64> = (0..load.queued).collect();
+    if load.reads == Reads::Made && load.queued > 1 {
+        return Vec::new();
+    }
     match load.links {
         // By priority, then by time of creation.
         Links::Apart => order.sort_by_key(|n| (Reverse(priority(load, *n)), *n)),

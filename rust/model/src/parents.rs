@@ -3,11 +3,11 @@
 use crate::rules::selection_at;
 use crate::values::{Height, Queue, Record, TimeMs};
 
-/// "A record waits for every other selected record that has one of its inputs among its outputs."
-/// Both are selected.
+/// "A record waits for every other selected record that has one of its inputs among its outputs", and
+/// "waits for [read ids] as for inputs" (P11). Both are selected.
 pub fn waits_for(record: &Record, other: &Record) -> bool {
-    let has = |input| other.outputs().contains(input);
-    record.id != other.id && record.inputs().iter().any(has)
+    let has = |id| other.outputs().contains(id);
+    record.id != other.id && record.asks_for().any(has)
 }
 
 /// The place of "the first, in the old order, of those that wait for nothing unlisted".

@@ -140,6 +140,67 @@ pub fn with_callers(rng: &mut Rng, mut queue: Queue) -> Queue {
     queue
 }
 
+/// The queue with read ids: some inputs only read, and others read besides.
+pub fn with_reads(rng: &mut Rng, mut queue: Queue) -> Queue {
+    if rng.once_in(2) {
+        queue = inputs_read(rng, queue);
+    }
+    for n in 0..queue.records.len() {
+        let more = free_reads(rng, &queue, n);
+        if let Some(holder) = &mut queue.records[n].holder {
+            let room = queue.limits.inputs as usize - holder.reads.len();
+            holder.reads.extend(more.into_iter().take(room));
+        }
+    }
+    debug_assert!(is_sound(&queue));
+    queue
+}
+
+/// The queue with some of its inputs read and not spent.
+pub fn inputs_read(rng: &mut Rng, mut queue: Queue) -> Queue {
+    let mask = rng.u64();
+    let is_read = |id: &Id| mask >> ((id[0] ^ id[31]) % 64) & 1 == 1;
+    let holders = queue.records.iter_mut();
+    for holder in holders.filter_map(|record| record.holder.as_mut()) {
+        let inputs = std::mem::take(&mut holder.inputs).into_iter();
+        let (read, spent): (Vec<Id>, Vec<Id>) = inputs.partition(is_read);
+        (holder.inputs, holder.reads) = (spent, read);
+    }
+    debug_assert!(is_sound(&queue));
+    queue
+}
+
+/// At most K ids that no record but the `n`-th spends: its own inputs and outputs, what others read or
+/// have as outputs, one again, or any.
+pub fn free_reads(rng: &mut Rng, queue: &Queue, n: usize) -> Vec<Id> {
+    let own = &queue.records[n];
+    let others = || queue.records.iter().filter(|other| other.id != own.id);
+    let ids = |of: fn(&Record) -> &[Id]| -> Vec<Id> { others().flat_map(of).copied().collect() };
+    let (spent, read, made) = (
+        ids(Record::inputs),
+        ids(Record::reads),
+        ids(Record::outputs),
+    );
+    let mut reads = Vec::new();
+    for _ in 0..rng.up_to(queue.limits.inputs as usize) {
+        let any = [box_id(rng, &queue.limits)];
+        let from = match rng.below(8) {
+            0 => own.inputs(),
+            1 => own.outputs(),
+            2 | 3 => &read[..],
+            4 | 5 => &made[..],
+            6 => &reads.clone()[..],
+            _ => &any[..],
+        };
+        let from = if from.is_empty() { &any[..] } else { from };
+        let id = rng.pick(from);
+        if !spent.contains(&id) {
+            reads.push(id);
+        }
+    }
+    reads
+}
+
 pub fn time(rng: &mut Rng) -> TimeMs {
     TimeMs(match rng.below(8) {
         0 => 0,
@@ -265,6 +326,7 @@ impl Room {
         Some(Holder {
             inputs: self.take_inputs(rng),
             outputs: box_ids(rng, &self.limits),
+            reads: Vec::new(),
             bytes: rng.bytes(count),
         })
     }
@@ -373,6 +435,7 @@ pub fn fees_queue(rng: &mut Rng, selected: usize) -> Queue {
         let holder = (state != State::Cancelled).then(|| Holder {
             inputs: room.take_inputs(rng),
             outputs: box_ids(rng, &queue.limits),
+            reads: Vec::new(),
             bytes: vec![n as u8; rng.up_to(size)],
         });
         let mut record = room.filled(rng, id, state, holder);
@@ -505,6 +568,7 @@ pub fn parents_queue(rng: &mut Rng, count: usize, inputs: usize) -> Queue {
         let holder = (state != State::Cancelled).then(|| Holder {
             inputs: inputs[n].clone(),
             outputs: parents_outputs(rng, &queue.limits, &inputs, n, wild),
+            reads: Vec::new(),
             bytes: vec![n as u8; rng.below(2)],
         });
         let mut record = room.filled(rng, id, state, holder);
@@ -632,9 +696,10 @@ fn alter_record(rng: &mut Rng, limits: &Limits, record: &mut Record) {
 }
 
 fn alter_holder(rng: &mut Rng, limits: &Limits, holder: &mut Holder) {
-    match rng.below(4) {
+    match rng.below(6) {
         0 => holder.bytes.push(0),
         1 => holder.outputs.push(box_id(rng, limits)),
+        2 | 3 => holder.reads.push(box_id(rng, limits)),
         _ => holder.inputs.push(box_id(rng, limits)),
     }
 }

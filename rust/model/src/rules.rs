@@ -1,5 +1,6 @@
 //! Each call of document 01 as a function on queues. Refusals 1 to 6 and 16 are about bytes and
-//! stand in [`crate::calls`]; here are 7 to 15 and 18, in document 01's order, 18 after 10.
+//! stand in [`crate::calls`]; here are 7 to 15, 18 and 20, in document 01's order, 18 after 10 and 20
+//! after 12.
 
 use std::collections::{BTreeMap, BTreeSet};
 
@@ -21,6 +22,7 @@ pub const ABSENT: Refusal = 13;
 pub const CONFIRMED: Refusal = 14;
 pub const COUNTER: Refusal = 15;
 pub const SHARE: Refusal = 18;
+pub const READ_AND_SPENT: Refusal = 20;
 
 /// What is due after a changing call.
 #[derive(Debug, Clone, Copy, PartialEq, Eq, PartialOrd, Ord)]
@@ -46,6 +48,7 @@ pub struct Admission {
     pub caller: Caller,
     pub inputs: Vec<Id>,
     pub outputs: Vec<Id>,
+    pub reads: Vec<Id>,
     pub signed: Vec<u8>,
     pub now: TimeMs,
     pub time_deadline: Option<TimeMs>,
@@ -66,6 +69,7 @@ impl Admission {
             caller: Caller(0),
             inputs: Vec::new(),
             outputs: Vec::new(),
+            reads: Vec::new(),
             signed: Vec::new(),
             now: TimeMs(5),
             time_deadline: None,
@@ -81,7 +85,7 @@ impl Admission {
 }
 
 /// Admission: checks 7, 8, 9; a pending or Mined id then gives its old record, kind 0; then 10,
-/// 18, 11, 12. The answer is the record.
+/// 18, 11, 12, 20. The answer is the record.
 pub fn admit(queue: &Queue, given: &Admission) -> Result<Change<Record>, Refusal> {
     check_deadlines_and_label(given)?;
     if let Some(old) = queue.record(&given.id) {
@@ -136,6 +140,13 @@ fn check_room(queue: &Queue, given: &Admission) -> Result<(), Refusal> {
     if queue.records.iter().any(reserved) {
         return Err(INPUT_RESERVED);
     }
+    // "an input is read, or a read id spent, by another record"
+    let reads: BTreeSet<&Id> = given.reads.iter().collect();
+    let read = |record: &Record| record.reads().iter().any(|id| inputs.contains(id));
+    let spent = |record: &Record| record.inputs().iter().any(|id| reads.contains(id));
+    if queue.records.iter().any(|of| read(of) || spent(of)) {
+        return Err(READ_AND_SPENT);
+    }
     Ok(())
 }
 
@@ -160,6 +171,7 @@ fn queued_record(given: &Admission) -> Record {
         holder: Some(Holder {
             inputs: given.inputs.clone(),
             outputs: given.outputs.clone(),
+            reads: given.reads.clone(),
             bytes: given.signed.clone(),
         }),
     }
@@ -262,7 +274,8 @@ fn reconciled_records(queue: &Queue, given: &Reconciliation) -> Vec<Record> {
     let mut records = entered(queue, given);
     for record in &mut records {
         if given.caught_up && record.state.is_pending() {
-            *record = classified(record, record.inputs().iter().all(is_available));
+            let available = record.asks_for().all(is_available);
+            *record = classified(record, available);
         }
     }
     records
@@ -407,7 +420,7 @@ fn check_counter(queue: &Queue, count: usize) -> Result<(), Refusal> {
     }
 }
 
-/// Adds 1 to the counter, stamps it on the record, drops bytes, inputs and outputs.
+/// Adds 1 to the counter, stamps it on the record, drops bytes, inputs, outputs and read ids.
 fn finish(queue: &mut Queue, id: &Id) {
     queue.counter.0 += 1;
     let counter = queue.counter;
@@ -464,7 +477,7 @@ pub fn due(queue: &Queue, now: TimeMs, height: Height) -> Vec<&Record> {
         .collect()
 }
 
-/// Rises, each once.
+/// Rises, each once. Read ids are not among them.
 pub fn reserved_inputs(queue: &Queue) -> BTreeSet<Id> {
     queue
         .records

@@ -1,5 +1,6 @@
-//! Sound queues: document 01, "A queue is sound when", and document 02, P8: no share over P and no
-//! caller over 15. A caller may have more pending than its share.
+//! Sound queues: document 01, "A queue is sound when"; document 02, P8: no share over P and no caller
+//! over 15, while a caller may have more pending than its share; and P11: no record spends what another
+//! reads, and none reads over K ids.
 
 use std::collections::{BTreeMap, BTreeSet};
 
@@ -11,7 +12,7 @@ pub fn is_sound(queue: &Queue) -> bool {
 
 /// The first rule that the queue breaks, in words; nothing for a sound queue.
 pub fn broken_rule(queue: &Queue) -> Option<&'static str> {
-    let rules: [(&'static str, bool); 17] = [
+    let rules: [(&'static str, bool); 18] = [
         ("limits are in range", limits_in_range(&queue.limits)),
         ("no share is over P", queue.limits.shares_fit()),
         ("records number at most 2P + T", few_records(queue)),
@@ -24,6 +25,7 @@ pub fn broken_rule(queue: &Queue) -> Option<&'static str> {
         ("callers are 0 to 15", callers_fit(queue)),
         ("states fit holding", queue.records.iter().all(state_fits)),
         ("no input is in two records", inputs_apart(queue)),
+        ("no record spends what another reads", reads_apart(queue)),
         ("reasons fit states", queue.records.iter().all(reason_fits)),
         (
             "mined parts fit states",
@@ -109,6 +111,21 @@ fn inputs_apart(queue: &Queue) -> bool {
     })
 }
 
+/// No read id is an input of another record; its own may be.
+fn reads_apart(queue: &Queue) -> bool {
+    let spent = queue.records.iter().flat_map(|record| {
+        let inputs = record.inputs().iter();
+        inputs.map(|input| (*input, record.id))
+    });
+    let spent: BTreeSet<(Id, Id)> = spent.collect();
+    let by_another = |record: &Record, read: &Id| {
+        let mut by = spent.range((*read, [0; 32])..=(*read, [0xff; 32]));
+        by.any(|(_, id)| *id != record.id)
+    };
+    let mut records = queue.records.iter();
+    records.all(|record| !record.reads().iter().any(|read| by_another(record, read)))
+}
+
 fn reason_fits(record: &Record) -> bool {
     match record.state {
         State::Queued => matches!(record.reason, Reason::None | Reason::RolledBack),
@@ -138,16 +155,13 @@ fn finish_numbers(queue: &Queue) -> bool {
     })
 }
 
-/// Label ≤ 200 bytes; inputs, outputs ≤ K.
+/// Label ≤ 200 bytes; inputs, outputs, read ids ≤ K, each by themselves.
 fn lists_fit(queue: &Queue) -> bool {
     let k = queue.limits.inputs as usize;
     queue.records.iter().all(|record| {
         let label = record.label.as_ref().map_or(0, Vec::len);
-        let lists = record
-            .holder
-            .as_ref()
-            .is_none_or(|holder| holder.inputs.len() <= k && holder.outputs.len() <= k);
-        label <= 200 && lists
+        let mut lists = [record.inputs(), record.outputs(), record.reads()].into_iter();
+        label <= 200 && lists.all(|list| list.len() <= k)
     })
 }
 

@@ -40,7 +40,7 @@ pub struct Limits {
     pub bytes: u32,
     /// T: tombstones.
     pub tombstones: u32,
-    /// K: inputs, and likewise outputs, of a transaction.
+    /// K: inputs, and likewise outputs and read ids, of a transaction.
     pub inputs: u32,
     /// Each from 0 to P.
     pub shares: Shares,
@@ -100,12 +100,12 @@ impl Limits {
         [self.pending, self.bytes, self.tombstones, self.inputs].map(u64::from)
     }
 
-    /// The bytes that an area needs: 2B + 2P × (512 + 64K) + 512T + 512.
+    /// The bytes that an area needs: 2B + 2P × (512 + 96K) + 512T + 512.
     pub fn need(&self) -> usize {
         let [p, b, t, k] = self
             .numbers()
             .map(|limit| usize::try_from(limit).expect("a limit fits"));
-        2 * b + 2 * p * (512 + 64 * k) + 512 * t + 512
+        2 * b + 2 * p * (512 + 96 * k) + 512 * t + 512
     }
 }
 
@@ -214,6 +214,8 @@ pub struct Confirmation {
 pub struct Holder {
     pub inputs: Vec<Id>,
     pub outputs: Vec<Id>,
+    /// What it reads without spending it (document 02, P11).
+    pub reads: Vec<Id>,
     pub bytes: Vec<u8>,
 }
 
@@ -271,6 +273,16 @@ impl Record {
     /// The output ids; a tombstone has none.
     pub fn outputs(&self) -> &[Id] {
         self.holder.as_ref().map_or(&[], |holder| &holder.outputs)
+    }
+
+    /// The read ids; a tombstone has none.
+    pub fn reads(&self) -> &[Id] {
+        self.holder.as_ref().map_or(&[], |holder| &holder.reads)
+    }
+
+    /// The inputs, then the read ids: what has to be there.
+    pub fn asks_for(&self) -> impl Iterator<Item = &Id> {
+        self.inputs().iter().chain(self.reads())
     }
 
     /// The number of signed bytes; 0 for a tombstone.

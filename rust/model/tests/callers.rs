@@ -343,6 +343,7 @@ fn args(n: &[u8], caller: u8) -> AdmitArgs<'_> {
         caller,
         inputs: &[],
         outputs: &[],
+        reads: &[],
         signed: &[],
         now: 5,
         time_flag: 0,
@@ -388,13 +389,17 @@ fn admit_checks_the_caller() {
     }
 }
 
-/// The caller stands after the id, and the output needs a byte for it.
+/// The caller stands after the id, and the output needs a byte for it. The last two bytes are the read
+/// count.
 #[test]
 fn entries_show_the_caller() {
     let queue = admitted(&[(1, 15)]);
     let area = area::encode(&queue);
     let entry = calls::entry_bytes(&queue.records[0]);
-    assert_eq!(entry.len(), 32 + 1 + 2 + 8 + 2 + 4 + 1 + 20 + 1 + 2 + 32);
+    assert_eq!(
+        entry.len(),
+        32 + 1 + 2 + 8 + 2 + 4 + 1 + 20 + 1 + 2 + 32 + 2
+    );
     assert_eq!(entry[..34], [&[1; 32][..], &[15, 0]].concat());
     let mut out = vec![0; entry.len()];
     let short = entry.len() - 1;
@@ -469,7 +474,7 @@ fn an_older_image_opens_for_caller_0_alone() {
     for kind in [model::HeaderKind::K01, model::HeaderKind::K03] {
         let opened = image::decode(&image::encode_as(kind, &queue)).expect("an image");
         assert_eq!(opened, queue);
-        assert_eq!(image::encode(&opened)[..2], *b"04");
+        assert_eq!(image::encode(&opened)[..2], *b"05");
         assert_eq!(refusal(&opened, &given(2, 0)), None);
         for caller in 1..16 {
             assert_eq!(refusal(&opened, &given(2, caller)), Some(SHARE));

@@ -3,12 +3,15 @@
 use model::random::{self, Rng};
 use model::{area, image, sound, Caller, HeaderKind, Queue, State};
 
-/// Of caller 0 alone under all to caller 0, or with other shares and callers.
+/// Of caller 0 alone under all to caller 0, or with other shares and callers; with read ids or without.
 fn queue(rng: &mut Rng) -> Queue {
     let limits = random::small_limits(rng);
-    let queue = random::queue(rng, limits);
+    let mut queue = random::queue(rng, limits);
+    if rng.once_in(2) {
+        queue = random::with_callers(rng, queue);
+    }
     match rng.once_in(2) {
-        true => random::with_callers(rng, queue),
+        true => random::with_reads(rng, queue),
         false => queue,
     }
 }
@@ -42,56 +45,135 @@ fn with_kind(text: &[u8], kind: u8) -> Vec<u8> {
     [format!("{kind:02x}").as_bytes(), &text[2..]].concat()
 }
 
-/// A text without shares and callers is an image of kind 03, and of 01 where no mark is 3, and opens
-/// with every value unchanged and all to caller 0; one with them is an image of kind 04; no other kind
-/// is one.
+/// The queue with nothing in it that this kind has not: all of caller 0, or nothing read.
+fn bared(queue: &Queue, kind: HeaderKind) -> Queue {
+    let mut queue = queue.clone();
+    if !kind.has_callers() {
+        queue.limits.shares = [0; 16];
+        queue.limits.shares[0] = queue.limits.pending;
+    }
+    for record in &mut queue.records {
+        if !kind.has_callers() {
+            record.caller = Caller(0);
+        }
+        if let (false, Some(holder)) = (kind.has_reads(), &mut record.holder) {
+            holder.reads.clear();
+        }
+    }
+    queue
+}
+
+fn has_holders(queue: &Queue) -> bool {
+    queue.holders().next().is_some()
+}
+
+/// A text with shares, callers and read ids is an image of kind 05; one without read ids is of kind 04; one
+/// without shares and callers besides is of kind 03, and of 01 where no mark is 3. An older one opens
+/// with every value unchanged, without read ids and, before 04, all to caller 0. No other kind is one.
 #[test]
 fn images_of_every_kind() {
     let mut rng = Rng::new(4);
-    let (mut of_01, mut of_03, mut of_04) = (0, 0, 0);
-    for _ in 0..2_000 {
+    let (mut of_01, mut of_03, mut of_04, mut of_05) = (0, 0, 0, 0);
+    for _ in 0..4_000 {
         let queue = queue(&mut rng);
         let newest = image::encode(&queue);
-        assert_eq!(newest[..2], *b"04");
-        let older = image::encode_as(HeaderKind::K03, &queue);
-        let mut of_caller_0 = opened(&queue);
-        of_caller_0.limits.shares = [0; 16];
-        of_caller_0.limits.shares[0] = queue.limits.pending;
-        for record in &mut of_caller_0.records {
-            record.caller = Caller(0);
-        }
+        assert_eq!(newest[..2], *b"05");
+        let of_form = |form| (image::encode_as(form, &queue), opened(&bared(&queue, form)));
+        let [three, four] = [HeaderKind::K03, HeaderKind::K04].map(of_form);
         let has_mark_3 = (queue.records.iter()).any(|record| record.withdrawn as u8 == 3);
         for kind in 0..=255 {
-            let expected = (kind == 4).then(|| opened(&queue));
+            // Without a holder there is no read count to tell 04 from 05.
+            let alike = !has_holders(&queue) && [4, 5].contains(&kind);
+            let expected = (kind == 5 || alike).then(|| opened(&queue));
             let text = with_kind(&newest, kind);
             assert_eq!(image::decode(&text), expected, "kind {kind}");
+            let expected = (kind == 4 || alike).then(|| four.1.clone());
+            let text = with_kind(&four.0, kind);
+            assert_eq!(image::decode(&text), expected, "kind {kind}, without reads");
             let expected = match kind {
                 1 if has_mark_3 => None,
-                1 | 3 => Some(of_caller_0.clone()),
+                1 | 3 => Some(three.1.clone()),
                 _ => None,
             };
-            let text = with_kind(&older, kind);
+            let text = with_kind(&three.0, kind);
             assert_eq!(
                 image::decode(&text),
                 expected,
                 "kind {kind}, without shares"
             );
         }
-        let by_callers = of_caller_0 != opened(&queue);
-        assert_eq!(HeaderKind::K04.can_hold(&queue), true);
-        assert_eq!(HeaderKind::K03.can_hold(&queue), !by_callers);
-        let can_be_01 = !by_callers && !has_mark_3;
-        assert_eq!(HeaderKind::K01.can_hold(&queue), can_be_01);
+        let by_reads = four.1 != opened(&queue);
+        let by_callers = three.1 != four.1;
+        assert!(HeaderKind::K05.can_hold(&queue));
+        assert_eq!(HeaderKind::K04.can_hold(&queue), !by_reads);
+        let can_be_03 = !by_reads && !by_callers;
+        assert_eq!(HeaderKind::K03.can_hold(&queue), can_be_03);
+        assert_eq!(HeaderKind::K01.can_hold(&queue), can_be_03 && !has_mark_3);
         let text = image::encode_as(HeaderKind::K01, &queue);
-        assert_eq!(text, with_kind(&older, 1));
-        *(match (by_callers, has_mark_3) {
-            (true, _) => &mut of_04,
-            (false, true) => &mut of_03,
-            (false, false) => &mut of_01,
+        assert_eq!(text, with_kind(&three.0, 1));
+        *(match (by_reads, by_callers, has_mark_3) {
+            (true, _, _) => &mut of_05,
+            (false, true, _) => &mut of_04,
+            (false, false, true) => &mut of_03,
+            (false, false, false) => &mut of_01,
         }) += 1;
     }
-    let least = of_01.min(of_03).min(of_04);
-    assert!(least > 50, "{of_01}, {of_03}, {of_04}");
+    let least = of_01.min(of_03).min(of_04).min(of_05);
+    assert!(least > 50, "{of_01}, {of_03}, {of_04}, {of_05}");
+}
+
+/// Of a holder's read count every byte and of its read ids each one: what is sound is read back, and
+/// all else is refused.
+#[test]
+fn reads_of_every_holder() {
+    let mut rng = Rng::new(12);
+    let (mut sound, mut refused) = (0, 0);
+    for _ in 0..300 {
+        let queue = queue(&mut rng);
+        let (bytes, text) = (area::encode(&queue), image::encode(&queue));
+        for (n, record) in queue.records.iter().enumerate() {
+            let place = area::reads_place(&queue, n);
+            assert_eq!(place.is_some(), record.holder.is_some());
+            let Some(place) = place else {
+                assert_eq!(image::reads_place(&queue, n), None);
+                continue;
+            };
+            let digits = image::reads_place(&queue, n).expect("a holder");
+            let count = record.reads().len();
+            assert_eq!(bytes[place..place + 2], (count as u16).to_be_bytes());
+            let shown = format!("{count:04x}");
+            assert_eq!(text[digits..digits + 4], *shown.as_bytes());
+            for other in [0, 1, 2, 3, 4, 0x100, 0xffff] {
+                if other == count {
+                    continue;
+                }
+                let mut bytes = bytes.clone();
+                bytes[place..place + 2].copy_from_slice(&(other as u16).to_be_bytes());
+                match area::decode(&bytes) {
+                    Some(queue) => assert!(bytes.starts_with(&area::encode(&queue))),
+                    None => refused += 1,
+                }
+                let mut text = text.clone();
+                text[digits..digits + 4].copy_from_slice(format!("{other:04x}").as_bytes());
+                // A line is as long as its frame: another count leaves no other whole frame here.
+                let decoded = image::decode(&text);
+                assert!(decoded.is_none_or(|queue| image::encode(&queue) == text));
+            }
+            for at in 0..count {
+                let read = random::box_id(&mut rng, &queue.limits);
+                let mut other = queue.clone();
+                other.records[n].holder.as_mut().expect("a holder").reads[at] = read;
+                let expected = sound::is_sound(&other).then_some(other);
+                sound += usize::from(expected.is_some());
+                refused += usize::from(expected.is_none());
+                let mut bytes = bytes.clone();
+                let id = place + 2 + 32 * at;
+                bytes[id..id + 32].copy_from_slice(&read);
+                assert_eq!(area::decode(&bytes), expected);
+            }
+        }
+    }
+    assert!(sound > 100 && refused > 100, "{sound}, {refused}");
 }
 
 /// Of every record, tombstones too: 0 to 15, and no other byte.
@@ -175,7 +257,7 @@ fn areas_of_other_kinds_are_refused() {
         let mut bytes = area::encode(&queue);
         for kind in 0..=255 {
             bytes[4] = kind;
-            let expected = (kind == 4).then_some(&queue);
+            let expected = (kind == 5).then_some(&queue);
             assert_eq!(area::decode(&bytes).as_ref(), expected, "kind {kind}");
         }
     }
@@ -223,8 +305,8 @@ fn altered_queues_break_every_rule() {
         }
         *broken.entry(rule).or_insert(0) += 1;
     }
-    // Seventeen rules, and the altered queues that are sound.
-    assert_eq!(broken.len(), 18, "{broken:#?}");
+    // Eighteen rules, and the altered queues that are sound.
+    assert_eq!(broken.len(), 19, "{broken:#?}");
 }
 
 /// What is decoded is always the queue whose encoding was given.

@@ -3,7 +3,7 @@
 
 use std::collections::{BTreeMap, BTreeSet};
 
-use model::load::{self, Load};
+use model::load::{self, Load, Reads};
 use model::parents::parents_first;
 use model::random::{self, Rng};
 use model::{
@@ -36,6 +36,7 @@ fn record(n: u8, priority: i32, inputs: &[u8], outputs: &[u8]) -> Record {
         holder: Some(Holder {
             inputs: ids(inputs),
             outputs: ids(outputs),
+            reads: Vec::new(),
             bytes: Vec::new(),
         }),
     }
@@ -349,6 +350,7 @@ fn loads() {
                 bytes: 3,
                 ids,
                 links,
+                reads: Reads::None,
             };
             let queue = load::queue(&load);
             assert!(model::sound::is_sound(&queue));

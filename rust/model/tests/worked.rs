@@ -1,11 +1,12 @@
 //! The worked examples of docs/AREA.md and document 01, byte for byte.
 
+use model::rules::{admit, Admission};
 use model::{
     area, calls, image, Caller, FinishNumber, Height, Limits, Queue, Reason, Record, State, TimeMs,
     Withdrawn,
 };
 
-const HEADER: &str = "04 00000002 0000000a 00000001 00000001 \
+const HEADER: &str = "05 00000002 0000000a 00000001 00000001 \
     00000002 00000000 00000000 00000000 00000000 00000000 00000000 00000000 \
     00000000 00000000 00000000 00000000 00000000 00000000 00000000 00000000 \
     0000000000000000 00000000 00 0000000000000000 00000000";
@@ -16,12 +17,23 @@ const REST: &str =
 
 /// Caller 0 may have one pending, and so may caller 5, whose record it was.
 const CANCELLED: &str = "00000006 \
-    04 00000002 0000000a 00000001 00000001 \
+    05 00000002 0000000a 00000001 00000001 \
     00000001 00000000 00000000 00000000 00000000 00000001 00000000 00000000 \
     00000000 00000000 00000000 00000000 00000000 00000000 00000000 00000000 \
     0000000000000002 00000006 00 0000000000000001 00000001 \
     02 1111111111111111111111111111111111111111111111111111111111111111 05 04 01 0000000000000005 \
     00 00 ffffffff 00 0000000000000007 00000003 0000000000000009 00 00 0000000000000001 00";
+
+/// A queue with one record, of caller 0, that spends one id and reads another.
+const READING: &str = "00000001 \
+    05 00000002 0000000a 00000001 00000001 \
+    00000002 00000000 00000000 00000000 00000000 00000000 00000000 00000000 \
+    00000000 00000000 00000000 00000000 00000000 00000000 00000000 00000000 \
+    0000000000000001 00000001 00 0000000000000000 00000001 \
+    02 2222222222222222222222222222222222222222222222222222222222222222 00 00 00 0000000000000005 \
+    00 00 00000000 00 0000000000000001 00000002 0000000000000001 00 00 0000000000000000 \
+    01 0001 3333333333333333333333333333333333333333333333333333333333333333 0000 \
+    0001 4444444444444444444444444444444444444444444444444444444444444444 00000002 abcd";
 
 fn limits() -> Limits {
     Limits::checked(2, 10, 1, 1).unwrap()
@@ -48,15 +60,15 @@ fn area_of(text: &str) -> Vec<u8> {
 
 #[test]
 fn fresh_area() {
-    assert_eq!(limits().need(), 3_348);
+    assert_eq!(limits().need(), 3_476);
     let expected = area_of(&format!("00000000 {HEADER}"));
     assert_eq!(area::encode(&Queue::fresh(limits())), expected);
     assert_eq!(area::decode(&expected), Some(Queue::fresh(limits())));
-    let mut lent = vec![0xee; 3_350];
+    let mut lent = vec![0xee; 3_478];
     let shares = limits().share_bytes();
     assert_eq!(calls::fresh(2, 10, 1, 1, &shares, &mut lent), 100);
-    assert_eq!(lent[..3_348], expected);
-    assert_eq!(lent[3_348..], [0xee, 0xee]);
+    assert_eq!(lent[..3_476], expected);
+    assert_eq!(lent[3_476..], [0xee, 0xee]);
 }
 
 #[test]
@@ -92,12 +104,28 @@ fn cancelled_area() {
 }
 
 #[test]
+fn reading_area() {
+    let given = Admission {
+        inputs: vec![[0x33; 32]],
+        reads: vec![[0x44; 32]],
+        signed: vec![0xab, 0xcd],
+        ..Admission::plain([0x22; 32])
+    };
+    let queue = admit(&Queue::fresh(limits()), &given).unwrap().next;
+    let expected = area_of(READING);
+    assert_eq!(area::encode(&queue), expected);
+    assert_eq!(area::decode(&expected), Some(queue));
+}
+
+#[test]
 fn fresh_image() {
     let expected = format!("{}\n", without_blanks(HEADER));
     assert_eq!(expected.len(), 213);
     let fresh = Queue::fresh(limits());
     assert_eq!(image::encode(&fresh), expected.as_bytes());
     assert_eq!(image::decode(expected.as_bytes()), Some(fresh.clone()));
+    let of_04 = format!("04{}", &expected[2..]);
+    assert_eq!(image::decode(of_04.as_bytes()), Some(fresh.clone()));
     for kind in ["01", "03"] {
         let older = format!("{kind}{}\n", without_blanks(REST));
         assert_eq!(older.len(), 85);

@@ -8,8 +8,8 @@ use pokerbox::{
 
 fn main() -> Result<(), Box<dyn std::error::Error>> {
     let folder = std::env::temp_dir().join(format!("pokerbox-node-{}", std::process::id()));
-    // 16 pending, 65,536 signed bytes, 16 tombstones, 8 inputs or outputs each. As they stand they are
-    // all for caller 0; here two wallets share them, and neither fills the queue.
+    // 16 pending, 65,536 signed bytes, 16 tombstones, 8 inputs, outputs or read ids each. As they stand
+    // they are all for caller 0; here two wallets share them, and neither fills the queue.
     let mut shares = [0; Caller::COUNT];
     (shares[0], shares[1]) = (12, 12);
     let limits = Limits::new(16, 65_536, 16, 8)?.shared(Shares::new(shares))?;
@@ -21,6 +21,8 @@ fn main() -> Result<(), Box<dyn std::error::Error>> {
     let (inputs, outputs) = (vec![InputId([2; 32])], vec![OutputId([3; 32])]);
     let signed = b"signed bytes".to_vec();
     let transaction = Admission {
+        // What it reads without spending it: others may read it, too.
+        reads: vec![InputId([5; 32])],
         priority: 7,
         fee: 1_000_000,
         ..Admission::new(id, inputs, outputs, signed, TimeMs(1_000), Height(100))
@@ -37,6 +39,18 @@ fn main() -> Result<(), Box<dyn std::error::Error>> {
         Err(StoreError::Refused(Error::ShareExhausted)) => {
             println!("{} has no share", other.caller)
         }
+        other => println!("{other:?}"),
+    }
+
+    // While it is there, nobody spends what it reads: refusal 20.
+    let spending = Admission {
+        id: TxId([8; 32]),
+        caller: Caller::ZERO,
+        inputs: vec![InputId([5; 32])],
+        ..other
+    };
+    match store.admit(&spending) {
+        Err(StoreError::Refused(Error::ReadAndSpent)) => println!("it is read"),
         other => println!("{other:?}"),
     }
 

@@ -23,6 +23,8 @@ const USAGE: &str = "usage: unit DIR [--demo | --run ROUNDS]";
 /// Transactions that are put in at a time.
 const BATCH: u8 = 6;
 const BLOCK: BlockId = BlockId([0xbb; 32]);
+/// What every transaction of a batch reads.
+const READ: InputId = InputId([0xcc; 32]);
 
 fn main() -> ExitCode {
     let arguments: Vec<String> = std::env::args().skip(1).collect();
@@ -105,7 +107,8 @@ impl Unit {
         for id in self.queue().selection_entries()? {
             let (entry, signed) = (self.queue().entry(id)?, self.queue().signed_bytes(id)?);
             let (priority, length, caller) = (entry.priority, signed.len(), entry.caller);
-            println!("  {id}: {caller}, priority {priority}, {length} signed bytes");
+            let reads = entry.reads.len();
+            println!("  {id}: {caller}, priority {priority}, {length} signed bytes, reads {reads}");
         }
         Ok(())
     }
@@ -154,6 +157,23 @@ impl Unit {
         };
         match self.store.admit(&given) {
             Err(error @ StoreError::Refused(pokerbox::Error::ShareExhausted)) => {
+                println!("  {error}");
+                Ok(())
+            }
+            other => Err(format!("it was not refused: {other:?}").into()),
+        }
+    }
+
+    /// One that spends what the others read.
+    fn meets(&mut self) -> Result<(), Box<dyn Error>> {
+        println!("A transaction that spends what others read:");
+        let given = Admission {
+            inputs: vec![READ],
+            reads: vec![],
+            ..transaction(BATCH)
+        };
+        match self.store.admit(&given) {
+            Err(error @ StoreError::Refused(pokerbox::Error::ReadAndSpent)) => {
                 println!("  {error}");
                 Ok(())
             }
@@ -222,6 +242,7 @@ fn demo(folder: &str) -> Result<(), Box<dyn Error>> {
     unit.fill()?;
     unit.print_queued("Queued, best first:")?;
     unit.refused()?;
+    unit.meets()?;
     unit.withdraw()?;
     unit.block()?;
     unit.rollback()?;
@@ -270,6 +291,7 @@ fn transaction(n: u8) -> Admission {
     let signed = vec![n; 100 + usize::from(n)];
     Admission {
         caller: caller(n),
+        reads: vec![READ],
         time_deadline: Some(deadline(n)),
         priority: i32::from(n),
         label: Some(format!("transaction {n}").into_bytes()),
@@ -329,7 +351,10 @@ fn print_image(image: &[u8]) -> Result<(), Box<dyn Error>> {
 
 fn print_record(record: &model::Record) {
     let held = match &record.holder {
-        Some(holder) => format!("{} signed bytes", holder.bytes.len()),
+        Some(holder) => {
+            let (bytes, reads) = (holder.bytes.len(), holder.reads.len());
+            format!("{bytes} signed bytes, reads {reads}")
+        }
         None => format!("tombstone {}", record.finish.0),
     };
     let label = record.label.as_deref().map_or(String::new(), |label| {

@@ -11,15 +11,15 @@
  * written overlaps nothing else that is lent to the same call. Numbers in bytes are big-endian.
  *
  * Each call gives back one number:
- *   1 to 18, 21  a refusal; nothing lent has changed, except the next area after 17;
- *   100          the call was answered;
- *   100 to 103   a changing call's kind on top of 100.
+ *   1 to 18, 20, 21  a refusal; nothing lent has changed, except the next area after 17;
+ *   100              the call was answered;
+ *   100 to 103       a changing call's kind on top of 100.
  *
  * A flag is 0 or 1; what stands beside a flag of 0 is not looked at. An id has 32 bytes. A list of
  * ids is 32 bytes an id.
  *
  * Calls use no heap and no files. A thread that calls needs at least 1 MiB of stack; 160 KiB while
- * the queue holds at most 8,192 inputs. */
+ * the queue holds at most 8,192 inputs and read ids together. */
 
 #ifndef POKERBOX_H
 #define POKERBOX_H
@@ -50,6 +50,7 @@ extern "C" {
 #define POKERBOX_NOT_AN_IMAGE 16
 #define POKERBOX_WRITE_FAILED 17
 #define POKERBOX_SHARE_EXHAUSTED 18
+#define POKERBOX_READ_AND_SPENT 20
 #define POKERBOX_FEES_TOO_LARGE 21
 
 /* Answers: of calls without a kind, and of changing calls by kind. */
@@ -101,10 +102,10 @@ extern "C" {
 #define POKERBOX_MAX_CANDIDATES 20
 #define POKERBOX_MAX_BUDGET 2097151
 
-/* The bytes that an area needs under the limits P, B, T, K: 2B + 2P * (512 + 64K) + 512T + 512. As
+/* The bytes that an area needs under the limits P, B, T, K: 2B + 2P * (512 + 96K) + 512T + 512. As
  * pokerbox_need has it, for areas whose limits are known when the program is compiled. */
 #define POKERBOX_AREA_LEN(p, b, t, k) \
-    (2 * (uint64_t)(b) + 2 * (uint64_t)(p) * (512 + 64 * (uint64_t)(k)) + 512 * (uint64_t)(t) + 512)
+    (2 * (uint64_t)(b) + 2 * (uint64_t)(p) * (512 + 96 * (uint64_t)(k)) + 512 * (uint64_t)(t) + 512)
 
 /* No image is longer: two digits for each byte of an area, and a line end for each of at most
  * 2P + T + 1 frames. */
@@ -122,11 +123,13 @@ uint64_t pokerbox_sound(const uint8_t *area, size_t area_len);
 
 /* Admits a transaction. `out` gets its entry: the new one, or with kind 0 the old one of a pending or
  * Mined id, whoever asks. 18 where as many records of `caller`, 0 to 15, are pending as its share
- * allows. `priority` is in two's complement. */
+ * allows. `reads` has the ids that are only read, at most K; 20 where another record spends one of
+ * them, or reads an input. `priority` is in two's complement. */
 uint64_t pokerbox_admit(const uint8_t *cur, size_t cur_len, uint8_t *next, size_t next_len,
                         const uint8_t *id, size_t id_len, uint8_t caller, const uint8_t *inputs,
                         size_t inputs_len, const uint8_t *outputs, size_t outputs_len,
-                        const uint8_t *signed_bytes, size_t signed_len, uint64_t now, uint8_t time_flag, uint64_t time,
+                        const uint8_t *reads, size_t reads_len, const uint8_t *signed_bytes,
+                        size_t signed_len, uint64_t now, uint8_t time_flag, uint64_t time,
                         uint8_t height_flag, uint32_t height, uint32_t priority,
                         uint8_t label_flag, const uint8_t *label, size_t label_len, uint64_t fee,
                         uint64_t cost, uint32_t tip_height, uint8_t tip_flag, const uint8_t *tip,
@@ -142,8 +145,9 @@ uint64_t pokerbox_expire(const uint8_t *cur, size_t cur_len, uint8_t *next, size
                          uint64_t now, uint32_t height, uint8_t *out, size_t out_len);
 
 /* Reconciles with the chain at `height`. `applied` has entries of id 32, height 4 and block id 32,
- * strictly rising by id; `available` has ids, strictly rising. `out` gets a flag, whether anything
- * changed, a count of 4 bytes, and the ids released in the order in which they were finished. */
+ * strictly rising by id; `available` has ids of what can be spent and read, strictly rising. `out` gets
+ * a flag, whether anything changed, a count of 4 bytes, and the ids released in the order in which they
+ * were finished. */
 uint64_t pokerbox_reconcile(const uint8_t *cur, size_t cur_len, uint8_t *next, size_t next_len,
                             uint32_t height, const uint8_t *tip, size_t tip_len,
                             const uint8_t *applied, size_t applied_len, uint8_t caught_up,
@@ -201,8 +205,8 @@ uint64_t pokerbox_selection_entries_at(const uint8_t *area, size_t area_len, uin
                                        uint32_t height, uint8_t *out, size_t out_len);
 
 /* A count of 4 bytes and the ids of the records that pokerbox_selection_entries_at gives at `now` and
- * `height`, parents first. A record waits for every other one of them that has one of its inputs among
- * its outputs; the next one listed is always the first, in the order of pokerbox_selection_entries_at,
+ * `height`, parents first. A record waits for every other one of them that has one of its inputs or read
+ * ids among its outputs; the next one listed is always the first, in the order of pokerbox_selection_entries_at,
  * of those that wait for nothing unlisted. Those that still wait at the end are left off. */
 uint64_t pokerbox_selection_parents_first(const uint8_t *area, size_t area_len, uint64_t now,
                                           uint32_t height, uint8_t *out, size_t out_len);
@@ -239,7 +243,7 @@ uint64_t pokerbox_record_ids(const uint8_t *area, size_t area_len, uint8_t *out,
 /* A count of 4 bytes and the ids of the holders, rising. */
 uint64_t pokerbox_guarded_ids(const uint8_t *area, size_t area_len, uint8_t *out, size_t out_len);
 
-/* A count of 4 bytes and the input ids of all records, rising, each once. */
+/* A count of 4 bytes and the input ids of all records, rising, each once; not what is only read. */
 uint64_t pokerbox_reserved_inputs(const uint8_t *area, size_t area_len, uint8_t *out,
                                   size_t out_len);
 

@@ -33,12 +33,14 @@ pub struct Entry {
     pub mined: Option<(Height, BlockId)>,
     /// What it spends; none when its signed bytes were dropped.
     pub inputs: Vec<InputId>,
+    /// What it reads without spending it; none when its signed bytes were dropped.
+    pub reads: Vec<InputId>,
 }
 
 impl Entry {
-    /// No entry is longer: 122 bytes and what a label and K inputs take.
+    /// No entry is longer: 124 bytes and what a label, K inputs and K read ids take.
     pub(crate) fn max_len(limits: &Limits) -> usize {
-        122 + 200 + 32 * limits.inputs() as usize
+        124 + 200 + 64 * limits.inputs() as usize
     }
 }
 
@@ -236,12 +238,13 @@ impl<'a> Reader<'a> {
             size: self.u32(),
             cost: self.u64(),
             mined: self.optional(|reader| (reader.height(), reader.block_id())),
-            inputs: self.inputs(),
+            inputs: self.box_ids(),
+            reads: self.box_ids(),
         }
     }
 
-    /// Count 2, input ids.
-    fn inputs(&mut self) -> Vec<InputId> {
+    /// Count 2, ids of inputs or of what is read.
+    fn box_ids(&mut self) -> Vec<InputId> {
         let count = usize::from(u16::from_be_bytes(self.array()));
         self.many(count, Self::input_id)
     }

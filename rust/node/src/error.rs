@@ -2,8 +2,8 @@
 
 use std::fmt;
 
-/// A refusal: the numbers 1 to 17 of document 01, and 18 and 21 of document 02. Nothing lent has changed,
-/// except the next area after [`Error::WriteFailed`].
+/// A refusal: the numbers 1 to 17 of document 01, and 18, 20 and 21 of document 02. Nothing lent has
+/// changed, except the next area after [`Error::WriteFailed`].
 #[derive(Debug, Clone, Copy, PartialEq, Eq, PartialOrd, Ord, Hash)]
 pub enum Error {
     /// A limit is out of range, or a share is over P.
@@ -16,7 +16,7 @@ pub enum Error {
     OutputTooShort = 4,
     /// An argument is malformed.
     Malformed = 5,
-    /// More inputs or outputs than K.
+    /// More inputs, outputs or read ids than K.
     TooManyInputs = 6,
     /// The time deadline is not after now.
     TimeDeadlineElapsed = 7,
@@ -42,13 +42,15 @@ pub enum Error {
     WriteFailed = 17,
     /// As many records of this caller are pending as its share allows.
     ShareExhausted = 18,
+    /// An input is read by another record, or a read id is spent by another record.
+    ReadAndSpent = 20,
     /// The candidates' fees have no sum of 64 bits.
     FeesTooLarge = 21,
 }
 
 impl Error {
     /// All refusals, in the order of their numbers.
-    pub const ALL: [Error; 19] = [
+    pub const ALL: [Error; 20] = [
         Error::LimitOutOfRange,
         Error::AreaTooShort,
         Error::AreaNotSound,
@@ -67,6 +69,7 @@ impl Error {
         Error::NotAnImage,
         Error::WriteFailed,
         Error::ShareExhausted,
+        Error::ReadAndSpent,
         Error::FeesTooLarge,
     ];
 
@@ -104,7 +107,8 @@ impl Error {
                  correct it and call again"
             }
             Error::TooManyInputs => {
-                "the transaction has more inputs or outputs than the limit K: queue a smaller one"
+                "the transaction has more inputs, outputs or read ids than the limit K: queue a smaller \
+                 one"
             }
             Error::TimeDeadlineElapsed => {
                 "the time deadline is not after now: give a later one, or none"
@@ -145,6 +149,10 @@ impl Error {
             Error::ShareExhausted => {
                 "as many records of this caller are pending as its share allows, none with share 0: \
                  cancel one of its records, wait for a block, or start with another share"
+            }
+            Error::ReadAndSpent => {
+                "another record reads what this one spends, or spends what this one reads: cancel that \
+                 record, or wait until it is released after its block"
             }
             Error::FeesTooLarge => {
                 "the fees of the first 20 selected records sum to more than \

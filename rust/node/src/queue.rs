@@ -106,6 +106,12 @@ impl<T> Change<'_, T> {
 ///     ..Admission::new(id, inputs, outputs, signed, TimeMs(1_000), Height(100))
 /// };
 /// assert_eq!(admission.time_deadline, None);
+/// // The same one, reading a box besides.
+/// let reading = Admission {
+///     reads: vec![InputId([4; 32])],
+///     ..admission
+/// };
+/// assert_eq!(reading.inputs, [InputId([2; 32])]);
 /// ```
 #[derive(Debug, Clone, PartialEq, Eq)]
 pub struct Admission {
@@ -117,6 +123,8 @@ pub struct Admission {
     pub inputs: Vec<InputId>,
     /// What it makes.
     pub outputs: Vec<OutputId>,
+    /// What it reads without spending it: no other record may spend it, and others may read it too.
+    pub reads: Vec<InputId>,
     /// The transaction as it goes into a block.
     pub signed: Vec<u8>,
     /// The time of the admission.
@@ -140,7 +148,7 @@ pub struct Admission {
 }
 
 impl Admission {
-    /// By caller 0, without deadlines, label and tip, with priority, fee and cost 0.
+    /// By caller 0, without read ids, deadlines, label and tip, with priority, fee and cost 0.
     pub fn new(
         id: TxId,
         inputs: Vec<InputId>,
@@ -154,6 +162,7 @@ impl Admission {
             caller: Caller::ZERO,
             inputs,
             outputs,
+            reads: Vec::new(),
             signed,
             now,
             time_deadline: None,
@@ -182,7 +191,7 @@ pub struct Reconciliation {
     pub applied: Applied,
     /// Whether the scan has caught up with the tip, so that pending records are classified.
     pub caught_up: bool,
-    /// The boxes that can be spent; looked at when the scan has caught up.
+    /// The boxes that are there, to be spent or read; looked at when the scan has caught up.
     pub available: BTreeSet<InputId>,
     /// Confirmations this deep release their signed bytes.
     pub window: u32,
@@ -293,11 +302,13 @@ impl Queue {
     pub fn admit(&mut self, given: &Admission) -> Result<Change<'_, Entry>, Error> {
         let inputs = joined(given.inputs.iter().map(|id| id.0));
         let outputs = joined(given.outputs.iter().map(|id| id.0));
+        let reads = joined(given.reads.iter().map(|id| id.0));
         let args = raw::AdmitArgs {
             id: &given.id.0,
             caller: given.caller.number(),
             inputs: &inputs,
             outputs: &outputs,
+            reads: &reads,
             signed: &given.signed,
             now: given.now.0,
             time_flag: u8::from(given.time_deadline.is_some()),
@@ -430,9 +441,9 @@ impl Queue {
     /// The records that [`Queue::selection_entries_at`] gives at this moment, parents first: a template
     /// may list them in this order.
     ///
-    /// A record waits for every other one of them that has one of its inputs among its outputs. The
-    /// next one listed is always the first, in the order of `selection_entries_at`, of those that wait
-    /// for nothing unlisted. Records that wait for each other, and all that wait for them, are left
+    /// A record waits for every other one of them that has one of its inputs or read ids among its
+    /// outputs. The next one listed is always the first, in the order of `selection_entries_at`, of
+    /// those that wait for nothing unlisted. Records that wait for each other, and all that wait for them, are left
     /// off; no list that has each record after all that it waits for has more.
     ///
     /// ```
@@ -565,7 +576,7 @@ impl Queue {
         )
     }
 
-    /// The inputs of all records, rising, each once.
+    /// The inputs of all records, rising, each once. What is only read is not among them.
     #[cfg(exported = "reserved_inputs")]
     pub fn reserved_inputs(&self) -> Result<Vec<InputId>, Error> {
         self.read(

@@ -19,6 +19,8 @@ pub struct AdmitArgs<'a> {
     pub inputs: &'a [u8],
     /// Output ids, 32 bytes each.
     pub outputs: &'a [u8],
+    /// Ids that are only read, 32 bytes each.
+    pub reads: &'a [u8],
     /// The signed bytes.
     pub signed: &'a [u8],
     /// The time of the admission.
@@ -60,7 +62,7 @@ pub struct ReconcileArgs<'a> {
     pub applied: &'a [u8],
     /// Whether the scan has caught up.
     pub caught_up: u8,
-    /// Ids, strictly rising.
+    /// Ids of what can be spent and read, strictly rising.
     pub available: &'a [u8],
     /// Confirmations this deep are released.
     pub window: u32,

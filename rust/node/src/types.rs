@@ -68,7 +68,7 @@ macro_rules! ids {
 ids! {
     /// The id of a transaction, and so of its record.
     TxId;
-    /// The id of a box that a transaction spends.
+    /// The id of a box that a transaction spends, or reads without spending it.
     InputId;
     /// The id of a box that a transaction makes.
     OutputId;
@@ -76,7 +76,7 @@ ids! {
     BlockId;
 }
 
-/// The input that spends this output has the same id.
+/// The input that spends this output has the same id, and so has who reads it.
 impl From<OutputId> for InputId {
     fn from(output: OutputId) -> InputId {
         InputId(output.0)
@@ -216,8 +216,8 @@ impl Limits {
         shares: Shares::all_to_caller_0(Self::MAX_PENDING),
     };
 
-    /// P pending records, B signed bytes, T tombstones, K inputs and likewise outputs in a
-    /// transaction; all to caller 0.
+    /// P pending records, B signed bytes, T tombstones, K inputs and likewise outputs and read ids in
+    /// a transaction; all to caller 0.
     pub fn new(pending: u32, bytes: u32, tombstones: u32, inputs: u32) -> Result<Limits, Error> {
         let limits = Limits {
             pending,
@@ -308,7 +308,7 @@ impl Limits {
         self.shares
     }
 
-    /// The bytes that an area needs: 2B + 2P × (512 + 64K) + 512T + 512.
+    /// The bytes that an area needs: 2B + 2P × (512 + 96K) + 512T + 512.
     pub fn area_len(&self) -> usize {
         self.need().expect("limits in range")
     }
@@ -344,7 +344,7 @@ pub enum State {
     Queued = 0,
     /// Found in a block.
     Mined = 2,
-    /// Waits, but an input is not available.
+    /// Waits, but what it spends or reads is not available.
     Conflicted = 3,
     /// Withdrawn by a cancellation.
     Cancelled = 4,
@@ -393,7 +393,7 @@ pub enum Reason {
     RolledBackAfterRelease = 3,
     /// Its block was rolled back.
     RolledBack = 4,
-    /// An input is not available.
+    /// What it spends or reads is not available.
     InputsUnavailable = 5,
 }
 

@@ -8,10 +8,10 @@
 mod common;
 mod every;
 
-use common::{area_to_write, lent_caller, lent_id, many, sound_queue, Met};
+use common::{area_to_write, lent_caller, lent_id, many, sometimes_cut, sound_queue, Met};
 use every::Args;
 use model::random::{self, Rng};
-use model::{area, calls, image, Caller, HeaderKind, Queue, State};
+use model::{area, calls, image, Caller, HeaderKind, Holder, Id, Queue, Record, State};
 use pokerbox::raw;
 
 fn cases() -> u64 {
@@ -34,7 +34,7 @@ fn damaged_area(rng: &mut Rng) -> Vec<u8> {
     let good = area::encode(&queue);
     let used = used_length(&good);
     let mut bytes = good;
-    match rng.below(14) {
+    match rng.below(16) {
         0 => bytes = noise(rng),
         1 => bytes = area::encode(&random::altered(rng, &queue)),
         2 => {
@@ -64,6 +64,12 @@ fn damaged_area(rng: &mut Rng) -> Vec<u8> {
             let place = area::share_place(random_caller(rng)) + rng.below(4);
             bytes[place] = share_byte(rng, &queue);
         }
+        12 | 13 => {
+            if let Some((n, at, put)) = other_reads(rng, &queue) {
+                let place = area::reads_place(&queue, n).expect("a holder") + at;
+                bytes[place..place + put.len()].copy_from_slice(&put);
+            }
+        }
         _ => {
             for _ in 0..1 + rng.below(3) {
                 random::damage(rng, &mut bytes, used);
@@ -77,7 +83,7 @@ fn damaged_area(rng: &mut Rng) -> Vec<u8> {
 
 /// A header's kind, or another number.
 fn kind(rng: &mut Rng) -> u8 {
-    rng.pick(&[0, 1, 1, 2, 3, 3, 4, 5, 0x14, 0xff])
+    rng.pick(&[0, 1, 1, 2, 3, 3, 4, 4, 5, 5, 6, 0x15, 0xff])
 }
 
 /// A caller, or another number.
@@ -93,6 +99,34 @@ fn random_caller(rng: &mut Rng) -> Caller {
 fn share_byte(rng: &mut Rng, queue: &Queue) -> u8 {
     let p = queue.limits.pending as u8;
     rng.pick(&[0, 1, p, p, p + 1, p + 1, 0xff])
+}
+
+/// Other bytes for the read count of a holder or for one of its read ids: which record's, where from the
+/// count on, and the bytes. Nothing where the queue has no holder.
+fn other_reads(rng: &mut Rng, queue: &Queue) -> Option<(usize, usize, Vec<u8>)> {
+    let holders: Vec<usize> = (0..queue.records.len())
+        .filter(|n| queue.records[*n].holder.is_some())
+        .collect();
+    if holders.is_empty() {
+        return None;
+    }
+    let n = rng.pick(&holders);
+    let count = queue.records[n].reads().len();
+    Some(match rng.below(3) {
+        0 => {
+            let k = queue.limits.inputs as u16;
+            let other = rng.pick(&[0, 1, 2, 3, k, k + 1, 0x100, 0x7fff, 0xffff]);
+            (n, 0, other.to_be_bytes().to_vec())
+        }
+        1 if count > 0 => {
+            let at = 2 + 32 * rng.below(count);
+            (n, at, random::box_id(rng, &queue.limits).to_vec())
+        }
+        _ => {
+            let at = rng.below(2 + 32 * count);
+            (n, at, vec![rng.pick(&[0, 1, 2, 0x7f, 0x80, 0xfe, 0xff])])
+        }
+    })
 }
 
 /// A withdrawn mark, or another number.
@@ -152,6 +186,15 @@ fn put_extreme(rng: &mut Rng, bytes: &mut [u8], used: usize) {
     }
 }
 
+/// Rarely over K, or not whole.
+fn lent_reads(rng: &mut Rng, queue: &Queue) -> Vec<u8> {
+    let mut reads = random::box_ids(rng, &queue.limits);
+    if rng.once_in(10) {
+        reads.push(random::box_id(rng, &queue.limits));
+    }
+    sometimes_cut(rng, reads.concat())
+}
+
 fn args(rng: &mut Rng, queue: &Queue) -> Args {
     let mut ids: Vec<_> = (0..rng.below(5))
         .map(|_| random::tx_id(rng, &queue.limits))
@@ -163,6 +206,7 @@ fn args(rng: &mut Rng, queue: &Queue) -> Args {
         id: lent_id(rng, queue),
         caller: lent_caller(rng),
         ids: ids.concat(),
+        reads: lent_reads(rng, queue),
         now: now.0,
         height: height.0,
         kind: rng.pick(&[2, 3, 0, u64::MAX]),
@@ -244,7 +288,7 @@ fn damaged_image(rng: &mut Rng) -> Vec<u8> {
     let kind_of = rng.pick(&HeaderKind::ALL);
     let mut text = image::encode_as(kind_of, &queue);
     let length = text.len();
-    match rng.below(16) {
+    match rng.below(18) {
         0 => text = noise(rng),
         1 => text = image::encode(&random::altered(rng, &queue)),
         2 => {
@@ -274,6 +318,15 @@ fn damaged_image(rng: &mut Rng) -> Vec<u8> {
             text = image::encode(&queue);
             let place = image::share_place(random_caller(rng)) + 2 * rng.below(4);
             put_byte(&mut text, place, share_byte(rng, &queue));
+        }
+        14 | 15 => {
+            text = image::encode(&queue);
+            if let Some((n, at, put)) = other_reads(rng, &queue) {
+                let place = image::reads_place(&queue, n).expect("a holder") + 2 * at;
+                for (at, byte) in put.into_iter().enumerate() {
+                    put_byte(&mut text, place + 2 * at, byte);
+                }
+            }
         }
         _ => {
             for _ in 0..1 + rng.below(3) {
@@ -345,7 +398,8 @@ fn limits_of_images() {
 }
 
 /// Every kind byte and every mark byte of areas and images, by document 02's words and not by the
-/// model. A text of kind 01 or 03 has no shares and no callers, one of 04 has both.
+/// model. A text of kind 01 or 03 has no shares and no callers, one of 04 has both and no read ids, one
+/// of 05 has all.
 #[test]
 #[cfg(all(exported = "open", exported = "sound"))]
 fn kinds_and_marks() {
@@ -354,13 +408,21 @@ fn kinds_and_marks() {
         let queue = sound_queue(rng);
         let (bytes, text) = (area::encode(&queue), image::encode(&queue));
         let older = image::encode_as(HeaderKind::K03, &queue);
+        let four = image::encode_as(HeaderKind::K04, &queue);
+        // Without a holder there is no read count to tell 04 from 05.
+        let alike = queue.holders().next().is_none();
         let has_mark_3 = (queue.records.iter()).any(|record| record.withdrawn as u8 == 3);
         for kind in 0..=255 {
             let (mut bytes, mut text, mut older) = (bytes.clone(), text.clone(), older.clone());
             bytes[4] = kind;
-            assert_eq!(raw::sound(&bytes).is_ok(), kind == 4, "area of kind {kind}");
+            assert_eq!(raw::sound(&bytes).is_ok(), kind == 5, "area of kind {kind}");
             put_byte(&mut text, 0, kind);
-            assert_eq!(opens(&text, &queue), kind == 4, "image of kind {kind}");
+            let taken = kind == 5 || (kind == 4 && alike);
+            assert_eq!(opens(&text, &queue), taken, "image of kind {kind}");
+            let mut four = four.clone();
+            put_byte(&mut four, 0, kind);
+            let taken = kind == 4 || (kind == 5 && alike);
+            assert_eq!(opens(&four, &queue), taken, "image of 04 as {kind}");
             put_byte(&mut older, 0, kind);
             let taken = kind == 3 || (kind == 1 && !has_mark_3);
             assert_eq!(opens(&older, &queue), taken, "older image of kind {kind}");
@@ -375,9 +437,9 @@ fn kinds_and_marks() {
                 bytes[area::mark_place(&queue, n)] = mark;
                 assert_eq!(raw::sound(&bytes).is_ok(), right, "mark {mark}");
                 met.count(u64::from(right));
-                let place = image::mark_place(HeaderKind::K04, &queue, n);
+                let place = image::mark_place(HeaderKind::K05, &queue, n);
                 put_byte(&mut text, place, mark);
-                assert_eq!(opens(&text, &queue), right, "mark {mark} under 04");
+                assert_eq!(opens(&text, &queue), right, "mark {mark} under 05");
                 put_byte(
                     &mut older,
                     image::mark_place(HeaderKind::K03, &queue, n),
@@ -428,6 +490,73 @@ fn callers_and_shares() {
             let (place, digits) = (area::share_place(caller), image::share_place(caller));
             for share in [0, p - 1, p, p + 1, 0x100, 0x1_0000, 0x100_0000, u32::MAX] {
                 check(place, digits, &share.to_be_bytes(), share <= p);
+            }
+        }
+    });
+    expect(&met, &[0, 1]);
+}
+
+/// Read ids and inputs that meet, and over K of them, by document 02's words and not by the model; and
+/// other read counts.
+#[test]
+#[cfg(all(exported = "open", exported = "sound"))]
+fn read_ids() {
+    let mut met = Met::default();
+    many(cases() / 8, |rng| {
+        let queue = sound_queue(rng);
+        let (bytes, text) = (area::encode(&queue), image::encode(&queue));
+        let mut check = |other: &Queue, right: bool| {
+            assert_eq!(raw::sound(&area::encode(other)).is_ok(), right);
+            assert_eq!(opens(&image::encode(other), &queue), right);
+            met.count(u64::from(right));
+        };
+        for (n, record) in queue.records.iter().enumerate() {
+            let Some(old) = &record.holder else {
+                continue;
+            };
+            let with = |holder: Holder| {
+                let mut queue = queue.clone();
+                queue.records[n].holder = Some(holder);
+                queue
+            };
+            let others = || queue.records.iter().filter(|other| other.id != record.id);
+            let spent: Vec<Id> = others().flat_map(Record::inputs).copied().collect();
+            let read: Vec<Id> = others().flat_map(Record::reads).copied().collect();
+            let own = record.asks_for().chain(record.outputs()).copied();
+            let some: Vec<Id> = spent.iter().chain(&read).copied().chain(own).collect();
+            for id in some {
+                for at in 0..old.reads.len() {
+                    let mut holder = old.clone();
+                    holder.reads[at] = id;
+                    check(&with(holder), !spent.contains(&id));
+                }
+                for at in 0..old.inputs.len() {
+                    let mut holder = old.clone();
+                    holder.inputs[at] = id;
+                    check(&with(holder), !spent.contains(&id) && !read.contains(&id));
+                }
+            }
+            let k = queue.limits.inputs as usize;
+            for count in [k, k + 1] {
+                let mut holder = old.clone();
+                // One that no other record spends.
+                let free = [0xfb; 32];
+                holder.reads = vec![free; count];
+                check(&with(holder), count == k);
+            }
+            let place = area::reads_place(&queue, n).expect("a holder");
+            let digits = image::reads_place(&queue, n).expect("a holder");
+            for count in [0, 1, 2, 3, 4, 0x80, 0x100, 0x8000, 0xffff_u16] {
+                let (mut bytes, mut text) = (bytes.clone(), text.clone());
+                for (at, byte) in count.to_be_bytes().into_iter().enumerate() {
+                    bytes[place + at] = byte;
+                    put_byte(&mut text, digits + 2 * at, byte);
+                }
+                // In an area zeros may follow, which are an id and a byte count, too.
+                let right = area::decode(&bytes).is_some();
+                assert_eq!(raw::sound(&bytes).is_ok(), right, "count {count}");
+                let right = usize::from(count) == old.reads.len();
+                assert_eq!(opens(&text, &queue), right, "count {count}");
             }
         }
     });

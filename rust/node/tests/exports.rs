@@ -6,14 +6,16 @@
 
 mod common;
 
+use std::collections::BTreeSet;
+
 use common::{
     area_to_write, counters, lent_caller, lent_flag, lent_id, lent_queue, lent_shares, many,
     output, same, same_change, same_image_limits, same_reading, same_values, sometimes_cut,
     sound_queue, Met,
 };
-use model::load::{self, Ids, Links, Load};
+use model::load::{self, Ids, Links, Load, Reads};
 use model::random::{self, Rng};
-use model::{area, calls, image, HeaderKind, Height, Id, Limits, Queue, TimeMs};
+use model::{area, calls, image, HeaderKind, Height, Id, Limits, Queue, Record, TimeMs};
 use pokerbox::raw;
 
 const CASES: u64 = 6_000;
@@ -207,7 +209,65 @@ fn admit() {
             |cur, next, out| calls::admit(cur, next, &model_args, out),
         );
     });
-    met.expect(&[2, 3, 4, 5, 6, 7, 8, 9, 10, 11, 12, 18, 100, 102]);
+    met.expect(&[2, 3, 4, 5, 6, 7, 8, 9, 10, 11, 12, 18, 20, 100, 102]);
+}
+
+/// Inputs and read ids that records spend or read, with nothing else to refuse.
+#[test]
+#[cfg(exported = "admit")]
+fn admit_what_is_read_or_spent() {
+    let mut met = Met::default();
+    many(2 * CASES, |rng| {
+        let mut queue = sound_queue(rng);
+        queue.limits.shares = [queue.limits.pending; 16];
+        let lent = (queue.clone(), area::encode(&queue));
+        let mut given = Given::new(rng, &queue);
+        (given.flags, given.caller) = ([0, 0, 0, 0], 0);
+        given.id = random::tx_id(rng, &queue.limits).to_vec();
+        given.signed.clear();
+        given.outputs.clear();
+        let (spent, read) = (
+            of_all(&queue, Record::inputs),
+            of_all(&queue, Record::reads),
+        );
+        let from = |rng: &mut Rng, ids: &[Id]| match ids.is_empty() {
+            true => random::box_id(rng, &queue.limits),
+            false => rng.pick(ids),
+        };
+        let some = |rng: &mut Rng, often: &[Id]| -> Vec<Id> {
+            let count = rng.up_to(queue.limits.inputs as usize);
+            let one = |rng: &mut Rng| match rng.below(3) {
+                0 => from(rng, often),
+                _ => random::box_id(rng, &queue.limits),
+            };
+            (0..count).map(|_| one(rng)).collect()
+        };
+        let mut inputs = some(rng, &read);
+        if rng.once_in(2) {
+            inputs.retain(|id| !spent.contains(id));
+        }
+        let mut reads = some(rng, &read);
+        match rng.below(3) {
+            0 => reads = some(rng, &spent),
+            1 => reads.extend(inputs.first()),
+            _ => {}
+        }
+        (given.inputs, given.reads) = (inputs.concat(), reads.concat());
+        let (args, model_args) = (given.raw(), given.model());
+        same_change(
+            &mut met,
+            rng,
+            &lent,
+            |cur, next, out| raw::admit(cur, next, &args, out),
+            |cur, next, out| calls::admit(cur, next, &model_args, out),
+        );
+    });
+    met.expect(&[2, 4, 6, 10, 11, 12, 20, 100, 102]);
+}
+
+/// The ids that all records have.
+fn of_all(queue: &Queue, ids: fn(&Record) -> &[Id]) -> Vec<Id> {
+    queue.records.iter().flat_map(ids).copied().collect()
 }
 
 /// Every caller byte, into a queue where each caller has a share of its own and some pending.
@@ -215,12 +275,17 @@ fn admit() {
 #[cfg(exported = "admit")]
 fn admit_by_every_caller() {
     let mut met = Met::default();
-    many(CASES / 40, |rng| {
+    many(CASES, |rng| {
         let queue = sound_queue(rng);
         let lent = (queue.clone(), area::encode(&queue));
         let mut given = Given::new(rng, &queue);
         given.flags = [0, 0, 0, 0];
-        for caller in 0..=255 {
+        for list in [&mut given.inputs, &mut given.outputs, &mut given.reads] {
+            list.truncate(list.len() / 32 * 32);
+        }
+        // All of them with some of the queues.
+        let last = if rng.once_in(40) { 255 } else { 16 };
+        for caller in 0..=last {
             given.caller = caller;
             let (args, model_args) = (given.raw(), given.model());
             same_change(
@@ -232,7 +297,7 @@ fn admit_by_every_caller() {
             );
         }
     });
-    met.expect(&[2, 4, 5, 6, 10, 11, 12, 18, 100, 102]);
+    met.expect(&[2, 4, 5, 6, 10, 11, 12, 18, 20, 100, 102]);
 }
 
 /// The arguments of an admission.
@@ -241,6 +306,7 @@ struct Given {
     caller: u8,
     inputs: Vec<u8>,
     outputs: Vec<u8>,
+    reads: Vec<u8>,
     signed: Vec<u8>,
     label: Vec<u8>,
     tip: Vec<u8>,
@@ -259,6 +325,7 @@ impl Given {
             caller: lent_caller(rng),
             inputs: Self::list(rng, &queue.limits),
             outputs: Self::list(rng, &queue.limits),
+            reads: Self::list(rng, &queue.limits),
             signed: rng.bytes(signed),
             label: rng.bytes(label),
             tip: sometimes_cut(rng, tip),
@@ -296,6 +363,7 @@ impl Given {
             caller: self.caller,
             inputs: &self.inputs,
             outputs: &self.outputs,
+            reads: &self.reads,
             signed: &self.signed,
             now: self.numbers[0],
             time_flag: self.flags[0],
@@ -320,6 +388,7 @@ impl Given {
             caller: args.caller,
             inputs: args.inputs,
             outputs: args.outputs,
+            reads: args.reads,
             signed: args.signed,
             now: args.now,
             time_flag: args.time_flag,
@@ -350,6 +419,17 @@ fn id_list(rng: &mut Rng, limits: &Limits) -> Vec<[u8; 32]> {
     ids
 }
 
+/// Most of what the records spend and read, rising.
+fn asked_for(rng: &mut Rng, queue: &Queue) -> Vec<Id> {
+    let all: BTreeSet<Id> = queue
+        .records
+        .iter()
+        .flat_map(Record::asks_for)
+        .copied()
+        .collect();
+    all.into_iter().filter(|_| !rng.once_in(6)).collect()
+}
+
 #[test]
 #[cfg(exported = "reconcile")]
 fn reconcile() {
@@ -368,8 +448,11 @@ fn reconcile() {
                 .collect(),
         };
         let applied = sometimes_cut(rng, applied);
-        let available = id_list(rng, &limits).concat();
-        let available = sometimes_cut(rng, available);
+        let available = match rng.once_in(2) {
+            true => id_list(rng, &limits),
+            false => asked_for(rng, &lent.0),
+        };
+        let available = sometimes_cut(rng, available.concat());
         let tip = random::block_id(rng).to_vec();
         let tip = sometimes_cut(rng, tip);
         let (height, caught_up) = (random::height(rng).0, lent_flag(rng));
@@ -661,7 +744,8 @@ fn same_parents_first(met: &mut Met, rng: &mut Rng, queue: &Queue, large: bool) 
     }
 }
 
-/// Chains, rings, outputs that two records name, parents that are not selected.
+/// Chains, rings, outputs that two records name, parents that are not selected; inputs that are only
+/// read, and others that are read besides.
 #[test]
 #[cfg(exported = "selection_parents_first")]
 fn parents_first_of_many() {
@@ -669,7 +753,12 @@ fn parents_first_of_many() {
         let mut met = Met::default();
         many(400, |rng| {
             let inputs = 1 + rng.below(4);
-            let queue = random::parents_queue(rng, count, inputs);
+            let mut queue = random::parents_queue(rng, count, inputs);
+            match rng.below(3) {
+                0 => queue = random::inputs_read(rng, queue),
+                1 => queue = random::with_reads(rng, queue),
+                _ => {}
+            }
             same_parents_first(&mut met, rng, &queue, false);
             // The judge of large ones.
             let moment = (random::time(rng), random::height(rng));
@@ -702,6 +791,8 @@ fn parents_first_of_large_queues() {
         many(4, |rng| {
             let queue = random::parents_queue(rng, count, inputs);
             same_parents_first(&mut met, rng, &queue, true);
+            let read = random::inputs_read(rng, queue);
+            same_parents_first(&mut met, rng, &read, true);
         });
     }
     met.expect(&[4, 100]);
@@ -737,6 +828,7 @@ fn parents_first_of_loads() {
                 bytes: 1,
                 ids,
                 links,
+                reads: Reads::None,
             };
             let (queue, listed) = (load::queue(&load), load::parents_first(&load));
             let moment = (TimeMs(0), Height(0));
@@ -772,6 +864,7 @@ fn parents_first_of_full_units() {
             bytes: 100,
             ids,
             links,
+            reads: Reads::None,
         };
         let lent = area::encode(&load::queue(&load));
         let answer = calls::ids_bytes(&load::parents_first(&load));
@@ -779,6 +872,113 @@ fn parents_first_of_full_units() {
         let given = raw::selection_parents_first(&lent, 0, 0, &mut out);
         assert_eq!(given, Ok(()), "{ids:?}, {links:?}");
         assert!(out == answer, "{ids:?}, {links:?}");
+    }
+}
+
+/// Parents first where records read the same ids, which are nobody's outputs or everybody's.
+#[test]
+#[cfg(exported = "selection_parents_first")]
+fn parents_first_of_shared_read_ids() {
+    for (ids, queued, reads) in [
+        (Ids::Random, 2_048, Reads::Same),
+        (Ids::Random, 1_000, Reads::Made),
+        (Ids::Repeated, 1_000, Reads::Made),
+        (Ids::Sum, 300, Reads::Made),
+        (Ids::Random, 1, Reads::Made),
+    ] {
+        let load = Load {
+            limits: [1_024, 16_777_216, 1_024, 32],
+            queued,
+            mined: 0,
+            tombstones: 0,
+            boxes: 32,
+            bytes: 1,
+            ids,
+            links: Links::Apart,
+            reads,
+        };
+        let lent = area::encode(&load::queue(&load));
+        let answer = calls::ids_bytes(&load::parents_first(&load));
+        let mut out = vec![0xee; answer.len()];
+        let given = raw::selection_parents_first(&lent, 0, 0, &mut out);
+        assert_eq!(given, Ok(()), "{load:?}");
+        assert!(out == answer, "{load:?}");
+    }
+}
+
+/// Read ids at the top limits: each record its own, or all the same.
+#[test]
+#[cfg(all(exported = "sound", exported = "reconcile", exported = "open"))]
+fn read_ids_of_full_units() {
+    for (ids, reads) in [
+        (Ids::Random, Reads::Apart),
+        (Ids::Random, Reads::Same),
+        (Ids::Ends, Reads::Apart),
+        (Ids::Filter, Reads::Same),
+        (Ids::Repeated, Reads::Apart),
+    ] {
+        let load = Load {
+            limits: [1_024, 16_777_216, 1_024, 128],
+            queued: 1_024,
+            mined: 1_024,
+            tombstones: 1_024,
+            boxes: 128,
+            bytes: 100,
+            ids,
+            links: Links::Apart,
+            reads,
+        };
+        let queue = load::queue(&load);
+        let lent = area::encode(&queue);
+        assert_eq!(raw::sound(&lent), Ok(()), "{ids:?}, {reads:?}");
+        let mut opened = vec![0; lent.len()];
+        assert_eq!(raw::open(&image::encode(&queue), &mut opened), Ok(()));
+        assert!(opened == lent, "{ids:?}, {reads:?}");
+        // The last record reads what the first one spends.
+        let mut meets = queue.clone();
+        let spent = meets.holders().next().expect("a holder").inputs()[127];
+        let last = meets.records.iter_mut().rfind(|one| one.holder.is_some());
+        last.and_then(|one| one.holder.as_mut())
+            .expect("a holder")
+            .reads[127] = spent;
+        assert!(!model::sound::is_sound(&meets));
+        let meets = raw::sound(&area::encode(&meets));
+        assert_eq!(
+            meets,
+            Err(pokerbox::Error::AreaNotSound),
+            "{ids:?}, {reads:?}"
+        );
+        // All inputs are available, and of the read ids all but the last one's last.
+        let mut available: BTreeSet<Id> = BTreeSet::new();
+        available.extend(queue.records.iter().flat_map(Record::asks_for));
+        let last = queue.pending().last().expect("a pending record");
+        available.remove(&last.reads()[127]);
+        let available = Vec::from_iter(available).concat();
+        let (tip, mut out) = ([7; 32], vec![0; 4 + 32 * 2_048 + 1]);
+        let args = raw::ReconcileArgs {
+            height: 100,
+            tip: &tip,
+            applied: &[],
+            caught_up: 1,
+            available: &available,
+            window: 10,
+        };
+        let model_args = calls::ReconcileArgs {
+            height: 100,
+            tip: &tip,
+            applied: &[],
+            caught_up: 1,
+            available: &available,
+            window: 10,
+        };
+        let (mut next, mut right) = (lent.clone(), lent.clone());
+        let given = raw::reconcile(&lent, &mut next, &args, &mut out);
+        assert_eq!(given, Ok(pokerbox::Kind::Whole));
+        assert_eq!(
+            calls::reconcile(&lent, &mut right, &model_args, &mut out),
+            102
+        );
+        assert!(next == right, "{ids:?}, {reads:?}");
     }
 }
 

@@ -85,8 +85,8 @@ fn kept_images_open_with_every_value_unchanged() {
     }
 }
 
-/// The text with the digits of kind 04: after K shares that give all to caller 0, and in each record
-/// caller 0 after the id.
+/// The text with what kind 04 has: after K shares that give all to caller 0, and in each record caller 0
+/// after the id.
 fn with_callers(text: &[u8]) -> Vec<u8> {
     let text = std::str::from_utf8(text).expect("digits and line ends");
     let mut lines = text.lines();
@@ -100,22 +100,41 @@ fn with_callers(text: &[u8]) -> Vec<u8> {
     written.into_bytes()
 }
 
+/// The text of kind 04 with the digits of kind 05: in each holder a read count of 0 before its byte count.
+fn with_reads(text: &[u8], queue: &Queue) -> Vec<u8> {
+    let text = std::str::from_utf8(text).expect("digits and line ends");
+    let mut lines = text.lines();
+    let header = lines.next().expect("a header");
+    let mut written = format!("05{}\n", &header[2..]);
+    for (line, record) in lines.zip(&queue.records) {
+        // The byte count and the signed bytes are the last.
+        let last = record.holder.as_ref().map(|of| 8 + 2 * of.bytes.len());
+        let (front, end) = line.split_at(line.len() - last.unwrap_or(0));
+        let count = if last.is_some() { "0000" } else { "" };
+        written += &format!("{front}{count}{end}\n");
+    }
+    written.into_bytes()
+}
+
 /// What is written next has the newest kind.
 #[test]
 fn kept_images_are_written_again_in_the_newest_kind() {
     for kept in kept() {
         let opened = pokerbox::Queue::open(&kept.text).expect("an image");
-        assert_eq!(opened.area()[4], 4, "{}: the area", kept.what());
+        assert_eq!(opened.area()[4], 5, "{}: the area", kept.what());
         let written = opened.image().expect("an image");
         let expected = match kept.kind {
-            HeaderKind::K01 | HeaderKind::K03 => with_callers(&kept.text),
-            HeaderKind::K04 => kept.text.clone(),
+            HeaderKind::K01 | HeaderKind::K03 => {
+                with_reads(&with_callers(&kept.text), &kept.queue())
+            }
+            HeaderKind::K04 => with_reads(&kept.text, &kept.queue()),
+            HeaderKind::K05 => kept.text.clone(),
         };
         assert!(written == expected, "{}", kept.what());
     }
 }
 
-/// An older image has nothing but caller 0; the image `every` of kind 04 has a record of each caller,
+/// An older image has nothing but caller 0; the image `every` has since kind 04 a record of each caller,
 /// and shares from 0 to P.
 #[test]
 fn every_caller_is_kept() {
@@ -134,10 +153,47 @@ fn every_caller_is_kept() {
     }
 }
 
+/// An older image has no read ids; the image `every` has since kind 05 holders with none, one, two and K
+/// of them, one twice, what another reads, what it spends itself, and what another makes; and holders in
+/// each state read.
+#[test]
+fn every_sort_of_read_id_is_kept() {
+    for kept in kept() {
+        let queue = kept.queue();
+        let all = || queue.holders();
+        if kept.kind < HeaderKind::K05 {
+            assert!(all().all(|of| of.reads().is_empty()), "{}", kept.what());
+        } else if kept.name == "every" {
+            let counts: BTreeSet<usize> = all().map(|of| of.reads().len()).collect();
+            assert_eq!(counts, BTreeSet::from([0, 1, 2, 3]));
+            let reading = |what: &dyn Fn(&Record, &[u8; 32]) -> bool| {
+                all().any(|of| of.reads().iter().any(|read| what(of, read)))
+            };
+            assert!(reading(&|of, read| of
+                .reads()
+                .iter()
+                .filter(|id| *id == read)
+                .count()
+                > 1));
+            assert!(reading(&|of, read| of.inputs().contains(read)));
+            assert!(reading(&|of, read| of.outputs().contains(read)));
+            assert!(reading(
+                &|of, read| all().any(|other| other.id != of.id && other.reads().contains(read))
+            ));
+            assert!(reading(&|of, read| all().any(
+                |other| other.id != of.id && other.outputs().contains(read)
+            )));
+            let states = all().filter(|of| !of.reads().is_empty());
+            let states: BTreeSet<u8> = states.map(|of| of.state as u8).collect();
+            assert_eq!(states, BTreeSet::from([0, 2, 3]));
+        }
+    }
+}
+
 #[test]
 fn no_other_kind_is_an_image() {
     for kept in kept() {
-        for kind in ["00", "02", "05", "06", "10", "14", "40", "ff"] {
+        for kind in ["00", "02", "06", "10", "15", "40", "50", "ff"] {
             let refused = opened(&kept.with_kind(kind));
             assert_eq!(refused, Err(Error::NotAnImage), "{} as {kind}", kept.what());
         }
@@ -204,6 +260,8 @@ fn a_full_queue_is_kept() {
         assert!(queue
             .holders()
             .all(|one| one.inputs().len() == k && one.outputs().len() == k));
+        let reads = if kind.has_reads() { k } else { 0 };
+        assert!(queue.holders().all(|one| one.reads().len() == reads));
     }
 }
 

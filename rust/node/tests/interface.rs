@@ -12,11 +12,11 @@ fn limits() -> Limits {
 
 #[test]
 fn limits_have_ranges() {
-    assert_eq!(limits().area_len(), 3_348);
+    assert_eq!(limits().area_len(), 3_476);
     assert_eq!(Limits::new(0, 1, 1, 1), Err(Error::LimitOutOfRange));
     assert_eq!(Limits::new(1_025, 1, 1, 1), Err(Error::LimitOutOfRange));
     assert_eq!(Limits::new(1_024, 16_777_216, 1_024, 128), Ok(Limits::MAX));
-    assert_eq!(Limits::MAX.area_len(), 51_905_024);
+    assert_eq!(Limits::MAX.area_len(), 60_293_632);
     for at in 0..4 {
         let tops = [1_024, 16_777_216, 1_024, 128];
         for (limit, in_range) in [
@@ -39,7 +39,7 @@ fn limits_have_ranges() {
 
 #[test]
 fn every_refusal_says_what_to_do() {
-    let numbers: Vec<u64> = (1..=18).chain([21]).collect();
+    let numbers: Vec<u64> = (1..=18).chain([20, 21]).collect();
     assert_eq!(Error::ALL.len(), numbers.len());
     for (number, error) in numbers.iter().zip(Error::ALL) {
         assert_eq!(error.number(), *number);
@@ -101,6 +101,7 @@ fn an_admission_needs_few_fields() {
     assert_eq!((entry.time_deadline, entry.height_deadline), (None, None));
     assert_eq!((entry.created, entry.label), (TimeMs(5), None));
     assert_eq!(entry.caller, Caller::ZERO);
+    assert_eq!(entry.reads, []);
     assert_eq!(queue.observation_cursor(), Ok((Height(6), None)));
 }
 
@@ -311,10 +312,52 @@ fn each_caller_has_its_share() {
     assert_eq!(cancelled.settle(Outcome::Kept).unwrap().caller, last);
 }
 
+/// Read ids of an admission, in its entry, and in refusal 20.
+#[test]
+fn what_is_only_read() {
+    let limits = Limits::new(3, 10, 2, 2).unwrap();
+    let mut queue = Queue::fresh(limits).unwrap();
+    let given = |n: u8, inputs: &[u8], reads: &[u8]| {
+        let ids = |numbers: &[u8]| numbers.iter().map(|n| InputId([*n; 32])).collect();
+        Admission {
+            reads: ids(reads),
+            ..Admission::new(
+                TxId([n; 32]),
+                ids(inputs),
+                vec![],
+                vec![n],
+                TimeMs(5),
+                Height(1),
+            )
+        }
+    };
+    for (n, inputs, reads) in [(1, &[11][..], &[21, 22][..]), (2, &[12], &[21, 12])] {
+        let change = queue.admit(&given(n, inputs, reads)).unwrap();
+        let entry = change.settle(Outcome::Kept).unwrap();
+        assert_eq!(entry.reads, given(n, inputs, reads).reads);
+        assert_eq!(entry, queue.entry(TxId([n; 32])).unwrap());
+    }
+    for (inputs, reads, error) in [
+        (&[21][..], &[][..], Error::ReadAndSpent),
+        (&[], &[11], Error::ReadAndSpent),
+        (&[12], &[11], Error::InputReserved),
+        (&[13], &[1, 2, 3], Error::TooManyInputs),
+    ] {
+        let refused = queue.admit(&given(3, inputs, reads)).unwrap_err();
+        assert_eq!(refused, error);
+    }
+    let reserved = [11, 12].map(|n| InputId([n; 32]));
+    assert_eq!(queue.reserved_inputs().unwrap(), reserved);
+    let opened = Queue::open(&queue.image().unwrap()).unwrap();
+    assert_eq!(opened.list(), queue.list());
+    let cancelled = queue.cancel(TxId([2; 32])).unwrap();
+    assert_eq!(cancelled.settle(Outcome::Kept).unwrap().reads, []);
+}
+
 /// The worked image of documents 01 and 02.
 #[test]
 fn the_worked_image_opens() {
-    let frame = "04 00000002 0000000a 00000001 00000001 \
+    let frame = "05 00000002 0000000a 00000001 00000001 \
                  00000002 00000000 00000000 00000000 00000000 00000000 00000000 00000000 \
                  00000000 00000000 00000000 00000000 00000000 00000000 00000000 00000000 \
                  0000000000000000 00000000 00 0000000000000000 00000000";
@@ -338,6 +381,7 @@ fn what_is_no_image_is_refused() {
         "0300000002000000010000000100000001\n",
         "04000000020000000a00000001000000010000000000000000000000000000000000000000000000000000\n",
         "05000000020000000a00000001000000010000000000000000000000000000000000000000000000000000\n",
+        "06000000020000000a00000001000000010000000000000000000000000000000000000000000000000000\n",
     ] {
         assert_eq!(Queue::open(text.as_bytes()).unwrap_err(), Error::NotAnImage);
     }

@@ -38,6 +38,7 @@ fn the_example_runs() {
     assert!(said.contains("fee 1000000, at most 0 more"), "{said}");
     assert!(said.contains("not cancelled: "), "{said}");
     assert!(said.contains("caller 2 has no share"), "{said}");
+    assert!(said.contains("it is read"), "{said}");
     assert!(said.contains("changed: true"), "{said}");
 }
 
@@ -52,6 +53,8 @@ fn the_demonstration_shows_what_a_unit_lives_through() {
         "Queued, reason rolled back",
         "refusal 17: ",
         "refusal 18: ",
+        "refusal 20: ",
+        "reads 1",
         "caller 0: ",
         "was killed",
         "Opened after it: revision ",

@@ -10,12 +10,12 @@ mod common;
 mod every;
 
 use every::Args;
-use model::load::{self, Ids, Links, Load};
+use model::load::{self, Ids, Links, Load, Reads};
 use model::random::{self, Rng};
 use model::{area, calls, image, rules, Height, Limits, Queue, State, TimeMs};
 use pokerbox::raw;
 
-/// While the queue has at most [`FEW_INPUTS`]; parents first, while it also selects at most
+/// While the queue has at most [`FEW_INPUTS`] inputs and read ids together; parents first, while it also selects at most
 /// [`FEW_SELECTED`] records.
 const STACK: usize = 160 * 1024;
 
@@ -40,6 +40,8 @@ struct Lent {
     area: Vec<u8>,
     image: Vec<u8>,
     args: Args,
+    /// The same with an id that no record has, and as many read ids as there can be.
+    new: Args,
     next: Vec<u8>,
     out: Vec<u8>,
 }
@@ -57,20 +59,28 @@ impl Lent {
         let id = pending.map_or([0; 32], |record| record.id);
         let ids: Vec<_> = queue.records.iter().map(|record| record.id).collect();
         let image = image::encode(&queue);
+        let args = Args {
+            id: id.to_vec(),
+            caller: 0,
+            ids: ids.concat(),
+            reads: Vec::new(),
+            now: rng.pick(&[0, u64::MAX]),
+            height: rng.pick(&[0, u32::MAX]),
+            kind: rng.pick(&[2, 3]),
+            outcome: rng.pick(&[0, 1]),
+            // The whole tree of all candidates.
+            limit: u64::MAX,
+            budget: 2_097_151,
+        };
+        let reads = (0..queue.limits.inputs).map(|n| [&[0xfd; 28][..], &n.to_be_bytes()].concat());
         Lent {
             area: area::encode(&queue),
-            args: Args {
-                id: id.to_vec(),
-                caller: 0,
-                ids: ids.concat(),
-                now: rng.pick(&[0, u64::MAX]),
-                height: rng.pick(&[0, u32::MAX]),
-                kind: rng.pick(&[2, 3]),
-                outcome: rng.pick(&[0, 1]),
-                // The whole tree of all candidates.
-                limit: u64::MAX,
-                budget: 2_097_151,
+            new: Args {
+                id: vec![0xfe; 32],
+                reads: reads.flatten().collect(),
+                ..args.clone()
             },
+            args,
             next: vec![0; queue.limits.need()],
             // No answer is longer than the image.
             out: vec![0; image.len() + 16],
@@ -80,12 +90,9 @@ impl Lent {
     }
 
     fn few_inputs(&self) -> bool {
-        let inputs = self
-            .queue
-            .records
-            .iter()
-            .map(|record| record.inputs().len());
-        inputs.sum::<usize>() <= FEW_INPUTS
+        let records = self.queue.records.iter();
+        let asked_for = records.map(|record| record.asks_for().count());
+        asked_for.sum::<usize>() <= FEW_INPUTS
     }
 
     /// At time 0 and height 0, when the most are selected.
@@ -117,6 +124,10 @@ impl Lent {
             let made = if library { call.library } else { call.model };
             let number = made(&self.args, &self.area, &mut self.next, &mut self.out);
             numbers.push((call.name, number));
+            if call.name == "admit" {
+                let number = made(&self.new, &self.area, &mut self.next, &mut self.out);
+                numbers.push(("admit, a new id", number));
+            }
         }
         #[cfg(exported = "open")]
         numbers.push(("open", self.open(library)));
@@ -246,7 +257,7 @@ fn loaded(queued: u64, mined: u64, boxes: u64, ids: Ids, links: Links) -> Lent {
         ..=512 => [256, 65_536, 128, 128],
         _ => TOP_LIMITS,
     };
-    loaded_under(limits, queued, mined, boxes, (ids, links))
+    loaded_under(limits, queued, mined, boxes, (ids, links, Reads::None))
 }
 
 const TOP_LIMITS: [u64; 4] = [1_024, 16_777_216, 1_024, 128];
@@ -256,7 +267,7 @@ fn loaded_under(
     queued: u64,
     mined: u64,
     boxes: u64,
-    (ids, links): (Ids, Links),
+    (ids, links, reads): (Ids, Links, Reads),
 ) -> Lent {
     let queue = load::queue(&Load {
         limits,
@@ -267,6 +278,7 @@ fn loaded_under(
         bytes: 100,
         ids,
         links,
+        reads,
     });
     Lent::new(&mut Rng::new(1), queue)
 }
@@ -299,8 +311,30 @@ fn few_inputs() {
 /// The same few inputs in the largest area.
 #[test]
 fn few_inputs_under_the_top_limits() {
-    for load in LOADS.into_iter().take(6) {
+    for (ids, links) in LOADS.into_iter().take(6) {
+        let load = (ids, links, Reads::None);
         let lent = loaded_under(TOP_LIMITS, 40, 24, 128, load);
+        assert!(lent.few_inputs() && lent.few_selected());
+        in_stack(lent);
+    }
+}
+
+/// 8,192 inputs and read ids, whatever their ids: each record reads its own, or all the same.
+#[test]
+fn few_inputs_and_read_ids() {
+    for (ids, links) in LOADS {
+        for reads in [Reads::Apart, Reads::Same] {
+            let limits = [256, 65_536, 128, 128];
+            for (queued, mined, boxes) in [(20, 12, 128), (512, 0, 8)] {
+                let lent = loaded_under(limits, queued, mined, boxes, (ids, links, reads));
+                assert!(lent.few_inputs() && lent.few_selected());
+                in_stack(lent);
+            }
+        }
+    }
+    for reads in [Reads::Apart, Reads::Same] {
+        let load = (Ids::Random, Links::Ring, reads);
+        let lent = loaded_under(TOP_LIMITS, 20, 12, 128, load);
         assert!(lent.few_inputs() && lent.few_selected());
         in_stack(lent);
     }
@@ -316,7 +350,10 @@ fn above_what_is_few() {
     assert!(!wide.few_inputs() && wide.few_selected());
     let most = loaded(2_048, 0, 4, ids, links);
     assert!(most.few_inputs() && !most.few_selected());
-    for lent in [many, wide, most] {
+    let limits = [256, 65_536, 128, 128];
+    let read = loaded_under(limits, 512, 0, 9, (ids, links, Reads::Apart));
+    assert!(!read.few_inputs() && read.few_selected());
+    for lent in [many, wide, most, read] {
         in_stack(lent);
     }
 }
@@ -331,6 +368,20 @@ fn full_unit() {
         (2_048, 0, Ids::Sum, Links::Reversed),
     ] {
         let lent = loaded(queued, mined, 128, ids, links);
+        assert!(!lent.few_inputs());
+        in_stack(lent);
+    }
+}
+
+/// As many read ids besides: each record its own, or all the same. With 1,023 pending an admission is
+/// looked at to the end.
+#[test]
+fn full_unit_with_read_ids() {
+    for (queued, mined, ids, links, reads) in [
+        (2_048, 0, Ids::Random, Links::Spread, Reads::Apart),
+        (1_023, 1_024, Ids::Filter, Links::Chain, Reads::Same),
+    ] {
+        let lent = loaded_under(TOP_LIMITS, queued, mined, 128, (ids, links, reads));
         assert!(!lent.few_inputs());
         in_stack(lent);
     }

@@ -30,6 +30,7 @@ fn queued() -> model::Queue {
         caller: model::Caller(0),
         inputs: vec![[0x21; 32]],
         outputs: vec![[0x31; 32]],
+        reads: vec![[0x41; 32]],
         signed: vec![1, 2, 3],
         now: model::TimeMs(5),
         time_deadline: Some(model::TimeMs(9)),

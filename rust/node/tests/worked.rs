@@ -2,13 +2,13 @@
 
 use pokerbox::{raw, Error, Kind};
 
-const NEED: usize = 3_348;
+const NEED: usize = 3_476;
 
 /// All to caller 0.
 const SHARES: &str = "00000002 00000000 00000000 00000000 00000000 00000000 00000000 00000000 \
                       00000000 00000000 00000000 00000000 00000000 00000000 00000000 00000000";
 
-const HEADER: &str = "04 00000002 0000000a 00000001 00000001 \
+const HEADER: &str = "05 00000002 0000000a 00000001 00000001 \
      00000002 00000000 00000000 00000000 00000000 00000000 00000000 00000000 \
      00000000 00000000 00000000 00000000 00000000 00000000 00000000 00000000 \
      0000000000000000 00000000 00 0000000000000000 00000000";
@@ -18,7 +18,7 @@ const REST: &str =
     "00000002 0000000a 00000001 00000001 0000000000000000 00000000 00 0000000000000000 00000000";
 
 /// Callers 0 and 5 have a share of 1 each.
-const CANCELLED_HEADER: &str = "04 00000002 0000000a 00000001 00000001 \
+const CANCELLED_HEADER: &str = "05 00000002 0000000a 00000001 00000001 \
      00000001 00000000 00000000 00000000 00000000 00000001 00000000 00000000 \
      00000000 00000000 00000000 00000000 00000000 00000000 00000000 00000000 \
      0000000000000002 00000006 00 0000000000000001 00000001";
@@ -86,6 +86,10 @@ fn the_fresh_image() {
     let mut lent = vec![0; NEED];
     assert_eq!(raw::open(text.as_bytes(), &mut lent), Ok(()));
     assert!(lent == area(&format!("00000000 {HEADER}")));
+    // That of kind 04 differs in its kind alone.
+    let (of_04, mut lent) = (format!("04{}", &text[2..]), vec![0; NEED]);
+    assert_eq!(raw::open(of_04.as_bytes(), &mut lent), Ok(()));
+    assert!(lent == area(&format!("00000000 {HEADER}")));
     for kind in ["01", "03"] {
         let (older, mut lent) = (format!("{kind}{}\n", digits(REST)), vec![0; NEED]);
         assert_eq!(older.len(), 85);
@@ -99,8 +103,8 @@ fn the_fresh_image() {
 fn the_cancelled_record() {
     let cancelled = cancelled_area();
     assert_eq!(raw::sound(&cancelled), Ok(()));
-    // The entry has no inputs.
-    let entry = unhex(&format!("{CANCELLED_HEAD} 0000"));
+    // The entry has no inputs and no read ids.
+    let entry = unhex(&format!("{CANCELLED_HEAD} 0000 0000"));
     let mut out = vec![0xee; entry.len()];
     assert_eq!(raw::entry(&cancelled, &ID, &mut out), Ok(()));
     assert_eq!(out, entry);
@@ -117,14 +121,92 @@ fn the_cancelled_record() {
     assert_eq!(image(&cancelled), lines.join("\n"));
 }
 
+/// A queue with one record that spends one id and reads another.
+#[test]
+fn the_reading_record() {
+    let header = "05 00000002 0000000a 00000001 00000001 \
+         00000002 00000000 00000000 00000000 00000000 00000000 00000000 00000000 \
+         00000000 00000000 00000000 00000000 00000000 00000000 00000000 00000000 \
+         0000000000000001 00000001 00 0000000000000000 00000001";
+    let head = "2222222222222222222222222222222222222222222222222222222222222222 00 00 00 \
+         0000000000000005 00 00 00000000 00 0000000000000001 00000002 0000000000000001 00";
+    let input = "0001 3333333333333333333333333333333333333333333333333333333333333333";
+    let read = "0001 4444444444444444444444444444444444444444444444444444444444444444";
+    let record = format!("02 {head} 00 0000000000000000 01 {input} 0000 {read} 00000002 abcd");
+    let expected = area(&format!("00000001 {header} {record}"));
+    let fresh = area(&format!("00000000 {HEADER}"));
+    let args = raw::AdmitArgs {
+        id: &[0x22; 32],
+        caller: 0,
+        inputs: &[0x33; 32],
+        outputs: &[],
+        reads: &[0x44; 32],
+        signed: &[0xab, 0xcd],
+        now: 5,
+        time_flag: 0,
+        time: 0,
+        height_flag: 0,
+        height: 0,
+        priority: 0,
+        label_flag: 0,
+        label: &[],
+        fee: 1,
+        cost: 1,
+        tip_height: 1,
+        tip_flag: 0,
+        tip: &[],
+    };
+    let entry = unhex(&format!("{head} {input} {read}"));
+    let (mut next, mut out) = (vec![0; NEED], vec![0xee; entry.len()]);
+    let kind = raw::admit(&fresh, &mut next, &args, &mut out);
+    assert_eq!(kind, Ok(Kind::Whole));
+    assert!(next == expected);
+    assert_eq!(out, entry);
+    let lines = [digits(header), digits(&record), String::new()];
+    assert_eq!(image(&next), lines.join("\n"));
+    // Whole lists, and over K by itself.
+    for (reads, error) in [
+        (&[0x44; 31][..], Error::Malformed),
+        (&[0x44; 64], Error::TooManyInputs),
+    ] {
+        let wrong = raw::AdmitArgs { reads, ..args };
+        let refused = raw::admit(&fresh, &mut next, &wrong, &mut out);
+        assert_eq!(refused, Err(error));
+    }
+    // Both halves of 20.
+    let (cur, mut next) = (next, vec![0; NEED]);
+    let other = raw::AdmitArgs {
+        id: &[0x23; 32],
+        ..args
+    };
+    for (inputs, reads) in [([0x44; 32], [0x55; 32]), ([0x55; 32], [0x33; 32])] {
+        let meets = raw::AdmitArgs {
+            inputs: &inputs,
+            reads: &reads,
+            ..other
+        };
+        let refused = raw::admit(&cur, &mut next, &meets, &mut out);
+        assert_eq!(refused, Err(Error::ReadAndSpent));
+    }
+    // The same is read by both.
+    let apart = raw::AdmitArgs {
+        inputs: &[0x55; 32],
+        ..other
+    };
+    assert_eq!(
+        raw::admit(&cur, &mut next, &apart, &mut out),
+        Ok(Kind::Whole)
+    );
+}
+
 /// Of the kinds that older images have.
 #[test]
 fn a_fresh_area_with_an_older_kind_byte() {
-    for kind in [1, 3] {
+    for kind in [1, 3, 4] {
         let mut lent = area(&format!("00000000 {HEADER}"));
         lent[4] = kind;
         assert_eq!(raw::sound(&lent), Err(Error::AreaNotSound));
-        // Nor is what an older library had as its area one.
+        // Nor is what a library before P8 had as its area one.
         let lent = area(&format!("00000000 {kind:02x} {REST}"));
         assert_eq!(raw::sound(&lent), Err(Error::AreaNotSound));
     }

@@ -96,7 +96,7 @@ fn every() -> Result<Vec<u8>, Error> {
 /// How often each sort of record is there, with other values each time.
 const VARIANTS: usize = 6;
 
-/// A queue with each state, reason, mark and caller, holder or not; with every two of: time deadline or not,
+/// A queue with each state, reason, mark and caller, holder or not, and each sort of read id; with every two of: time deadline or not,
 /// height deadline or not, no label, an empty and the longest one.
 fn every_record() -> Queue {
     let mut sorts: Vec<(State, Reason, Option<Withdrawn>)> = vec![
@@ -180,16 +180,37 @@ fn holder(n: usize, variant: usize) -> Holder {
         2 => vec![input(0), input(0)],
         _ => vec![input(0), input(2), input(1)],
     };
+    let outputs = (0..variant % 4).map(|at| nth_id(n + at));
     Holder {
+        outputs: outputs.chain((variant == 5).then(|| made(n))).collect(),
+        reads: reads(n, variant, &inputs),
         inputs,
-        outputs: (0..variant % 4).map(|at| nth_id(n + at)).collect(),
         bytes: (0..[0, 3, 1][variant % 3])
             .map(|at| (n + at) as u8)
             .collect(),
     }
 }
 
-// ---- as many records, bytes, inputs and outputs as the limits allow, by calls
+/// Up to three read ids: one that others read as well, one twice, what it spends itself, what it makes, and
+/// what another one makes. Ids from 900 on are spent by none.
+fn reads(n: usize, variant: usize, inputs: &[Id]) -> Vec<Id> {
+    let (shared, own) = (nth_id(900), nth_id(901 + n));
+    match variant {
+        0 => Vec::new(),
+        1 => vec![shared],
+        2 => vec![own, own],
+        3 => vec![shared, inputs[0], own],
+        4 => vec![made(n)],
+        _ => vec![made(n), own],
+    }
+}
+
+/// An output of a record of the last variant, which it reads itself, and another one as well; none spends it.
+fn made(n: usize) -> Id {
+    nth_id(800 + n % 11)
+}
+
+// ---- as many records, bytes, inputs, outputs and read ids as the limits allow, by calls
 
 fn full() -> Result<Vec<u8>, Error> {
     let limits = Limits::checked(2, 10, 2, 2).expect("limits in range");
@@ -228,7 +249,7 @@ fn tx_id(n: u8) -> pokerbox::TxId {
     pokerbox::TxId([n; 32])
 }
 
-/// K inputs and outputs, half of B, and the longest label.
+/// K inputs, outputs and read ids, half of B, and the longest label.
 fn admit(queue: &mut pokerbox::Queue, n: u8) -> Result<(), Error> {
     let id = |at: u8| -> Id { [0x10 * n + at; 32] };
     let given = pokerbox::Admission {
@@ -240,6 +261,8 @@ fn admit(queue: &mut pokerbox::Queue, n: u8) -> Result<(), Error> {
         label: Some(vec![b'a' + n; 200]),
         fee: u64::from(n),
         cost: 1,
+        // What all of them read, and one of its own.
+        reads: [pokerbox::InputId([0xee; 32]), pokerbox::InputId(id(5))].to_vec(),
         tip: Some(pokerbox::BlockId([8; 32])),
         ..pokerbox::Admission::new(
             tx_id(n),

@@ -21,7 +21,7 @@ int main(void) {
     static uint8_t cur[POKERBOX_AREA_LEN(P, B, T, K)];
     static uint8_t next[POKERBOX_AREA_LEN(P, B, T, K)];
     static uint8_t image[POKERBOX_MAX_IMAGE_LEN(P, B, T, K)];
-    uint8_t id[32], input[32], output[32], out[400];
+    uint8_t id[32], other[32], input[32], output[32], read[32], out[400];
     const uint8_t signed_bytes[3] = {1, 2, 3};
     const uint8_t none[1] = {0};
     /* Caller 0 may have all, caller 15 one, and the others nothing. */
@@ -31,6 +31,8 @@ int main(void) {
     memset(id, 0x11, sizeof id);
     memset(input, 0x21, sizeof input);
     memset(output, 0x31, sizeof output);
+    memset(read, 0x41, sizeof read);
+    memset(other, 0x12, sizeof other);
     shares[3] = P;
     shares[63] = 1;
     expect("P 0", pokerbox_fresh(0, B, T, K, shares, sizeof shares, cur, sizeof cur),
@@ -47,16 +49,20 @@ int main(void) {
            POKERBOX_NOT_FOUND);
     expect("admit without a share",
            pokerbox_admit(cur, sizeof cur, next, sizeof next, id, sizeof id, 1, input, sizeof input,
-                          output, sizeof output, signed_bytes, sizeof signed_bytes, 5, 0, 0, 0, 0,
-                          7, 0, none, 0, 1000, 9, 6, 0, none, 0, out, sizeof out),
+                          output, sizeof output, none, 0, signed_bytes, sizeof signed_bytes, 5, 0,
+                          0, 0, 0, 7, 0, none, 0, 1000, 9, 6, 0, none, 0, out, sizeof out),
            POKERBOX_SHARE_EXHAUSTED);
     expect("admit",
            pokerbox_admit(cur, sizeof cur, next, sizeof next, id, sizeof id, 15, input,
-                          sizeof input, output, sizeof output, signed_bytes, sizeof signed_bytes, 5,
-                          0, 0, 0, 0, 7, 0, none, 0, 1000, 9, 6, 0, none, 0, out, sizeof out),
+                          sizeof input, output, sizeof output, read, sizeof read, signed_bytes,
+                          sizeof signed_bytes, 5, 0, 0, 0, 0, 7, 0, none, 0, 1000, 9, 6, 0, none, 0,
+                          out, sizeof out),
            POKERBOX_ANSWERED_WHOLE);
     expect("caller", out[32], 15);
     expect("state", out[33], POKERBOX_STATE_QUEUED);
+    /* The entry's end: one input, then one read id. */
+    expect("read count", (uint64_t)out[105] * 256 + out[106], 1);
+    expect("read id", (uint64_t)memcmp(out + 107, read, sizeof read), 0);
 
     /* A write is due: the image of the next area would go to a file here. */
     expect("image", pokerbox_image(next, sizeof next, image, sizeof image, &length),
@@ -65,6 +71,17 @@ int main(void) {
            pokerbox_settle(cur, sizeof cur, next, sizeof next, POKERBOX_KIND_WHOLE,
                            POKERBOX_OUTCOME_KEPT),
            POKERBOX_ANSWERED);
+    expect("what is read is not spent",
+           pokerbox_admit(next, sizeof next, cur, sizeof cur, other, sizeof other, 0, read,
+                          sizeof read, output, sizeof output, none, 0, signed_bytes,
+                          sizeof signed_bytes, 5, 0, 0, 0, 0, 7, 0, none, 0, 1000, 9, 6, 0, none, 0,
+                          out, sizeof out),
+           POKERBOX_READ_AND_SPENT);
+    expect("what is spent is not read",
+           pokerbox_admit(next, sizeof next, cur, sizeof cur, other, sizeof other, 0, none, 0, output,
+                          sizeof output, input, sizeof input, signed_bytes, sizeof signed_bytes, 5,
+                          0, 0, 0, 0, 7, 0, none, 0, 1000, 9, 6, 0, none, 0, out, sizeof out),
+           POKERBOX_READ_AND_SPENT);
     expect("select", pokerbox_selection_entries_at(next, sizeof next, 5, 6, out, sizeof out),
            POKERBOX_ANSWERED);
     expect("selected", out[3], 1);

@@ -8,15 +8,18 @@ use model::{rules, Height, Id, Queue, TimeMs};
 /// them is listed. Records are their places in the old order.
 pub fn parents_first(queue: &Queue, now: TimeMs, height: Height) -> Vec<Id> {
     let selected = rules::selection_at(queue, now, height);
-    let mut children: BTreeMap<&Id, usize> = BTreeMap::new();
+    let mut children: BTreeMap<&Id, BTreeSet<usize>> = BTreeMap::new();
     for (at, record) in selected.iter().enumerate() {
-        // No input is in two records.
-        children.extend(record.inputs().iter().map(|input| (input, at)));
+        // No input is in two records, but a read id may be.
+        for id in record.asks_for() {
+            children.entry(id).or_default().insert(at);
+        }
     }
     let wanted_by = |at: usize| -> BTreeSet<usize> {
         let outputs = selected[at].outputs().iter();
         let children = outputs.filter_map(|output| children.get(output));
-        children.copied().filter(|child| *child != at).collect()
+        let children = children.flatten().copied();
+        children.filter(|child| *child != at).collect()
     };
     let mut waits = vec![0; selected.len()];
     for child in (0..selected.len()).flat_map(wanted_by) {

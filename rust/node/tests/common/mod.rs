@@ -85,13 +85,17 @@ pub fn many(cases: u64, mut case: impl FnMut(&mut Rng)) {
     }
 }
 
-/// A sound queue: of caller 0 alone under all to caller 0, or with other shares and callers.
+/// A sound queue: of caller 0 alone under all to caller 0, or with other shares and callers; with read
+/// ids, or without.
 pub fn sound_queue(rng: &mut Rng) -> Queue {
     let limits = random::small_limits(rng);
-    let queue = random::queue(rng, limits);
+    let mut queue = random::queue(rng, limits);
+    if !rng.once_in(3) {
+        queue = random::with_callers(rng, queue);
+    }
     match rng.once_in(3) {
         true => queue,
-        false => random::with_callers(rng, queue),
+        false => random::with_reads(rng, queue),
     }
 }
 

@@ -8,11 +8,14 @@ use model::calls;
 use pokerbox::raw;
 
 /// What calls are given beside areas and outputs.
+#[derive(Clone)]
 pub struct Args {
     pub id: Vec<u8>,
     pub caller: u8,
     /// Rising.
     pub ids: Vec<u8>,
+    /// Of an admission.
+    pub reads: Vec<u8>,
     pub now: u64,
     pub height: u32,
     pub kind: u64,
@@ -52,6 +55,7 @@ macro_rules! admit_args {
             caller: $args.caller,
             inputs: &$args.id,
             outputs: &$args.id,
+            reads: &$args.reads,
             signed: b"s",
             now: $args.now,
             time_flag: 0,
