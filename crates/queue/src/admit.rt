@@ -419,7 +419,7 @@ fn tip_for(s: &[u8], h: HeadR, x: Asked, tip: &[u8]) -> Tip
     }
 }
 
-// There is room, no input is another's, and none of the other's is read: the record is put.
+// There is room, no input is spent or read by another record, and no read id is spent by one: the record is put.
 fn admit_free(
     cur: &[u8],
     next: &mut [u8],

@@ -156,6 +156,24 @@ impl<'a, S: Side> Two<'a, S> {
     }
 
     /// Areas are shown as the queues that they hold.
+    /// Whether this area is sound, and what this text opens as; the answers are counted by these names.
+    pub fn same_altered(
+        &self,
+        area: &[u8],
+        text: &[u8],
+        names: [&'static str; 2],
+        counts: &mut Counts,
+    ) -> Result<(), Difference> {
+        let right = self.model.soundness(area);
+        self.same("the answer of sound", self.unit.soundness(area), right)?;
+        counts.kind(names[0], 5, right);
+        let right = self.model.opened(text);
+        counts.kind(names[1], 5, right.0);
+        let answer = self.unit.opened(text);
+        self.same("the answer of open", answer.0, right.0)?;
+        self.same_area("the opened area", &answer.1, &right.1)
+    }
+
     pub fn same_area(&self, what: &str, side: &[u8], model: &[u8]) -> Result<(), Difference> {
         match side == model {
             true => Ok(()),

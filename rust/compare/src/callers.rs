@@ -77,14 +77,11 @@ fn altered<S: Side>(
             put_digits(&mut text, image::share_place(caller) + 2 * at, byte);
         }
     }
-    let right = two.model.soundness(&bytes);
-    two.same("the answer of sound", two.unit.soundness(&bytes), right)?;
-    counts.kind("areas with another caller or share", 5, right);
-    let right = two.model.opened(&text);
-    counts.kind("texts with another caller or share", 5, right.0);
-    let answer = two.unit.opened(&text);
-    two.same("the answer of open", answer.0, right.0)?;
-    two.same_area("the opened area", &answer.1, &right.1)
+    let names = [
+        "areas with another caller or share",
+        "texts with another caller or share",
+    ];
+    two.same_altered(&bytes, &text, names, counts)
 }
 
 pub(crate) fn count_restart(area: &[u8], fresh: bool, counts: &mut Counts) {

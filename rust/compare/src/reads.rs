@@ -108,14 +108,8 @@ fn altered<S: Side>(
             (bytes, image::encode(&other))
         }
     };
-    let right = two.model.soundness(&bytes);
-    two.same("the answer of sound", two.unit.soundness(&bytes), right)?;
-    counts.kind("areas with other read ids", 5, right);
-    let right = two.model.opened(&text);
-    counts.kind("texts with other read ids", 5, right.0);
-    let answer = two.unit.opened(&text);
-    two.same("the answer of open", answer.0, right.0)?;
-    two.same_area("the opened area", &answer.1, &right.1)
+    let names = ["areas with other read ids", "texts with other read ids"];
+    two.same_altered(&bytes, &text, names, counts)
 }
 
 /// Mostly one that a record spends or reads.

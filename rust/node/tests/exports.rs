@@ -842,6 +842,17 @@ fn parents_first_of_loads() {
     met.expect(&[4, 100]);
 }
 
+/// In an output that is just long enough.
+#[cfg(exported = "selection_parents_first")]
+fn parents_first_of(load: &Load) {
+    let lent = area::encode(&load::queue(load));
+    let answer = calls::ids_bytes(&load::parents_first(load));
+    let mut out = vec![0xee; answer.len()];
+    let given = raw::selection_parents_first(&lent, 0, 0, &mut out);
+    assert_eq!(given, Ok(()), "{load:?}");
+    assert!(out == answer, "{load:?}");
+}
+
 /// At the top limits: 262,144 inputs and as many outputs.
 #[test]
 #[cfg(exported = "selection_parents_first")]
@@ -866,12 +877,7 @@ fn parents_first_of_full_units() {
             links,
             reads: Reads::None,
         };
-        let lent = area::encode(&load::queue(&load));
-        let answer = calls::ids_bytes(&load::parents_first(&load));
-        let mut out = vec![0xee; answer.len()];
-        let given = raw::selection_parents_first(&lent, 0, 0, &mut out);
-        assert_eq!(given, Ok(()), "{ids:?}, {links:?}");
-        assert!(out == answer, "{ids:?}, {links:?}");
+        parents_first_of(&load);
     }
 }
 
@@ -897,12 +903,7 @@ fn parents_first_of_shared_read_ids() {
             links: Links::Apart,
             reads,
         };
-        let lent = area::encode(&load::queue(&load));
-        let answer = calls::ids_bytes(&load::parents_first(&load));
-        let mut out = vec![0xee; answer.len()];
-        let given = raw::selection_parents_first(&lent, 0, 0, &mut out);
-        assert_eq!(given, Ok(()), "{load:?}");
-        assert!(out == answer, "{load:?}");
+        parents_first_of(&load);
     }
 }
 
