@@ -2,8 +2,8 @@
 use mathlib.Core.Path.{_≡_, refl, ap, sym, _∙_}
 use mathlib.Core.Bool.{Bool, true, false, cond}
 use mathlib.Core.Option.{Option, none, some}
-use mathlib.Core.List.{List, [], _∷_, _++_, append-assoc}
-use Prim.Native.Nat.{ℕ, zero, suc, _+_, _-_, _*_, _≤_, _<_}
+use mathlib.Core.List.{List, [], _∷_, _++_, append-assoc, append-nil}
+use Prim.Native.Nat.{ℕ, suc, _+_, _-_, _*_, _≤_, _<_}
 use native.Mathlib.Omega.{arith}
 use native.Mathlib.Nat.{zero-add}
 use lib.ListN.{length, drop, take, getD, replicate, length-append, length-drop, take-append-drop}
@@ -17,17 +17,17 @@ use Rattle.queue.specs.declared.frame.Seen.{Seen}
 use Rattle.queue.specs.declared.area.Open.{Open}
 use Rattle.queue.specs.declared.area.Area.{Area}
 use Rattle.queue.specs.Codec as codec
-use Rattle.queue.specs.Codec.{Got, fail, got, Codec, beC, pairC, mapC, optC, vecC, countedC, encs, decs, vec-bwd}
-use Rattle.queue.specs.Choice.{fixC, sinceC}
-use Rattle.queue.specs.Frames.{Head, idC, idsC, readsEnc, signedEnc, limitsC, headK, headC, recK, recC}
+use Rattle.queue.specs.Codec.{Got, fail, got, Codec, beC, pairC, mapC, optEnc, optC, vecC, countedC, encs, decs, vec-bwd}
+use Rattle.queue.specs.Choice.{fixC, pickC, sinceC}
+use Rattle.queue.specs.Frames.{Head, idC, idsC, low32, narrowC, priorityC, readsEnc, signedEnc, limitsC, headK, headC, recK, recC}
 use Rattle.queue.specs.Reads.{Reads, whole, listAt, behind, isGot, valOf, restOf}
-use Rattle.queue.specs.ReadLaws.{false-true, Turn, none-left, spans-be, spans-id}
+use Rattle.queue.specs.ReadLaws.{false-true, Turn, none-left, spans-id}
 use Rattle.queue.specs.View.{view, view-raw}
 use Rattle.queue.specs.Hex.{text-length}
 use Rattle.queue.specs.Splice.{splice, be, Put}
 use Rattle.queue.specs.Forms.{formC, lineEnc, afterIn, Framed, turn-in, Store, headFor, headIn, recIn, storeIn, areaForm, textForm, framesC, framesEnc, store-length, storeOf, queueWith, queueC, form-raw, ok-queue}
 use Rattle.queue.specs.Facts.{factsOf, limitsIn, limitsLen, SeenUnder, HeadUnder}
-use Rattle.queue.specs.Kinds.{rec-enc, recMid, body-said, headTail, head-first}
+use Rattle.queue.specs.Kinds.{narrow-enc, rec-enc, recFore, recMid, body-said, headTail, head-first}
 use Rattle.queue.specs.Areas.{kindOf, readImage, layout, image, image-found, image-none, image-unknown}
 use Rattle.queue.specs.Opens.{needMost, limits, StoreAs, soundL, sound-list, AreaAs, AreaIs}
 use Rattle.queue.specs.Plain.{area-plain, image-plain}
@@ -35,7 +35,7 @@ use Rattle.queue.specs.Bound.{fits-need, area-size, reads-image}
 use Rattle.queue.specs.paper.Records.{Bytes, Id, Limits, Held, Rec, Queue}
 use Rattle.queue.specs.paper.Lists.{isSome, isEmpty?, maybe}
 use Rattle.queue.specs.declared.frame.Facts.{Facts}
-use Rattle.queue.specs.paper.Kinds.{newest, kind?, hasCallers, hasReads, readsSaid?}
+use Rattle.queue.specs.paper.Kinds.{newest, kind?, hasCallers, hasReads, hasWide, readsSaid?}
 use Rattle.queue.specs.paper.Sound.{need, inRange, sound?}
 use Rattle.queue.specs.paper.Area.{areaBytes, sharesBytes, line, imageBytes, over}
 use Rattle.queue.specs.paper.Calls.{limitsOf}
@@ -46,7 +46,7 @@ use Rattle.queue.proofs.ShareLaws.{sixteen, shares-bytes}
 use Rattle.queue.proofs.WriteLaws.{limits-long}
 use Rattle.queue.proofs.Turns.{SeenForm, ReadsForm}
 use Rattle.image.specs.declared.text.Text.{Text}
-use Rattle.image.specs.Texts.{TextAs, TextIs, callerEnd, StoreRoom, StorePut, AreaHeld, ImageLen, AreaRoom, AreaPut}
+use Rattle.image.specs.Texts.{TextAs, TextIs, callerEnd, priorityFrom, recBack, StoreRoom, StorePut, AreaHeld, ImageLen, AreaRoom, AreaPut}
 use Rattle.image.specs.paper.Image.{imageOf, openOf, Five, needOf, imageLimitsOf}
 
 -- ---- a text
@@ -99,6 +99,7 @@ module _ {s : Bytes} (k : ℕ) (i : k ≡ kindOf s) (kn : kind? k ≡ true) {y :
           queueWith (u .0 .cursor) (u .0),
           rd,
           record {
+            told = e4 ∙ ap textForm i;
             store = rw (e4, e2) (u .1);
             need = e3 ∙ g ∙ ap need (sym (the-limits (u .0) (u .1)));
             small = rw e3 l;
@@ -127,18 +128,53 @@ pub frame-in : {A : Type 0} {𝓐 : Codec A} {s : Bytes} {i m : ℕ} {ok : Bool}
 frame-in {s = s} {i = i} h f = omega (arith, f .within, view-raw false s i refl)
 
 -- a record's frame under the newest kind
-parted : (v a b : Bytes) (n k : ℕ) → take n v ≡ a ++ b → length a ≡ k → n ≤ length v → (take k v ≡ a) × (take (n - k) (drop k v) ≡ b) × (k ≤ n)
-parted v a b n k e l h =
+pub cond-most : (b : Bool) (m n : ℕ) → n ≤ m → cond b m n ≤ m
+cond-most true m n h = omega arith
+cond-most false m n h = h
+
+-- bytes that stand in the midst of others
+pub slice : (v a b c : Bytes) (n i m : ℕ) → take n v ≡ a ++ (b ++ c) → length a ≡ i → length b ≡ m → n ≤ length v → (take m (drop i v) ≡ b) × (i + m ≤ n)
+slice v a b c n i m e la lb h =
     let f : take n v ++ drop n v ≡ v = take-append-drop n v in
-    let g : v ≡ a ++ (b ++ drop n v) = sym f ∙ ap (λ (x : Bytes). x ++ drop n v) e ∙ append-assoc a b (drop n v) in
-    let m : length a + length b ≡ n = sym (length-append a b) ∙ ap length (sym e) ∙ length-take-le n v h in
-    let d : drop k v ≡ b ++ drop n v = ap (drop k) g ∙ drop-at a (b ++ drop n v) k l in
-    let o : n - k ≡ length b = omega arith in
-    (ap (take k) g ∙ take-at a (b ++ drop n v) k l, ap (take (n - k)) d ∙ take-at b (drop n v) (n - k) (sym o), omega arith)
+    let g : v ≡ a ++ (b ++ (c ++ drop n v)) = sym f ∙ ap (λ (x : Bytes). x ++ drop n v) e ∙ append-assoc a (b ++ c) (drop n v) ∙ ap (λ (x : Bytes). a ++ x) (append-assoc b c (drop n v)) in
+    let d : drop i v ≡ b ++ (c ++ drop n v) = ap (drop i) g ∙ drop-at a (b ++ (c ++ drop n v)) i la in
+    (ap (take m) d ∙ take-at b (c ++ drop n v) m lb, omega (arith, sym (length-take-le n v h) ∙ ap length e, length-append a (b ++ c), length-append b c))
+
+-- the last of them
+pub slice-end : (v a b : Bytes) (n i : ℕ) → take n v ≡ a ++ b → length a ≡ i → n ≤ length v → (take (n - i) (drop i v) ≡ b) × (i + length b ≡ n)
+slice-end v a b n i e la h =
+    let l : i + length b ≡ n = omega (arith, sym (length-take-le n v h) ∙ ap length e, length-append a b) in
+    (slice v a b [] n i (n - i) (e ∙ ap (λ (x : Bytes). a ++ x) (sym (append-nil b))) la (omega arith) h .0, l)
 
 none-ids : idsC .enc [] ≡ 0 ∷ 0 ∷ []
 unfolding countedC vecC encs
 none-ids = refl
+
+pub empty-ids : (l : List Id) → isEmpty? l ≡ true → idsC .enc l ≡ 0 ∷ 0 ∷ []
+empty-ids [] z = none-ids
+empty-ids (i ∷ l) z = false-true z
+
+pub be-size : (n v : ℕ) → length (beC n .enc v) ≡ n
+unfolding beC
+be-size n v = codec.be-length n v
+
+opt-size : (n : ℕ) (o : Option ℕ) → length (optC (beC n) .enc o) ≡ 1 + cond (isSome o) n 0
+unfolding optC optEnc beC
+opt-size n none = refl
+opt-size n (some v) = let k = codec.be-length n v in omega arith
+
+pub fore-size : (r : Rec) → length (recFore r) ≡ 12 + cond (isSome (r .terms .due)) 8 0 + cond (isSome (r .terms .dueHeight)) 4 0
+unfolding recFore
+fore-size r =
+    let a = be-size 1 (r .state) in
+    let b = be-size 1 (r .reason) in
+    let c = be-size 8 (r .terms .created) in
+    let d = opt-size 8 (r .terms .due) in
+    let e = opt-size 4 (r .terms .dueHeight) in
+    sizes (beC 1 .enc (r .state)) (beC 1 .enc (r .reason)) (beC 8 .enc (r .terms .created)) (optC (beC 8) .enc (r .terms .due)) (optC (beC 4) .enc (r .terms .dueHeight)) ∙ omega arith
+  where
+    sizes : (a b c d e : Bytes) → length (a ++ (b ++ (c ++ (d ++ e)))) ≡ length a + length b + length c + length d + length e
+    sizes a b c d e = simp length-append (omega arith)
 
 module _ (form : Form) {s : Bytes} {base : ℕ} {x : Seen} {r : Rec} (w : SeenUnder (form .kind) (view (form .hex) s base) x r) (f : Framed (recK (form .kind)) (form .hex) s base (x .ok) (x .size) r) where
   abbrev seen : Bytes
@@ -154,48 +190,87 @@ module _ (form : Form) {s : Bytes} {base : ℕ} {x : Seen} {r : Rec} (w : SeenUn
   abbrev callers : Bool → Bytes
   callers b = sinceC b (beC 1) 0 .enc (r .caller)
 
-  abbrev tail : Bytes
-  tail = recMid r ++ (readsEnc (form .kind) (r .body) ++ signedEnc (r .body))
+  abbrev prio : ℕ → Bytes
+  prio k = priorityC k .enc (r .terms .priority)
+
+  abbrev back : ℕ → Bytes
+  back k = recMid r ++ (readsEnc k (r .body) ++ signedEnc (r .body))
+
+  abbrev tail : ℕ → Bytes
+  tail k = recFore r ++ (prio k ++ back k)
+
+  abbrev lead : Bytes
+  lead = front ++ callers (hasCallers (form .kind))
+
+  -- where its parts end
+  abbrev ce : ℕ
+  ce = callerEnd (form .kind)
+
+  abbrev pr : ℕ
+  pr = priorityFrom (form .kind) (x .facts)
 
   front-long : length front ≡ 33
   unfolding recK mapC pairC
   front-long = let i = spans-id .size (r .id) (f .fine .1 .0) in omega arith
 
   caller-long : length caller ≡ 1
-  unfolding beC
-  caller-long = codec.be-length 1 (r .caller)
+  caller-long = be-size 1 (r .caller)
 
   lead-long : (b : Bool) → length (front ++ callers b) ≡ cond b 34 33
   unfolding fixC
   lead-long true = let c = caller-long in let l = front-long in length-append front caller ∙ omega arith
   lead-long false = let l = front-long in length-append front [] ∙ omega arith
 
-  lead-parts : (take (callerEnd (form .kind)) seen ≡ front ++ callers (hasCallers (form .kind))) × (take (x .size - callerEnd (form .kind)) (drop (callerEnd (form .kind)) seen) ≡ tail) × (callerEnd (form .kind) ≤ x .size)
-  lead-parts =
-      parted seen (front ++ callers (hasCallers (form .kind))) tail (x .size) (callerEnd (form .kind))
-      (f .bytes ∙ rec-enc (form .kind) r ∙ sym (append-assoc front (callers (hasCallers (form .kind))) tail))
-      (lead-long (hasCallers (form .kind))) (f .within)
+  fore-long : ce + length (recFore r) ≡ pr
+  unfolding factsOf
+  fore-long =
+      let a = ap (λ (y : Facts). y .timed) (w .facts) in
+      let b = ap (λ (y : Facts). y .heighted) (w .facts) in
+      let c : length (recFore r) ≡ 12 + cond (x .facts .timed) 8 0 + cond (x .facts .heighted) 4 0 = fore-size r ∙ rw (← a, ← b) refl in
+      omega arith
 
-  pub lead-in : (callerEnd (form .kind) ≤ length seen) × (34 ≤ length (recIn areaForm .enc r))
+  parts : take (x .size) seen ≡ lead ++ tail (form .kind)
+  parts = f .bytes ∙ rec-enc (form .kind) r ∙ sym (append-assoc front (callers (hasCallers (form .kind))) (tail (form .kind)))
+
+  lead-here : (take ce seen ≡ lead) × (ce ≤ x .size)
+  lead-here = let u = slice seen [] lead (tail (form .kind)) (x .size) 0 ce parts refl (lead-long (hasCallers (form .kind))) (f .within) in (u .0, omega (arith, u .1))
+
+  -- from the state to the deadlines
+  pub fore-here : (take (pr - ce) (drop ce seen) ≡ recFore r) × (ce ≤ pr) × (pr ≤ x .size)
+  fore-here =
+      let l = fore-long in
+      let u = slice seen lead (recFore r) (prio (form .kind) ++ back (form .kind)) (x .size) ce (pr - ce) parts (lead-long (hasCallers (form .kind))) (omega arith) (f .within) in
+      (u .0, omega arith, omega (arith, u .1))
+
+  -- behind the priority of n bytes
+  back-here : (n : ℕ) → length (prio (form .kind)) ≡ n → (take (x .size - (pr + n)) (drop (pr + n) seen) ≡ back (form .kind)) × (pr + n + length (back (form .kind)) ≡ x .size)
+  back-here n l =
+      slice-end seen ((lead ++ recFore r) ++ prio (form .kind)) (back (form .kind)) (x .size) (pr + n) (parts ∙ join lead (recFore r) (prio (form .kind)) (back (form .kind)))
+      (length-append (lead ++ recFore r) (prio (form .kind)) ∙ omega (arith, length-append lead (recFore r), lead-long (hasCallers (form .kind)), fore-long)) (f .within)
+    where
+      join : (a b c d : Bytes) → a ++ (b ++ (c ++ d)) ≡ ((a ++ b) ++ c) ++ d
+      join a b c d = sym (simp append-assoc)
+
+  pub lead-in : (ce ≤ length seen) × (34 ≤ length (recIn areaForm .enc r))
   unfolding formC
   lead-in =
-      let a = lead-parts .2 in
+      let a = lead-here .1 in
       let b = f .within in
-      let c = ap length (rec-enc newest r) ∙ length-append front (caller ++ (recMid r ++ (readsEnc newest (r .body) ++ signedEnc (r .body)))) in
-      let d = length-append caller (recMid r ++ (readsEnc newest (r .body) ++ signedEnc (r .body))) in
+      let c = ap length (rec-enc newest r) ∙ length-append front (caller ++ tail newest) in
+      let d = length-append caller (tail newest) in
       let e = front-long in
       let g = caller-long in
       (omega arith, omega arith)
 
   module _ (t : hasCallers (form .kind) ≡ true) where
-    pub lead-has : callerEnd (form .kind) ≡ 34
+    pub lead-has : ce ≡ 34
     lead-has = rw t
 
     pub lead-yes : take 34 (drop 0 seen) ≡ front ++ caller
-    lead-yes = ap (λ (n : ℕ). take n seen) (sym lead-has) ∙ lead-parts .0 ∙ ap (λ (b : Bool). front ++ callers b) t
+    lead-yes = ap (λ (n : ℕ). take n seen) (sym lead-has) ∙ lead-here .0 ∙ ap (λ (b : Bool). front ++ callers b) t
 
   module _ (t : hasCallers (form .kind) ≡ false) where
-    pub lead-not : callerEnd (form .kind) ≡ 33
+    pub lead-not : ce ≡ 33
     lead-not = rw t
 
     no-caller : r .caller ≡ 0
@@ -205,19 +280,25 @@ module _ (form : Form) {s : Bytes} {base : ℕ} {x : Seen} {r : Rec} (w : SeenUn
     pub lead-no : take 33 (drop 0 seen) ++ (0 ∷ []) ≡ front ++ caller
     unfolding beC fixC
     lead-no =
-        ap (λ (y : Bytes). y ++ (0 ∷ [])) (ap (λ (n : ℕ). take n seen) (sym lead-not) ∙ lead-parts .0 ∙ ap (λ (b : Bool). front ++ callers b) t)
+        ap (λ (y : Bytes). y ++ (0 ∷ [])) (ap (λ (n : ℕ). take n seen) (sym lead-not) ∙ lead-here .0 ∙ ap (λ (b : Bool). front ++ callers b) t)
         ∙ append-assoc front [] (0 ∷ []) ∙ ap (λ (c : ℕ). front ++ codec.be 1 c) (sym no-caller)
 
-  -- a kind that has read ids has the same bytes
-  module _ (t : hasReads (form .kind) ≡ true) where
+  reads-same : hasReads (form .kind) ≡ true → back newest ≡ back (form .kind)
+  reads-same t = sym (ap (λ (b : Bool). recMid r ++ (maybe [] (λ h. sinceC b idsC [] .enc (h .reads)) (r .body) ++ signedEnc (r .body))) t)
+
+  -- a kind that has priorities of 64 bits has the same bytes
+  module _ (t : hasWide (form .kind) ≡ true) where
     callers-too : hasCallers (form .kind) ≡ true
-    callers-too = let h = leb-true 5 (form .kind) t in le-leb 4 (form .kind) (omega arith)
+    callers-too = let h = leb-true 6 (form .kind) t in le-leb 4 (form .kind) (omega arith)
+
+    reads-too : hasReads (form .kind) ≡ true
+    reads-too = let h = leb-true 6 (form .kind) t in le-leb 5 (form .kind) (omega arith)
 
     same-enc : recK newest .enc r ≡ recK (form .kind) .enc r
     same-enc =
-        rec-enc newest r
-        ∙ sym (rec-enc (form .kind) r ∙ ap (λ (b : Bool). front ++ (callers b ++ tail)) callers-too
-        ∙ ap (λ (b : Bool). front ++ (caller ++ (recMid r ++ (maybe [] (λ h. sinceC b idsC [] .enc (h .reads)) (r .body) ++ signedEnc (r .body))))) t)
+        rec-enc newest r ∙ ap (λ (y : Bytes). front ++ (caller ++ (recFore r ++ (prio newest ++ y)))) (reads-same reads-too)
+        ∙ sym (rec-enc (form .kind) r ∙ ap (λ (b : Bool). front ++ (callers b ++ tail (form .kind))) callers-too
+        ∙ ap (λ (b : Bool). front ++ (caller ++ (recFore r ++ (pickC b (beC 8) narrowC .enc (r .terms .priority) ++ back (form .kind))))) t)
 
     pub rec-same : recIn areaForm .enc r ≡ take (x .size) seen
     unfolding formC
@@ -227,73 +308,113 @@ module _ (form : Form) {s : Bytes} {base : ℕ} {x : Seen} {r : Rec} (w : SeenUn
     unfolding formC
     same-long = ap length same-enc ∙ f .size
 
-  -- one that has none has no bytes for them
-  module _ (t : hasReads (form .kind) ≡ false) where
-    none-enc : (o : Option Held) → readsEnc (form .kind) o ≡ []
-    unfolding fixC
-    none-enc none = refl
-    none-enc (some h) = ap (λ (b : Bool). sinceC b idsC [] .enc (h .reads)) t
+  -- one that has 32 bits has 4 bytes for them
+  module _ (t : hasWide (form .kind) ≡ false) where
+    narrow-long : length (prio (form .kind)) ≡ 4
+    narrow-long = ap (λ (b : Bool). length (pickC b (beC 8) narrowC .enc (r .terms .priority))) t ∙ ap length (narrow-enc (r .terms .priority)) ∙ be-size 4 (low32 (r .terms .priority))
 
-    zero-enc : (o : Option Held) → readsSaid? (form .kind) o ≡ true → readsEnc newest o ≡ cond (isSome o) (0 ∷ 0 ∷ []) []
-    zero-enc none e = refl
-    zero-enc (some h) e = let z : isEmpty? (h .reads) ≡ true = rw t at e in empty (h .reads) z
+    the-back : (take (x .size - (pr + 4)) (drop (pr + 4) seen) ≡ back (form .kind)) × (pr + 4 + length (back (form .kind)) ≡ x .size)
+    the-back = back-here 4 narrow-long
+
+    the-priority : codec.be 8 (r .terms .priority) ≡ be 8 (x .facts .priority)
+    unfolding factsOf
+    the-priority = ap (codec.be 8) (sym (ap (λ (y : Facts). y .priority) (w .facts))) ∙ sym (be-same 8 (x .facts .priority) (w .small .priority))
+
+    -- its lead, what stands before the priority, this, and what stands behind it
+    pub narrow-enc-is : recIn areaForm .enc r ≡ (((front ++ caller) ++ take (pr - ce) (drop ce seen)) ++ be 8 (x .facts .priority)) ++ back newest
+    unfolding formC beC
+    narrow-enc-is = rec-enc newest r ∙ join front caller (recFore r) (codec.be 8 (r .terms .priority)) (back newest) (sym (fore-here .0)) the-priority
       where
-        empty : (l : List Id) → isEmpty? l ≡ true → idsC .enc l ≡ 0 ∷ 0 ∷ []
-        empty l z = go l z
-          where
-            go : (l : List Id) → isEmpty? l ≡ true → idsC .enc l ≡ 0 ∷ 0 ∷ []
-            go [] z = none-ids
-            go (i ∷ l) z = false-true z
+        join : (a b m₀ p₀ z : Bytes) {m′ p′ : Bytes} → m₀ ≡ m′ → p₀ ≡ p′ → a ++ (b ++ (m₀ ++ (p₀ ++ z))) ≡ (((a ++ b) ++ m′) ++ p′) ++ z
+        join a b m₀ p₀ z e g = rw (e, g) (sym (simp append-assoc))
 
-    unread-enc : readsEnc newest (r .body) ≡ cond (x .facts .holder) (0 ∷ 0 ∷ []) []
-    unfolding recK mapC pairC factsOf
-    unread-enc = zero-enc (r .body) (body-said (form .kind) (r .body) (f .fine .1 .1 .1 .1 .1 .1 .1 .1 .1)) ∙ ap (λ (b : Bool). cond b (0 ∷ 0 ∷ []) []) (sym (ap (λ (y : Facts). y .holder) (w .facts)))
+    pub narrow-in : (ce ≤ pr) × (pr + 4 ≤ x .size) × (x .size ≤ length seen)
+    narrow-in = (fore-here .1, omega (arith, the-back .1), f .within)
 
-    older-parts : (take (x .reads - callerEnd (form .kind)) (drop (callerEnd (form .kind)) seen) ≡ recMid r) × (take (x .size - x .reads) (drop (x .reads) seen) ≡ signedEnc (r .body)) × (callerEnd (form .kind) ≤ x .reads)
-    older-parts =
-        let e = callerEnd (form .kind) in
-        let a : take (x .size - e) (drop e seen) ≡ recMid r ++ signedEnc (r .body) = lead-parts .1 ∙ ap (λ (d : Bytes). recMid r ++ (d ++ signedEnc (r .body))) (none-enc (r .body)) in
-        let h = f .within in
-        let k = lead-parts .2 in
-        let l = length-drop e seen in
-        let m : length (recMid r) + length (signedEnc (r .body)) ≡ x .size - e = sym (length-append (recMid r) (signedEnc (r .body))) ∙ ap length (sym a) ∙ length-take-le (x .size - e) (drop e seen) (omega arith) in
-        let g = w .tail t in
-        let p = parted (drop e seen) (recMid r) (signedEnc (r .body)) (x .size - e) (x .reads - e) a (omega arith) (omega arith) in
-        let n : x .size - e - (x .reads - e) ≡ x .size - x .reads = omega arith in
-        let o : e + (x .reads - e) ≡ x .reads = omega arith in
-        (p .0, ap (λ (y : Bytes). take (x .size - x .reads) y) (ap (λ (i : ℕ). drop i seen) (sym o) ∙ sym (drop-drop (x .reads - e) e seen)) ∙ ap (λ (i : ℕ). take i (drop (x .reads - e) (drop e seen))) (sym n) ∙ p .1, omega arith)
-
-    pub older-in : (callerEnd (form .kind) ≤ x .reads) × (x .reads ≤ x .size) × (x .size ≤ length seen)
-    older-in = let g = w .tail t in (older-parts .2, omega arith, f .within)
-
-    pub rec-older : recIn areaForm .enc r ≡ (((front ++ caller) ++ take (x .reads - callerEnd (form .kind)) (drop (callerEnd (form .kind)) seen)) ++ cond (x .facts .holder) (0 ∷ 0 ∷ []) []) ++ take (x .size - x .reads) (drop (x .reads) seen)
-    unfolding formC
-    rec-older =
-        rec-enc newest r ∙ ap (λ (d : Bytes). front ++ (caller ++ (recMid r ++ (d ++ signedEnc (r .body))))) unread-enc
-        ∙ two (sym (older-parts .0)) (sym (older-parts .1))
-        ∙ join front caller (take (x .reads - callerEnd (form .kind)) (drop (callerEnd (form .kind)) seen)) (cond (x .facts .holder) (0 ∷ 0 ∷ []) []) (take (x .size - x .reads) (drop (x .reads) seen))
-      where
-        two : {m m′ z z′ : Bytes} → m ≡ m′ → z ≡ z′ → front ++ (caller ++ (m ++ (cond (x .facts .holder) (0 ∷ 0 ∷ []) [] ++ z))) ≡ front ++ (caller ++ (m′ ++ (cond (x .facts .holder) (0 ∷ 0 ∷ []) [] ++ z′)))
-        two p q = rw (p, q)
-
-        join : (a b m d z : Bytes) → a ++ (b ++ (m ++ (d ++ z))) ≡ (((a ++ b) ++ m) ++ d) ++ z
-        join a b m d z = sym (simp append-assoc)
-
-    pub older-long : length (recIn areaForm .enc r) ≡ 34 + (x .reads - callerEnd (form .kind)) + cond (x .facts .holder) 2 0 + (x .size - x .reads)
-    older-long =
-        let a = length-take-le (x .reads - callerEnd (form .kind)) (drop (callerEnd (form .kind)) seen) (omega (arith, older-in .0, older-in .1, older-in .2, length-drop (callerEnd (form .kind)) seen)) in
-        let b = length-take-le (x .size - x .reads) (drop (x .reads) seen) (omega (arith, older-in .1, older-in .2, length-drop (x .reads) seen)) in
-        ap length rec-older ∙ sizes front caller _ _ _ ∙ total front-long caller-long a (two (x .facts .holder)) b
+    pub narrow-size : length (recIn areaForm .enc r) ≡ 34 + (pr - ce) + 8 + length (back newest)
+    narrow-size =
+        let a = length-take-le (pr - ce) (drop ce seen) (omega (arith, narrow-in .0, narrow-in .1, narrow-in .2, length-drop ce seen)) in
+        let b = front-long in
+        let c = caller-long in
+        let d : length (be 8 (x .facts .priority)) ≡ 8 = refl in
+        ap length narrow-enc-is ∙ sizes front caller (take (pr - ce) (drop ce seen)) (be 8 (x .facts .priority)) (back newest) ∙ omega arith
       where
         sizes : (a b m d z : Bytes) → length ((((a ++ b) ++ m) ++ d) ++ z) ≡ length a + length b + length m + length d + length z
         sizes a b m d z = simp length-append
 
-        two : (b : Bool) → length {A = ℕ} (cond b (0 ∷ 0 ∷ []) []) ≡ cond b 2 0
-        two true = refl
-        two false = refl
+    -- with read ids what stands behind it is the same
+    module _ (u : hasReads (form .kind) ≡ true) where
+      pub back-same : recBack r ≡ take (x .size - (pr + 4)) (drop (pr + 4) seen)
+      back-same = reads-same u ∙ sym (the-back .0)
 
-        total : {a b m d z m′ d′ z′ : ℕ} → a ≡ 33 → b ≡ 1 → m ≡ m′ → d ≡ d′ → z ≡ z′ → a + b + m + d + z ≡ 34 + m′ + d′ + z′
-        total e f g h i = omega arith
+      pub back-same-long : length (recBack r) ≡ x .size - (pr + 4)
+      back-same-long = ap length (reads-same u) ∙ omega (arith, the-back .1)
+
+    -- without them there are no bytes for them
+    module _ (u : hasReads (form .kind) ≡ false) where
+      none-enc : (o : Option Held) → readsEnc (form .kind) o ≡ []
+      unfolding fixC
+      none-enc none = refl
+      none-enc (some h) = ap (λ (b : Bool). sinceC b idsC [] .enc (h .reads)) u
+
+      zero-enc : (o : Option Held) → readsSaid? (form .kind) o ≡ true → readsEnc newest o ≡ cond (isSome o) (0 ∷ 0 ∷ []) []
+      zero-enc none e = refl
+      zero-enc (some h) e = let z : isEmpty? (h .reads) ≡ true = rw u at e in empty-ids (h .reads) z
+
+      unread-enc : readsEnc newest (r .body) ≡ cond (x .facts .holder) (0 ∷ 0 ∷ []) []
+      unfolding recK mapC pairC factsOf
+      unread-enc = zero-enc (r .body) (body-said (form .kind) (r .body) (f .fine .1 .1 .1 .1 .1 .1 .1 .1 .1)) ∙ ap (λ (b : Bool). cond b (0 ∷ 0 ∷ []) []) (sym (ap (λ (y : Facts). y .holder) (w .facts)))
+
+      two-parts : take (x .size - (pr + 4)) (drop (pr + 4) seen) ≡ recMid r ++ signedEnc (r .body)
+      two-parts = the-back .0 ∙ ap (λ (d : Bytes). recMid r ++ (d ++ signedEnc (r .body))) (none-enc (r .body))
+
+      two-long : pr + 4 + length (recMid r) ≡ x .reads
+      two-long =
+          let a = ap length (ap (λ (d : Bytes). recMid r ++ (d ++ signedEnc (r .body))) (none-enc (r .body))) in
+          omega (arith, the-back .1, a, length-append (recMid r) (signedEnc (r .body)), w .tail u)
+
+      mid-parts : (take (x .reads - (pr + 4)) (drop (pr + 4) seen) ≡ recMid r) × (take (x .size - x .reads) (drop (x .reads) seen) ≡ signedEnc (r .body))
+      mid-parts =
+          let l = two-long in
+          let g = w .tail u in
+          let m = x .size - (pr + 4) in
+          let v = drop (pr + 4) seen in
+          let h = narrow-in in
+          let k = length-drop (pr + 4) seen in
+          let a = slice v [] (recMid r) (signedEnc (r .body)) m 0 (x .reads - (pr + 4)) two-parts refl (omega arith) (omega arith) in
+          let b = slice-end v (recMid r) (signedEnc (r .body)) m (x .reads - (pr + 4)) two-parts (omega arith) (omega arith) in
+          let c : m - (x .reads - (pr + 4)) ≡ x .size - x .reads = omega arith in
+          let o : pr + 4 + (x .reads - (pr + 4)) ≡ x .reads = omega arith in
+          let d : drop (x .reads - (pr + 4)) v ≡ drop (x .reads) seen = drop-drop (x .reads - (pr + 4)) (pr + 4) seen ∙ ap (λ (i : ℕ). drop i seen) o in
+          (a .0, ap (λ (y : Bytes). take (x .size - x .reads) y) (sym d) ∙ ap (λ (i : ℕ). take i (drop (x .reads - (pr + 4)) v)) (sym c) ∙ b .0)
+
+      pub older-in : (pr + 4 ≤ x .reads) × (x .reads ≤ x .size) × (x .size ≤ length seen)
+      older-in = let g = w .tail u in let l = two-long in (omega arith, omega arith, f .within)
+
+      pub back-older : recBack r ≡ (take (x .reads - (pr + 4)) (drop (pr + 4) seen) ++ cond (x .facts .holder) (0 ∷ 0 ∷ []) []) ++ take (x .size - x .reads) (drop (x .reads) seen)
+      back-older =
+          ap (λ (d : Bytes). recMid r ++ (d ++ signedEnc (r .body))) unread-enc
+          ∙ join (cond (x .facts .holder) (0 ∷ 0 ∷ []) []) (sym (mid-parts .0)) (sym (mid-parts .1))
+        where
+          join : {m m′ z z′ : Bytes} (d : Bytes) → m ≡ m′ → z ≡ z′ → m ++ (d ++ z) ≡ (m′ ++ d) ++ z′
+          join d e g = rw (e, g) (sym (simp append-assoc))
+
+      pub older-long : length (recBack r) ≡ x .reads - (pr + 4) + cond (x .facts .holder) 2 0 + (x .size - x .reads)
+      older-long =
+          let o = older-in in
+          let a = length-take-le (x .reads - (pr + 4)) (drop (pr + 4) seen) (omega (arith, length-drop (pr + 4) seen)) in
+          let b = length-take-le (x .size - x .reads) (drop (x .reads) seen) (omega (arith, length-drop (x .reads) seen)) in
+          ap length back-older ∙ sizes (take (x .reads - (pr + 4)) (drop (pr + 4) seen)) (cond (x .facts .holder) (0 ∷ 0 ∷ []) []) (take (x .size - x .reads) (drop (x .reads) seen)) ∙ total a (two (x .facts .holder)) b
+        where
+          sizes : (m d z : Bytes) → length ((m ++ d) ++ z) ≡ length m + length d + length z
+          sizes m d z = simp length-append
+
+          two : (b : Bool) → length {A = ℕ} (cond b (0 ∷ 0 ∷ []) []) ≡ cond b 2 0
+          two true = refl
+          two false = refl
+
+          total : {m d z m′ d′ z′ : ℕ} → m ≡ m′ → d ≡ d′ → z ≡ z′ → m + d + z ≡ m′ + d′ + z′
+          total g h i = omega arith
 
 -- a header's: its kind, its limits, and what stands behind them
 module _ (form : Form) {s : Bytes} {base : ℕ} {x : HeadR} {h : Head} (w : HeadUnder (form .kind) (view (form .hex) s base) x h) (f : Framed (headK (form .kind)) (form .hex) s base (x .ok) (x .size) h) where
@@ -306,7 +427,7 @@ module _ (form : Form) {s : Bytes} {base : ℕ} {x : HeadR} {h : Head} (w : Head
       let m : drop (9 + n) v ≡ (beC 4 .enc (h .cursor) ++ optC idC .enc (h .tip)) ++ drop (x .after) v = ap (λ (j : ℕ). drop j v) (sym (w .marksAt)) ∙ w .marks in
       ap (λ (j : ℕ). drop j v) e ∙ w .revisionAt ∙ ap (λ (y : Bytes). beC 8 .enc (h .revision) ++ y) (m ∙ ap (λ (y : Bytes). (beC 4 .enc (h .cursor) ++ optC idC .enc (h .tip)) ++ y) (w .counterAt)) ∙ simp append-assoc
 
-  tail-parts : (take (x .size - (x .marks - 8)) (drop (x .marks - 8) (view (form .hex) s base)) ≡ headTail h) × (length (headTail h) ≡ x .size - (x .marks - 8))
+  pub tail-parts : (take (x .size - (x .marks - 8)) (drop (x .marks - 8) (view (form .hex) s base)) ≡ headTail h) × (length (headTail h) ≡ x .size - (x .marks - 8))
   tail-parts = between (view (form .hex) s base) (headTail h) (x .marks - 8) (x .size) tail-here (omega (arith, w .marksAt, w .up, w .sizeAt)) (w .end)
 
   pub head-bytes : headIn areaForm .enc h ≡ ((newest ∷ []) ++ limitsC .enc (limitsIn (x .limits))) ++ take (x .size - (x .marks - 8)) (drop (x .marks - 8) (view (form .hex) s base))
@@ -423,7 +544,7 @@ pub over-splice : (bs d : Bytes) → length bs ≤ length d → splice d 0 bs �
 unfolding over
 over-splice bs d h = splice-is d 0 bs (omega arith) ∙ rw zero-add
 
-put-over : {d d′ bs : Bytes} {n r : ℕ} → Put d 0 bs n r d′ → length bs ≤ length d → d′ ≡ over bs d
+pub put-over : {d d′ bs : Bytes} {n r : ℕ} → Put d 0 bs n r d′ → length bs ≤ length d → d′ ≡ over bs d
 put-over {d} {d′} {bs} p h = p .is ∙ over-splice bs d h
 
 module _ {s : Bytes} {a : Area} (w : AreaIs s a) (out : Bytes) (old : ℕ) where

@@ -1,2 +1,3 @@
 pub mod paper
 pub mod Texts
+pub mod WayBack

@@ -2,11 +2,13 @@
 use queue::area::Open;
 use queue::forms::after_in;
 use queue::frame::CALLERS;
+use queue::frame::Facts;
 use queue::frame::Form;
 use queue::frame::HeadR;
 use queue::frame::NEWEST;
 use queue::frame::READS;
 use queue::frame::Seen;
+use queue::frame::WIDE;
 use queue::frame::rec_at;
 use queue::frame::rec_in;
 use queue::head::put_limits;
@@ -25,7 +27,7 @@ ghost use Rattle.queue.specs.Reads.{whole, listAt};
 ghost use Rattle.queue.specs.Splice.{Put};
 ghost use Rattle.queue.specs.paper.Area.{line};
 ghost use Rattle.queue.specs.paper.Kinds.{newest};
-ghost use Rattle.image.specs.Texts.{HeadRoom, HeadPut, callerEnd, RecRoom, LeadPut, RecPut, StoreRoom, StorePut};
+ghost use Rattle.image.specs.Texts.{HeadRoom, HeadPut, callerEnd, priorityFrom, RecRoom, LeadPut, BackRoom, BackPut, RecPut, StoreRoom, StorePut};
 
 // The frame of n bytes at base as a line.
 fn put_line(s: &[u8], base: usize, n: usize, dst: &mut [u8], at: usize) -> usize
@@ -105,20 +107,60 @@ fn put_unread(holder: bool, dst: &mut [u8], at: usize) -> usize
     at
 }
 
-// The record that was read at base, under the newest kind: the older ones have no read ids, and some no caller.
+// n where there is something, else 0.
+pub fn when(has: bool, n: usize) -> usize
+    ensures { λ r. ⌜ r ≡ cond has n 0 ⌝ }
+{
+    if has { n } else { 0 }
+}
+
+// Where the priority stands in a record of that kind.
+pub fn priority_from(kind: u8, f: Facts) -> usize
+    ensures { λ r. ⌜ r ≡ priorityFrom kind f ⌝ }
+{
+    let a = caller_end(kind);
+    let b = when(f.timed, 8);
+    let c = when(f.heighted, 4);
+    a + 12 + b + c
+}
+
+// What stands behind the priority, from `from` on: the older kinds have no read ids.
+fn put_back(
+    s: &[u8],
+    form: Form,
+    base: usize,
+    x: Seen,
+    from: usize,
+    dst: &mut [u8],
+    at: usize,
+) -> usize
+    requires { ⌜ BackRoom form (now s) base x from at (length (now dst)) ⌝ }
+    ensures { λ r. ⌜ BackPut form (now (s .entry)) base x from (now (dst .entry)) at r (now (dst .exit)) ⌝ }
+{
+    if READS <= form.kind {
+        return copy_view(s, form.hex, base, from, x.size - from, dst, at);
+    }
+    let f = x.facts;
+    let a = copy_view(s, form.hex, base, from, x.reads - from, dst, at);
+    let b = put_unread(f.holder, dst, a);
+    copy_view(s, form.hex, base, x.reads, x.size - x.reads, dst, b)
+}
+
+// The record that was read at base, under the newest kind: the older ones have 4 bytes of priority, which become 8.
 fn put_rec(s: &[u8], form: Form, base: usize, x: Seen, dst: &mut [u8], at: usize) -> usize
     requires { ⌜ RecRoom form (now s) base x at (length (now dst)) ⌝ }
     ensures { λ r. ⌜ RecPut form (now (s .entry)) base x (now (dst .entry)) at r (now (dst .exit)) ⌝ }
 {
-    if READS <= form.kind {
+    if WIDE <= form.kind {
         return copy_view(s, form.hex, base, 0, x.size, dst, at);
     }
     let f = x.facts;
     let from = caller_end(form.kind);
+    let p = priority_from(form.kind, f);
     let a = put_lead(s, form, base, x, dst, at);
-    let b = copy_view(s, form.hex, base, from, x.reads - from, dst, a);
-    let c = put_unread(f.holder, dst, b);
-    copy_view(s, form.hex, base, x.reads, x.size - x.reads, dst, c)
+    let b = copy_view(s, form.hex, base, from, p - from, dst, a);
+    let c = put_be(dst, b, 8, f.priority);
+    put_back(s, form, base, x, p + 4, dst, c)
 }
 
 // The n records at `at` under the newest kind.

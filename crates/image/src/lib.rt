@@ -1,10 +1,14 @@
 // The stored image of a queue: lines of hexadecimal, one frame a line.
+use back::old_len;
+use back::put_old;
+use back::said;
 use frames::put_image;
 use frames::put_queue;
 use queue::Answer;
 use queue::Kind;
 use queue::area::Area;
 use queue::area::area_at;
+use queue::frame::NEWEST;
 use queue::limits::Limits;
 use queue::put::copy_part;
 use queue::put::fill_zero;
@@ -18,8 +22,9 @@ ghost use Rattle.queue.specs.Splice.{Put};
 ghost use Rattle.queue.specs.Checked.{written};
 ghost use Rattle.queue.specs.Opens.{limits};
 ghost use Rattle.image.specs.Texts.{AreaHeld, ImageLen, AreaRoom, AreaPut};
-ghost use Rattle.image.specs.paper.Image.{imageOf, openOf, needOf, imageLimitsOf};
+ghost use Rattle.image.specs.paper.Image.{imageOf, openOf, needOf, imageLimitsOf, convertOf};
 
+pub mod back;
 pub mod frames;
 pub mod text;
 
@@ -135,5 +140,30 @@ pub fn image_limits(
     *k = l.k;
     put_shares(v, shares);
     *need = x.need as u64;
+    Answer::Done(Kind::Nothing)
+}
+
+// From an image of the newest kind to the image of kind 01 of the same queue. All that can refuse comes before the first byte is written.
+pub fn convert(text: &[u8], out: &mut [u8], size: &mut u64) -> Answer
+    ensures { λ r. ⌜ (r, (now (out .exit), now (size .exit))) ≡ convertOf (now (text .entry)) (now (out .entry)) (now (size .entry)) ⌝ }
+{
+    let t = text_at(text);
+    if !t.ok {
+        return Answer::Refused(16);
+    }
+    let form = t.form;
+    if form.kind != NEWEST {
+        return Answer::Refused(16);
+    }
+    let x = t.open;
+    if !said(text, x) {
+        return Answer::Refused(22);
+    }
+    let n = old_len(text.len(), x);
+    if out.len() < n {
+        return Answer::Refused(4);
+    }
+    put_old(text, x, out);
+    *size = n as u64;
     Answer::Done(Kind::Nothing)
 }

@@ -13,7 +13,7 @@ use Rattle.queue.specs.paper.Lists.{map}
 use Rattle.queue.specs.paper.Ids.{cmpL, rise?}
 use Rattle.queue.specs.paper.Kinds.{firstShare}
 use Rattle.queue.specs.paper.Sound.{inRange, sharesRight?, limitsRight?, need, used?, clash?, read?, crossed?}
-use Rattle.queue.specs.paper.Area.{termsBytes, placeBytes}
+use Rattle.queue.specs.paper.Area.{termsUnder, placeBytes}
 use Rattle.queue.specs.paper.Changing.{committed, moved, newRec, admit, finished, finishThose, forget, cancel, reconcile, touch, releases, touchedRecs, toRelease}
 use Rattle.queue.specs.paper.Calls.{number, items, entryBytes, idsBytes, releasedBytes, Call, admitting, cancelling, reconciling, work}
 use Rattle.pokerbox.specs.paper.Machine.{kept, failed, cutBefore, cutAfter, Lent, Step, call, cut, Told, run, Plain, restart, plainStep, World, worldStep}
@@ -104,7 +104,7 @@ all = (map numbers (run (plainStep m) start steps .0), map shown (take 4 steps �
 -- After four steps the bound is reached, 131 to 100. After the cut before the rename the record is pending still, at 100; at the
 -- end it is cancelled, and nothing is claimed of the cursor.
 plain-says : all ≡ (wanted, ((true, (131, 100)), 0 ∷ []) ∷ ((false, (100, 100)), 0 ∷ []) ∷ ((false, (132, 100)), 4 ∷ []) ∷ [])
-unfolding plainStep work admit cancel reconcile need clash? read? crossed? items used? entryBytes newRec termsBytes placeBytes committed cmpL rise? touchedRecs toRelease releases touch releasedBytes idsBytes moved finished finishThose forget
+unfolding plainStep work admit cancel reconcile need clash? read? crossed? items used? entryBytes newRec termsUnder placeBytes committed cmpL rise? touchedRecs toRelease releases touch releasedBytes idsBytes moved finished finishThose forget
 plain-says = refl
 
 -- ---- the claim of this list

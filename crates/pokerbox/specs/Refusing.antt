@@ -20,12 +20,13 @@ use Rattle.queue.specs.Reconciles.{reconcileTo}
 use Rattle.queue.specs.paper.Records.{Bytes, Id, Limits, Held, Rec, Queue}
 use Rattle.queue.specs.paper.Lists.{isSome, maybe, any?, total, count, find, isEmpty?}
 use Rattle.queue.specs.paper.Sound.{inRange, sharesRight?, need, holder?, pending?, mined?, labelLen, clash?, crossed?}
-use Rattle.queue.specs.paper.Area.{imageBytes, over}
+use Rattle.queue.specs.paper.Kinds.{oldest, says?}
+use Rattle.queue.specs.paper.Area.{imageUnder, imageBytes, over}
 use Rattle.queue.specs.paper.Changing.{Out, refused, done, top, topHeight, named?, reached?, Admission, pendings, pendingBytes, pendingsOf, shareOf, admitNew, admit, cancel, due?, expire, Reconciling, touch, reconcile, listed?, reopen, setCursor, ownOf, touchedRecs, toRelease}
 use Rattle.queue.specs.paper.Calls.{id?, entryBytes, idsBytes, releasedBytes, nothingBytes, items, given, Call, admitting, cancelling, expiring, reconciling, reopening, settingCursor, AdmitArgs, admission, ReconcileArgs, reconciliation, shape?, overK?, Worked, worked, rules, work, nextArea, onLent, callOf, limitsOf, freshOf, soundOf, settleShape?, settleOf, readOf, numberOf, lookUp, entryOf, signedPart, signedBytesOf}
 use Rattle.queue.specs.paper.Fees.{bestFees, candidates, sizeOf, feeOf, bestBytes, searchOf, budget?, bestFeesOf}
-use Rattle.image.specs.paper.Image.{imageOf, openOf, Five, needOf, imageLimitsOf}
-use Rattle.pokerbox.specs.paper.Refusals.{Checks, firstOf, refusal, Answers, unsound?, on, answer, known?, ruleChecks, callChecks, settleChecks, freshChecks, feesChecks, Demand1}
+use Rattle.image.specs.paper.Image.{imageOf, openOf, Five, needOf, imageLimitsOf, readNewest, convertOf}
+use Rattle.pokerbox.specs.paper.Refusals.{Checks, firstOf, refusal, Answers, unsound?, on, answer, known?, ruleChecks, callChecks, settleChecks, freshChecks, feesChecks, convertChecks, Demand1}
 
 refused-17 : {n : ℕ} → Refused 17 ≡ Refused n → n ≡ 17
 refused-17 {n} e = let z : _≡_ {A = ℕ} 17 n = cc in sym z
@@ -258,6 +259,16 @@ limits-answers text old shares = go (readImage text) refl
     go none e = rw e (no 16 (old, shares) _ refl)
     go (some q) e = cases (ltb (length shares) 64) (λ t. rw (e, t) (no 4 (old, shares) _ refl)) (λ t. rw (e, t) (yes Nothing _ (old, shares) _ refl))
 
+convert-answers : (text out : Bytes) (old : ℕ) → Answers (convertOf text out old) (out, old) (convertChecks text (length out))
+unfolding convertOf
+convert-answers text out old = go (readNewest text) refl
+  where
+    go : (o : Option Queue) → readNewest text ≡ o → Answers (convertOf text out old) (out, old) (convertChecks text (length out))
+    go none e = rw e (no 16 (out, old) _ refl)
+    go (some q) e = cases (says? oldest q)
+        (λ s. cases (ltb (length out) (length (imageUnder oldest q))) (λ t. rw (e, s, t) (no 4 (out, old) _ refl)) (λ t. rw (e, s, t) (yes Nothing _ (out, old) _ refl)))
+        (λ s. rw (e, s) (no 22 (out, old) _ refl))
+
 read-answers : (f : Queue → Bytes) (area out : Bytes) → Answers (readOf f area out) out (on area λ q. (4, ltb (length out) (length (f q))) ∷ [])
 unfolding readOf
 read-answers f area out = go (readArea area) refl
@@ -327,6 +338,7 @@ demand-1 = record {
   opening = open-answers;
   need = need-answers;
   limits = limits-answers;
+  converting = convert-answers;
   reading = read-answers;
   number = number-answers;
   entry = entry-answers;

@@ -12,7 +12,7 @@ use Rattle.queue.specs.paper.Lists.{map}
 use Rattle.queue.specs.paper.Ids.{cmpL, rise?}
 use Rattle.queue.specs.paper.Kinds.{firstShare}
 use Rattle.queue.specs.paper.Sound.{inRange, sharesRight?, limitsRight?, need, used?, clash?, read?, crossed?}
-use Rattle.queue.specs.paper.Area.{termsBytes, placeBytes, beVal}
+use Rattle.queue.specs.paper.Area.{termsUnder, placeBytes, beVal}
 use Rattle.queue.specs.paper.Changing.{committed, moved, newRec, admit, finished, finishThose, forget, cancel, due?, expire, confirm, touch, touchedRecs, releases, toRelease, reconcile, reopened, reopen}
 use Rattle.queue.specs.paper.Reading.{selectionAt}
 use Rattle.queue.specs.paper.Calls.{items, entryBytes, idsBytes, releasedBytes, Call, admitting, cancelling, expiring, reconciling, reopening, work, toldOut, selectionAtOf}
@@ -137,7 +137,7 @@ wanted =
 -- rename promises nothing, one cut after it does; an admission ends it once its rename has happened; a cancellation of kind 0
 -- is none.
 pub lists-say : map shown lists ≡ wanted
-unfolding plainStep work admit cancel expire due? reconcile reopen reopened confirm need clash? read? crossed? items used? entryBytes newRec termsBytes placeBytes beVal committed cmpL rise? touchedRecs toRelease releases touch releasedBytes idsBytes moved finished finishThose forget selectionAt
+unfolding plainStep work admit cancel expire due? reconcile reopen reopened confirm need clash? read? crossed? items used? entryBytes newRec termsUnder placeBytes beVal committed cmpL rise? touchedRecs toRelease releases touch releasedBytes idsBytes moved finished finishThose forget selectionAt
 lists-say = refl
 
 -- ---- the theorems on two of them
@@ -183,7 +183,7 @@ area xs = run (worldStep m) (world m (replicate 3472 0) none) xs .1 .area
 
 -- cancelled in the second step, and not admitted since
 pub again-unselected : NotSelected (area confirmedAgain) (after m confirmedAgain .queue) (id 1)
-unfolding WithdrawnStays plainStep work admit cancel reconcile reopen reopened confirm need clash? read? crossed? items used? entryBytes newRec termsBytes placeBytes beVal committed cmpL rise? touchedRecs toRelease releases touch releasedBytes idsBytes moved finished finishThose forget
+unfolding WithdrawnStays plainStep work admit cancel reconcile reopen reopened confirm need clash? read? crossed? items used? entryBytes newRec termsUnder placeBytes beVal committed cmpL rise? touchedRecs toRelease releases touch releasedBytes idsBytes moved finished finishThose forget
 again-unselected =
     withdrawn-stays-withdrawn m (replicate 3472 0) none confirmedAgain range other-room (roomy m confirmedAgain range again-ok)
     (call (enters 1) lent kept ∷ []) (call cancels lent kept) (call (block 100) lent kept ∷ call (enters 1) lent kept ∷ call (reopening (id 1)) lent kept ∷ []) (id 1) refl refl (refl, (refl, (refl, tt)))
@@ -193,10 +193,10 @@ expire-ok = (roomed (enters-ok 1 (omega arith)), (roomed (enters-ok 2 (omega ari
 
 -- the one that was forgotten in the same call
 pub forgotten-unselected : NotSelected (area bothExpire) (after m bothExpire .queue) (id 1)
-unfolding WithdrawnUnselected plainStep work admit expire due? need clash? read? crossed? items used? entryBytes newRec termsBytes placeBytes committed cmpL rise? idsBytes moved finished finishThose forget
+unfolding WithdrawnUnselected plainStep work admit expire due? need clash? read? crossed? items used? entryBytes newRec termsUnder placeBytes committed cmpL rise? idsBytes moved finished finishThose forget
 forgotten-unselected = withdrawn-unselected m (replicate 3472 0) none bothExpire range other-room (roomy m bothExpire range expire-ok) (id 1) refl
 
 -- so on bytes: whatever the time and height, the selection answers no ids
 pub bytes-say : (now height : ℕ) (out : Bytes) → selectionAtOf (area confirmedAgain) now height out ≡ toldOut (0 ∷ 0 ∷ 0 ∷ 0 ∷ []) out
-unfolding plainStep work admit cancel reconcile reopen reopened confirm need clash? read? crossed? items used? entryBytes newRec termsBytes placeBytes beVal committed cmpL rise? touchedRecs toRelease releases touch releasedBytes idsBytes moved finished finishThose forget selectionAt
+unfolding plainStep work admit cancel reconcile reopen reopened confirm need clash? read? crossed? items used? entryBytes newRec termsUnder placeBytes beVal committed cmpL rise? touchedRecs toRelease releases touch releasedBytes idsBytes moved finished finishThose forget selectionAt
 bytes-say now height out = again-unselected .told now height out

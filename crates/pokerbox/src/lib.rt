@@ -40,7 +40,7 @@ ghost use Rattle.queue.specs.paper.Reading.{deadlineDue?, recordIds, guardedIds
 ghost use Rattle.queue.specs.paper.Calls.{number, kindNumber, gives, counted, entryBytes, idsBytes, placedBytes, dueBytes, cursorBytes, admitArgs, reconcileArgs, admitting, cancelling, expiring, reconciling, reopening, settingCursor, callOf, freshOf, soundOf, settleOf, readOf, numberOf, entryOf, signedBytesOf, selectionAtOf};
 ghost use Rattle.queue.specs.paper.Fees.{bestFeesOf};
 ghost use Rattle.queue.specs.paper.Parents.{parentsFirstOf};
-ghost use Rattle.image.specs.paper.Image.{imageOf, openOf, needOf, imageLimitsOf};
+ghost use Rattle.image.specs.paper.Image.{imageOf, openOf, needOf, imageLimitsOf, convertOf};
 
 fn kind_number(k: Kind) -> u64
     ensures { λ r. ⌜ (r ≡ kindNumber k) × (r ≤ 3) ⌝ }
@@ -112,7 +112,7 @@ pub extern "C" fn pokerbox_admit(
     time: u64,
     heightflag: u8,
     height: u32,
-    priority: u32,
+    priority: u64,
     labelflag: u8,
     label: &[u8],
     fee: u64,
@@ -244,6 +244,14 @@ pub extern "C" fn pokerbox_open(text: &[u8], area: &mut [u8]) -> u64
     ensures { λ r. ⌜ (r, now (area .exit)) ≡ gives (openOf (now (text .entry)) (now (area .entry))) ⌝ }
 {
     number(image::open(text, area))
+}
+
+// The image of kind 01 of the queue whose image of kind 06 the text is: into out, its length behind size. 16, 22, 4.
+#[no_mangle]
+pub extern "C" fn pokerbox_convert(text: &[u8], out: &mut [u8], size: &mut u64) -> u64
+    ensures { λ r. ⌜ (r, (now (out .exit), now (size .exit))) ≡ gives (convertOf (now (text .entry)) (now (out .entry)) (now (size .entry))) ⌝ }
+{
+    number(image::convert(text, out, size))
 }
 
 // How many bytes an area needs under these limits. 1.

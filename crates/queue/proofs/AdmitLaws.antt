@@ -36,7 +36,7 @@ use Rattle.queue.specs.paper.Records.{Bytes, Id, Limits, Terms, Held, Re
 use Rattle.queue.specs.paper.Lists.{one, filter, insert, concat, count}
 use Rattle.queue.specs.paper.Ids.{cmpL, below?}
 use Rattle.queue.specs.paper.Sound.{need, holder?, pending?, mined?, content, holders, minedHolders, minedBytes}
-use Rattle.queue.specs.paper.Area.{flagged, idListBytes, termsBytes, placeBytes, heldUnder, heldBytes, recUnder, recBytes, areaBytes, over}
+use Rattle.queue.specs.paper.Area.{flagged, idListBytes, termsUnder, termsBytes, placeBytes, heldUnder, heldBytes, recUnder, recBytes, areaBytes, over}
 use Rattle.queue.specs.paper.Changing.{named?, put, newRec, committed, pendings, pendingBytes, pendingsOf, shareOf}
 use Rattle.queue.specs.paper.Calls.{items, pieces, numbers, given, admission, entryBytes}
 use Rattle.queue.specs.declared.admit.Asked.{Asked}
@@ -92,15 +92,15 @@ eight {a} {a′} {d} {d′} {f} {f′} {g} {g′} {h} {h′} b c e p q r s t = c
 
 pub terms-put : {d d₁ d₂ d₃ d₄ d₅ d₆ d₇ d₈ : Bytes} {at p1 p2 p3 p4 p5 p6 p7 r : ℕ} (x : Asked) (label : Bytes) (n : ℕ) → TermsFit x label n
     → Put d at (be 8 (x .now .0)) 8 p1 d₁ → Put d₁ p1 (flagged (codec.be 8) (given (x .timeflag) (x .time .0))) (optLen (x .timeflag) 8) p2 d₂
-    → Put d₂ p2 (flagged (codec.be 4) (given (x .heightflag) (x .height .0))) (optLen (x .heightflag) 4) p3 d₃ → Put d₃ p3 (be 4 (x .priority)) 4 p4 d₄
+    → Put d₂ p2 (flagged (codec.be 4) (given (x .heightflag) (x .height .0))) (optLen (x .heightflag) 4) p3 d₃ → Put d₃ p3 (be 8 (x .priority)) 8 p4 d₄
     → Put d₄ p4 (flagged (λ y. codec.be 1 (length y) ++ y) (given (x .labelflag) label)) (labelSize (x .labelflag) label) p5 d₅
     → Put d₅ p5 (be 8 (x .fee)) 8 p6 d₆ → Put d₆ p6 (be 4 n) 4 p7 d₇ → Put d₇ p7 (be 8 (x .cost)) 8 r d₈
     → Put d at (termsBytes (newTerms x label n)) (termsLen x label) r d₈
-unfolding termsBytes
+unfolding termsUnder
 terms-put x label n f a b c e g h i j =
     recast (then (then (then (then (then (then (then a b) c) e) g) h) i) j)
     (eight (flagged (codec.be 8) (given (x .timeflag) (x .time .0))) (flagged (codec.be 4) (given (x .heightflag) (x .height .0))) (flagged (λ y. codec.be 1 (length y) ++ y) (given (x .labelflag) label))
-    (be-same 8 (x .now .0) (f .now)) (be-same 4 (x .priority) (f .priority)) (be-same 8 (x .fee) (f .fee)) (be-same 4 n (f .size)) (be-same 8 (x .cost) (f .cost)))
+    (be-same 8 (x .now .0) (f .now)) (be-same 8 (x .priority) (f .priority)) (be-same 8 (x .fee) (f .fee)) (be-same 4 n (f .size)) (be-same 8 (x .cost) (f .cost)))
     (omega arith) refl
 
 -- ---- what it holds
@@ -212,11 +212,11 @@ label-size : (flag : ℕ) (l : Bytes) → length (flagged (λ y. codec.be 1 (len
 label-size flag l = let e = length-append (codec.be 1 (length l)) l in let f = be-length 1 (length l) in cases (eqb flag 1) (λ t. rw t (omega arith)) (λ t. rw t (omega arith))
 
 pub terms-size : (x : Asked) (label : Bytes) (n : ℕ) → length (termsBytes (newTerms x label n)) ≡ termsLen x label
-unfolding termsBytes
+unfolding termsUnder
 terms-size x label n =
     let a = be-length 8 (x .now .0) in let b = opt-size (x .timeflag) 8 (x .time .0) in let c = opt-size (x .heightflag) 4 (x .height .0) in
-    let d = be-length 4 (x .priority) in let e = label-size (x .labelflag) label in let f = be-length 8 (x .fee) in let g = be-length 4 n in let h = be-length 8 (x .cost) in
-    sizes (codec.be 8 (x .now .0)) (flagged (codec.be 8) (given (x .timeflag) (x .time .0))) (flagged (codec.be 4) (given (x .heightflag) (x .height .0))) (codec.be 4 (x .priority)) (flagged (λ y. codec.be 1 (length y) ++ y) (given (x .labelflag) label)) (codec.be 8 (x .fee)) (codec.be 4 n) (codec.be 8 (x .cost)) ∙ omega arith
+    let d = be-length 8 (x .priority) in let e = label-size (x .labelflag) label in let f = be-length 8 (x .fee) in let g = be-length 4 n in let h = be-length 8 (x .cost) in
+    sizes (codec.be 8 (x .now .0)) (flagged (codec.be 8) (given (x .timeflag) (x .time .0))) (flagged (codec.be 4) (given (x .heightflag) (x .height .0))) (codec.be 8 (x .priority)) (flagged (λ y. codec.be 1 (length y) ++ y) (given (x .labelflag) label)) (codec.be 8 (x .fee)) (codec.be 4 n) (codec.be 8 (x .cost)) ∙ omega arith
   where
     sizes : (a b c d e f g h : Bytes) → length (a ++ (b ++ (c ++ (d ++ (e ++ (f ++ (g ++ h))))))) ≡ length a + (length b + (length c + (length d + (length e + (length f + (length g + length h))))))
     sizes a b c d e f g h = simp length-append

@@ -16,7 +16,7 @@ use Rattle.queue.specs.Codec as codec
 use Rattle.queue.specs.Codec.{All, cases, Got, fail, got, no-got, beC, be-fwd, be-length}
 use Rattle.queue.specs.Lists.{Pairwise, Sub, sub-all}
 use Rattle.queue.specs.Splice.{Put, be}
-use Rattle.queue.specs.Frames.{recC, termsC}
+use Rattle.queue.specs.Frames.{recC, termsK}
 use Rattle.queue.specs.Plain.{terms-plain}
 use Rattle.queue.specs.Reads.{Reads, whole, listAt}
 use Rattle.queue.specs.ReadLaws.{Turn, false-true}
@@ -38,7 +38,7 @@ use Rattle.queue.specs.fees.Told.{noRec, recAt, recOf, Known, choiceByte
 use Rattle.queue.specs.paper.Records.{Bytes, Id, Terms, Rec, Queue}
 use Rattle.queue.specs.paper.Lists.{total, filter, sort, map, concat}
 use Rattle.queue.specs.paper.Sound.{content}
-use Rattle.queue.specs.paper.Area.{flagged, termsBytes}
+use Rattle.queue.specs.paper.Area.{flagged, termsUnder, termsBytes}
 use Rattle.queue.specs.paper.Changing.{top}
 use Rattle.queue.specs.paper.Reading.{first?, selected?, selectedAt}
 use Rattle.queue.specs.paper.Calls.{idsBytes, toldOut}
@@ -59,7 +59,7 @@ abbrev front : Terms → Bytes
 front t =
     codec.be 8 (t .created)
     ++ (flagged (codec.be 8) (t .due)
-    ++ (flagged (codec.be 4) (t .dueHeight) ++ (codec.be 4 (t .priority) ++ flagged (λ l. codec.be 1 (length l) ++ l) (t .label))))
+    ++ (flagged (codec.be 4) (t .dueHeight) ++ (codec.be 8 (t .priority) ++ flagged (λ l. codec.be 1 (length l) ++ l) (t .label))))
 
 abbrev back : Terms → Bytes
 back t = codec.be 4 (t .size) ++ codec.be 8 (t .cost)
@@ -68,11 +68,11 @@ group : (a b c d e x : Bytes) → a ++ (b ++ (c ++ (d ++ (e ++ x)))) ≡ (a ++ (
 group a b c d e x = simp append-assoc
 
 terms-split : (t : Terms) → termsBytes t ≡ front t ++ (codec.be 8 (t .fee) ++ back t)
-unfolding termsBytes
-terms-split t = group (codec.be 8 (t .created)) (flagged (codec.be 8) (t .due)) (flagged (codec.be 4) (t .dueHeight)) (codec.be 4 (t .priority)) (flagged (λ l. codec.be 1 (length l) ++ l) (t .label)) (codec.be 8 (t .fee) ++ back t)
+unfolding termsUnder
+terms-split t = group (codec.be 8 (t .created)) (flagged (codec.be 8) (t .due)) (flagged (codec.be 4) (t .dueHeight)) (codec.be 8 (t .priority)) (flagged (λ l. codec.be 1 (length l) ++ l) (t .label)) (codec.be 8 (t .fee) ++ back t)
 
 fee-small : (r : Rec) → recC .ok r → r .terms .fee < 256 ^ 8
-unfolding termsC codec.mapC codec.pairC beC
+unfolding termsK codec.mapC codec.pairC beC
 fee-small r h = fields-of r h .terms .1 .1 .1 .1 .1 .0
 
 module _ {s : Bytes} {i m : ℕ} {ok : Bool} {y : Seen} {r : Rec} (w : SeenIn false s i ok m y r) where

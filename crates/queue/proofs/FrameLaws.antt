@@ -13,8 +13,8 @@ use lib.Seq.{drop-cons, take-at}
 use borrow.Author.Tests.{lt-ltb, eq-eqb, ne-eqb}
 use Rattle.queue.specs.Codec.{Bytes, Got, fail, got, _>>=_, Codec, cases, byteC, be, beDec, beC, pairDec, pairC, mapC, optEnc, optC, decs, vecC, countedC, encs, vec-bwd}
 use Rattle.queue.specs.paper.Records.{Id, Limits, Terms, Held, Rec}
-use Rattle.queue.specs.Frames.{tagC, tagDec, idC, labelC, termsC, termsOf, termsTuple, heldK, heldOf, heldTuple, idsC, readsC, bodyK, signedEnc, placeC, markSince, markC, restK, recK, recOf, recTuple, Four, fourC, sixteenC, sharesC, limitsFrom, limitsTuple, limitsK, Head, headK, headOf, headTuple}
-use Rattle.queue.specs.Choice.{fixC, sinceC, guardDec, guardC, thenDec, thenC}
+use Rattle.queue.specs.Frames.{tagC, tagDec, idC, labelC, widen, low32, Narrow, widen-low, low-widen, narrowC, termsK, termsOf, termsTuple, heldK, heldOf, heldTuple, idsC, readsC, bodyK, signedEnc, placeC, markSince, markC, restK, recK, recOf, recTuple, Four, fourC, sixteenC, sharesC, limitsFrom, limitsTuple, limitsK, Head, headK, headOf, headTuple}
+use Rattle.queue.specs.Choice.{fixC, sinceC, guardDec, guardC, thenDec, thenC, viaC, viaDec}
 use Rattle.queue.specs.Kinds.{mark-enc, mark-up}
 use Rattle.queue.specs.Splice as written
 use Rattle.queue.specs.Ids.{part}
@@ -22,9 +22,9 @@ use Rattle.queue.specs.Shares.{pos256}
 use Rattle.queue.specs.Lists.{and-true}
 use Rattle.queue.specs.Reads.{Reads, Span, flagDec, flagC, Counted, OptSpan, whole, listAt}
 use Rattle.queue.specs.ReadLaws.{drop-none, false-true, pair, mapped, weaken, OptW, opt-absent, opt-present, Small, beAt, be-here, Spans, short, spanned, spans-be, spans-byte, spans-pair, spans-vec, spans-id, counted, opt-span, none-left}
-use Rattle.queue.specs.Facts.{termsUnder, optNum, placeHeight, factsOf, ListAs, TagAt, MarkAt, CallerAt, ReadsAt, NumAt, OptAt, PlaceAs, TermsAs, BodyAs, RestAs, Bounded, SeenFrom, SeenUnder, LimAs, limitsIn, SharesAs, SharesAt, LimitsAs, limitsLen, HeadUnder}
+use Rattle.queue.specs.Facts.{termsFrom, optNum, placeHeight, factsOf, ListAs, TagAt, MarkAt, CallerAt, PriorityAt, ReadsAt, NumAt, OptAt, PlaceAs, TermsAs, BodyAs, RestAs, Bounded, SeenFrom, SeenUnder, LimAs, limitsIn, SharesAs, SharesAt, LimitsAs, limitsLen, HeadUnder}
 use Rattle.queue.specs.paper.Lists.{isSome}
-use Rattle.queue.specs.paper.Kinds.{hasMark3, markSaid?, hasCallers, hasReads, firstShare}
+use Rattle.queue.specs.paper.Kinds.{hasMark3, markSaid?, hasCallers, hasReads, hasWide, firstShare}
 use Rattle.queue.specs.paper.Sound.{labelLen, inputs, outputs, reads, content}
 use Rattle.queue.specs.declared.frame.Facts.{Facts}
 use Rattle.queue.specs.declared.frame.Items.{Items}
@@ -215,12 +215,12 @@ unfolding labelC
 label-some {s} {at} {m} {len} x z y e = something (countedC byteC 1) (λ o. (labelLen o ≡ len) × (len < 256)) (λ l w. (w .0, omega (arith, w .3))) x z (listed spans-byte y) e
 
 -- ---- terms
-pub terms-read : {s : Bytes} {at na nb nc nd ne nf ng nh : ℕ} {oka okb okc okd oke okf okg okh : Bool} (r : TermsR)
-    → NumAt 8 s at oka na (r .created .0) → OptAt 8 s na okb nb (r .timed) (r .due .0) → OptAt 4 s nb okc nc (r .heighted) (r .dueheight .0) → NumAt 4 s nc okd nd (r .priority)
+pub terms-read : {s : Bytes} {at na nb nc nd ne nf ng nh : ℕ} {oka okb okc okd oke okf okg okh : Bool} (k : ℕ) (r : TermsR)
+    → NumAt 8 s at oka na (r .created .0) → OptAt 8 s na okb nb (r .timed) (r .due .0) → OptAt 4 s nb okc nc (r .heighted) (r .dueheight .0) → PriorityAt k s nc okd nd (r .priority)
     → Reads labelC s nd oke ne (λ o. (labelLen o ≡ r .label) × (r .label < 256)) → Span s ne 8 okf nf → NumAt 4 s nf okg ng (r .size) → Span s ng 8 okh nh
-    → r .ok ≡ (oka && (okb && (okc && (okd && (oke && (okf && (okg && okh))))))) → Reads termsC s at (r .ok) nh (TermsAs r)
-unfolding termsC
-terms-read r a b c d e f g h o = ok-as o (mapped termsOf termsTuple (λ t. refl) (λ t. refl) (TermsAs r)
+    → r .ok ≡ (oka && (okb && (okc && (okd && (oke && (okf && (okg && okh))))))) → Reads (termsK k) s at (r .ok) nh (TermsAs r)
+unfolding termsK
+terms-read k r a b c d e f g h o = ok-as o (mapped termsOf termsTuple (λ t. refl) (λ t. refl) (TermsAs r)
     (pair (a .0) (pair (b .0) (pair (c .0) (pair (d .0) (pair e (pair (spanned (spans-be 8) f) (pair (g .0) (spanned (spans-be 8) h))))))))
     (λ t _ _ _ w. record {
       created = w .0;
@@ -238,6 +238,25 @@ terms-read r a b c d e f g h o = ok-as o (mapped termsOf termsTuple (λ t. refl)
       labelSmall = w .1 .1 .1 .1 .0 .1;
       sizeSmall = g .1;
     }))
+
+-- ---- a priority
+via-read : {A B : Type 0} (f : A → B) (g : B → A) (P : B → Type 0) (𝓐 : Codec A) (to : (a : A) → 𝓐 .ok a → (g (f a) ≡ a) × P (f a)) (from : (b : B) → P b → (f (g b) ≡ b) × 𝓐 .ok (g b))
+    {s : Bytes} {at n : ℕ} {ok : Bool} {W : A → Type 0} (W′ : B → Type 0) → Reads 𝓐 s at ok n W → ((a : A) → W a → W′ (f a)) → Reads (viaC f g P 𝓐 to from) s at ok n W′
+unfolding viaC viaDec
+via-read f g P 𝓐 to from W′ x k = record {
+  good = λ h t. let u = x .good h t in (f (u .0), rw (u .1), u .2, u .3, k (u .0) (u .4));
+  bad = λ h t. rw (x .bad h t);
+}
+
+pub priority-yes : (k : ℕ) {s : Bytes} {at next v : ℕ} {ok : Bool} → hasWide k ≡ true → NumAt 8 s at ok next v → PriorityAt k s at ok next v
+priority-yes k t x = (rw t (x .0), x .1)
+
+pub priority-no : (k : ℕ) {s : Bytes} {at next v w : ℕ} {ok : Bool} → hasWide k ≡ false → NumAt 4 s at ok next v → w ≡ widen v → PriorityAt k s at ok next w
+unfolding narrowC
+priority-no k {v = v} {w = w} f x e = (
+  rw f (via-read widen low32 Narrow (beC 4) widen-low low-widen (λ y. y ≡ w) (x .0) (λ a q. ap widen q ∙ sym e)),
+  rw e (widen-low v (x .1) .1 .1),
+)
 
 -- ---- a place
 pub place-none : {s : Bytes} {at n : ℕ} {ok has : Bool} (r : PlaceR) → Reads flagC s at ok n (λ b. has ≡ b) → has ≡ false → r .has ≡ false → r .height .0 ≡ 0 → Reads placeC s at ok n (PlaceAs r)
@@ -474,7 +493,7 @@ unfolding fixC
 caller-no k f = (rw f (record { good = λ h _. (0, refl, omega arith, h, refl); bad = λ h z. false-true (sym z) }), omega arith)
 
 pub rec-read : {s : Bytes} {na nb nw nc nd ne nf vw vc vd : ℕ} {va : Id} {oka okb okw okc okd oke okf : Bool} (k : ℕ) (t : TermsR) (x : RestR) (r : Seen)
-    → TagAt 2 s 0 oka na → Reads idC s na okb nb (λ x. x ≡ va) → CallerAt k s nb okw nw vw → NumAt 1 s nw okc nc vc → NumAt 1 s nc okd nd vd → Reads termsC s nd oke ne (TermsAs t) → Reads (restK k) s ne okf nf (RestAs k s ne x)
+    → TagAt 2 s 0 oka na → Reads idC s na okb nb (λ x. x ≡ va) → CallerAt k s nb okw nw vw → NumAt 1 s nw okc nc vc → NumAt 1 s nc okd nd vd → Reads (termsK k) s nd oke ne (TermsAs t) → Reads (restK k) s ne okf nf (RestAs k s ne x)
     → r .ok ≡ (oka && (okb && (okw && (okc && (okd && (oke && okf)))))) → r .id ≡ va → r .facts ≡ factsFrom vw vc vd t x
     → r .after ≡ ne → r .mark ≡ x .marks → r .body ≡ x .body → r .at ≡ x .held .at → r .outs ≡ x .held .to → r .reads ≡ x .held .seen → r .content ≡ x .held .content → r .size ≡ nf → x .next ≡ nf
     → Reads (recK k) s 0 (r .ok) nf (SeenUnder k s r)
@@ -490,7 +509,7 @@ rec-read {s} {na} {nb} {nw} {nc} {nd} {ne} {nf} {vw} {vc} {vd} {va} k t x r a b 
     let tw = w .1 .1 .1 .1 .1 .0 in
     let xw = w .1 .1 .1 .1 .1 .1 in
     let hw = xw .held in
-    let at-terms : termsUnder k ≡ nd = lead-at (hasCallers k) ∙ omega arith in
+    let at-terms : termsFrom k ≡ nd = lead-at (hasCallers k) ∙ omega arith in
     let ins : r .facts .ins ≡ x .held .ins = rw e2 in
     let outs : r .facts .outs ≡ x .held .outs = rw e2 in
     let reads′ : r .facts .reads ≡ x .held .reads = rw e2 in

@@ -15,7 +15,7 @@ use Rattle.queue.specs.Codec.{All, cases, Got, fail, got, Codec, decs, e
 use Rattle.queue.specs.Splice.{Put, be}
 use Rattle.queue.specs.Plain.{opt-plain, terms-plain, place-plain, ids-plain, id-plain, rec-plain, body-plain, head-plain}
 use Rattle.queue.specs.paper.Kinds.{newest}
-use Rattle.queue.specs.Frames.{tagC, recK, recC, idC, termsC, labelC, placeC, bodyC}
+use Rattle.queue.specs.Frames.{tagC, recK, recC, idC, termsK, termsC, labelC, placeC, bodyC}
 use Rattle.queue.specs.Reads.{Reads, isGot, valOf, whole, listAt}
 use Rattle.queue.specs.ReadLaws.{Turn, turn, false-true, Spans, spans-id, spans-vec}
 use Rattle.queue.specs.View.{view}
@@ -301,8 +301,8 @@ unfolding labelC optC countedC
 label-most none h = omega arith
 label-most (some s) h = let e = bytes-most s in omega arith
 
-terms-most : (t : Terms) → labelLen (t .label) < 256 → termsC .most t ≤ 303
-unfolding termsC mapC pairC beC
+terms-most : (t : Terms) → labelLen (t .label) < 256 → termsC .most t ≤ 307
+unfolding termsK mapC pairC beC
 terms-most t h =
     let a = number-most 8 (t .due) in
     let b = number-most 4 (t .dueHeight) in

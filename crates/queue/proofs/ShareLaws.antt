@@ -171,9 +171,9 @@ first-numbers p b l e =
     ∙ ap (λ (x : ℕ). x ∷ map beVal (pieces 4 15 (replicate 60 0))) e
     ∙ ap (λ (x : List ℕ). p ∷ x) zero-numbers
 
-pub shares-no : (k : ℕ) {p : ℕ} {v : Bytes} {at : ℕ} {d′ : Bytes} {o : ℕ} → hasCallers k ≡ false → Put (replicate 64 0) 0 (be 4 p) 4 o d′ → SharesAt k p v at (record { ok = true; bytes = d′; next = at })
-unfolding fixC over
-shares-no k {p} {v} {at} {d′} t y h =
+pub shares-first : {p : ℕ} {d′ : Bytes} {o : ℕ} → p < 4294967296 → Put (replicate 64 0) 0 (be 4 p) 4 o d′ → (numbers d′ ≡ firstShare p) × (length d′ ≡ 64) × Small d′
+unfolding over
+shares-first {p} {d′} h y =
     let b : Bytes = codec.be 4 p in
     let c : be 4 p ≡ b = be-same 4 p h in
     let l = be-length 4 p in
@@ -181,7 +181,13 @@ shares-no k {p} {v} {at} {d′} t y h =
     let l′ : length d′ ≡ 64 = ap length e ∙ length-append b (replicate 60 0) ∙ omega arith in
     let is : numbers d′ ≡ firstShare p = numbers-64 d′ l′ ∙ ap (λ (x : Bytes). map beVal (pieces 4 16 x)) e ∙ first-numbers p b l (val-be 4 p h) in
     let small : Small d′ = rw e (all-small (b ++ replicate 60 0) (all-append (λ b. b < 256) b (replicate 60 0) (four-all p h) (all-zeros 60))) in
-    rw t (record { good = λ m _. (firstShare p, refl, omega arith, m, record { is = is; long = l′; small = small }); bad = λ m z. false-true (sym z) })
+    (is, l′, small)
+
+pub shares-no : (k : ℕ) {p : ℕ} {v : Bytes} {at : ℕ} {d′ : Bytes} {o : ℕ} → hasCallers k ≡ false → Put (replicate 64 0) 0 (be 4 p) 4 o d′ → SharesAt k p v at (record { ok = true; bytes = d′; next = at })
+unfolding fixC
+shares-no k {p} {v} {at} {d′} t y h =
+    let u = shares-first h y in
+    rw t (record { good = λ m _. (firstShare p, refl, omega arith, m, record { is = u .0; long = u .1; small = u .2 }); bad = λ m z. false-true (sym z) })
 
 -- ---- written
 pub shares-bytes : (s : Bytes) → length s ≡ 64 → Small s → sharesBytes (numbers s) ≡ s

@@ -9,7 +9,7 @@ use lib.Dec.{ltb, leb, eqb}
 use lib.ListN.{length}
 use borrow.Author.Tests.{ltb-false, leb-false, le-ltb, eqb-true, eq-eqb, not-true}
 use Rattle.queue.specs.Codec.{cases, All, byteC, beC, pairC, mapC, optC, countedC}
-use Rattle.queue.specs.Frames.{idC, labelC, termsC, heldK, placeC, bodyK}
+use Rattle.queue.specs.Frames.{idC, labelC, termsK, heldK, placeC, bodyK}
 use Rattle.queue.specs.Lists.{all-map, total-split, sub-all, sub-pairwise, sub-total}
 use Rattle.queue.specs.ReadLaws.{false-true}
 use Rattle.queue.specs.Order.{below-trans, below-total, or-true}
@@ -36,7 +36,7 @@ pub record Admissible (K : ℕ) (a : Admission) : Type 0 where
   pub now : a .now < 256 ^ 8
   pub due : optC (beC 8) .ok (a .due)
   pub dueHeight : optC (beC 4) .ok (a .dueHeight)
-  pub priority : a .priority < 256 ^ 4
+  pub priority : a .priority < 256 ^ 8
   pub label : LabelBytes (a .label)
   pub fee : a .fee < 256 ^ 8
   pub cost : a .cost < 256 ^ 8
@@ -106,7 +106,7 @@ module _ (a : Admission) (q : Queue) (f : Fit q) (o : Admissible (q .limits .K) 
   }
 
   new-fields : length (a .held .bytes) ≤ q .limits .B → Fields (newRec a)
-  unfolding newRec termsC heldK bodyK placeC mapC pairC beC optC countedC byteC
+  unfolding newRec termsK heldK bodyK placeC mapC pairC beC optC countedC byteC
   new-fields h =
       let n = f .sound .range .B-high in
       let k = f .sound .range .K-high in

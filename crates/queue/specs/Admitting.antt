@@ -63,7 +63,7 @@ abbrev pub labelSize : ℕ → Bytes → ℕ
 labelSize flag label = cond (eqb flag 1) (2 + length label) 1
 
 abbrev pub termsLen : Asked → Bytes → ℕ
-termsLen x label = 32 + (optLen (x .timeflag) 8 + (optLen (x .heightflag) 4 + labelSize (x .labelflag) label))
+termsLen x label = 36 + (optLen (x .timeflag) 8 + (optLen (x .heightflag) 4 + labelSize (x .labelflag) label))
 
 abbrev pub heldLen : Bytes → Bytes → Bytes → Bytes → ℕ
 heldLen ins outs reads bytes = 11 + (length ins + (length outs + (length reads + length bytes)))
@@ -92,7 +92,7 @@ pub record TermsFit (x : Asked) (label : Bytes) (n : ℕ) : Type 0 where
   pub now : x .now .0 < 256 ^ 8
   pub time : x .time .0 < 256 ^ 8
   pub height : x .height .0 < 256 ^ 4
-  pub priority : x .priority < 256 ^ 4
+  pub priority : x .priority < 256 ^ 8
   pub short : x .labelflag ≡ 1 → length label ≤ 200
   pub fee : x .fee < 256 ^ 8
   pub size : n < 256 ^ 4
@@ -158,7 +158,7 @@ pub record NumbersFit (x : Asked) : Type 0 where
   pub now : x .now .0 < 256 ^ 8
   pub time : x .time .0 < 256 ^ 8
   pub height : x .height .0 < 256 ^ 4
-  pub priority : x .priority < 256 ^ 4
+  pub priority : x .priority < 256 ^ 8
   pub fee : x .fee < 256 ^ 8
   pub cost : x .cost < 256 ^ 8
   pub tipheight : x .tipheight .0 < 256 ^ 4

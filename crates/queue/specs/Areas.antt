@@ -150,6 +150,13 @@ image-kind k q h =
     let e = image-enc k (storeOf q) ∙ append-assoc (textOf b) (10 ∷ []) (encs (recIn (textForm k)) (q .recs)) in
     ap (λ (x : Bytes). getD (pairs x) 0 0) e ∙ ap (λ (x : Bytes). getD x 0 0) (text-pairs b r (headK k .small (headFor (storeOf q)) h) ∙ ap (λ (x : Bytes). x ++ pairs r) f)
 
+-- what is shown under a kind tells it
+pub shows-kind : (t : Bytes) (q : Queue) (w : Shows t q) → kindOf t ≡ w .kind
+shows-kind t q w =
+    let o = ok-store areaForm (storeOf q) (ok-queue q (w .range) .1) in
+    let h = said-queue (w .kind) q (headFor (storeOf q)) refl (kind-byte (w .kind) (w .known)) (w .says) o in
+    ap kindOf (w .is) ∙ image-kind (w .kind) q (h .0)
+
 pub shows-reads : (t : Bytes) (q : Queue) → Shows t q → readImage t ≡ some q
 unfolding readImage image
 shows-reads t q w =
@@ -157,7 +164,7 @@ shows-reads t q w =
     let e : queueWith (q .cursor) (storeOf q) ≡ q = ap (λ (n : ℕ). queueWith n (storeOf q)) (sym (w .level)) in
     let o = ok-store areaForm (storeOf q) (ok-queue q (w .range) .1) in
     let h = said-queue k q (headFor (storeOf q)) refl (kind-byte k (w .known)) (w .says) o in
-    let i : kindOf t ≡ k = ap kindOf (w .is) ∙ image-kind k q (h .0) in
+    let i = shows-kind t q w in
     let g : storeIn (textForm k) .ok (storeOf q) = store-ok (textForm k) (storeOf q) h in
     let d : storeIn (textForm k) .dec t ≡ got (storeOf q) [] = ap (storeIn (textForm k) .dec) (w .is ∙ sym (append-nil (storeIn (textForm k) .enc (storeOf q)))) ∙ storeIn (textForm k) .fwd (storeOf q) [] g in
     rw (i, w .known, d) (chosen (queueWith (q .cursor) (storeOf q)) q e (w .sound))

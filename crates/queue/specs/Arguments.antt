@@ -84,7 +84,7 @@ pub record AdmitLent (a : AdmitArgs) : Type 0 where
   pub now : a .now < 256 ^ 8
   pub time : a .time < 256 ^ 8
   pub height : a .height < 256 ^ 4
-  pub priority : a .priority < 256 ^ 4
+  pub priority : a .priority < 256 ^ 8
   pub label : Small (a .label)
   pub fee : a .fee < 256 ^ 8
   pub cost : a .cost < 256 ^ 8

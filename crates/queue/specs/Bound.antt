@@ -10,9 +10,9 @@ use lib.ListN.{length, drop, length-append, length-replicate, length-drop}
 use lib.Seq.{drop-at}
 use Rattle.queue.specs.Codec.{All, byteC, beC, pairC, mapC, optC, vecC, countedC, vecMost}
 use Rattle.queue.specs.Choice.{thenC}
-use Rattle.queue.specs.Frames.{Head, tagC, idC, labelC, termsC, heldK, bodyK, bodyC, placeC, recK, recC, fourC, sixteenC, limitsK, limitsC, headK, headC}
+use Rattle.queue.specs.Frames.{Head, tagC, idC, labelC, termsK, termsC, heldK, bodyK, bodyC, placeC, recK, recC, fourC, sixteenC, limitsK, limitsC, headK, headC}
 use Rattle.queue.specs.Forms.{headFor, storeOf, formC, areaForm, storeIn, framesC, queueC, ok-store}
-use Rattle.queue.specs.Areas.{layout, readArea, readImage, stands-reads, reads-stands, shows-reads, reads-shows}
+use Rattle.queue.specs.Areas.{layout, readArea, kindOf, readImage, stands-reads, reads-stands, shows-kind, shows-reads, reads-shows}
 use Rattle.queue.specs.Plain.{area-plain, image-plain}
 use Rattle.queue.specs.Sounds.{Right, sound-of, Fit, fit-of, fit-sound, fit-ok}
 use Rattle.queue.specs.paper.Records.{Bytes, Id, Limits, Terms, Held, Rec, Queue}
@@ -45,8 +45,8 @@ unfolding labelC optC countedC
 label-most none h = omega arith
 label-most (some s) h = let e = bytes-most s in omega arith
 
-terms-most : (t : Terms) → labelLen (t .label) ≤ 200 → termsC .most t ≤ 248
-unfolding termsC mapC pairC beC
+terms-most : (t : Terms) → labelLen (t .label) ≤ 200 → termsC .most t ≤ 252
+unfolding termsK mapC pairC beC
 terms-most t h =
     let a = number-most 8 (t .due) in
     let b = number-most 4 (t .dueHeight) in
@@ -69,8 +69,8 @@ body-most K (some x) h i o d =
     let c = bytes-most (x .bytes) in
     omega arith
 
--- document 01's "a tombstone at most 330", and one byte for the caller
-rec-most : (K c : ℕ) (r : Rec) → recC .ok r → Right K c r → recC .most r ≤ 331 + one (holder? r) * (10 + 96 * K) + length (content (r .body))
+-- document 01's "a tombstone at most 330", one byte for the caller, and four for the priority
+rec-most : (K c : ℕ) (r : Rec) → recC .ok r → Right K c r → recC .most r ≤ 335 + one (holder? r) * (10 + 96 * K) + length (content (r .body))
 unfolding recK mapC pairC tagC beC
 rec-most K c r h s =
     let a = id-most (r .id) (h .1 .0) in
@@ -79,7 +79,7 @@ rec-most K c r h s =
     let e = body-most K (r .body) (h .1 .1 .1 .1 .1 .1 .1 .1 .1) (s .ins) (s .outs) (s .reads) in
     omega arith
 
-recs-most : (K c : ℕ) (l : List Rec) → All (recC .ok) l → All (Right K c) l → vecMost recC l ≤ 331 * (holders l + tombstones l) + holders l * (10 + 96 * K) + holderBytes l
+recs-most : (K c : ℕ) (l : List Rec) → All (recC .ok) l → All (Right K c) l → vecMost recC l ≤ 335 * (holders l + tombstones l) + holders l * (10 + 96 * K) + holderBytes l
 recs-most K c [] h s = omega arith
 recs-most K c (r ∷ l) h s =
     let i = recs-most K c l (h .1) (s .1) in
@@ -173,6 +173,13 @@ image-reads k q g s e o h = shows-reads (imageUnder k q) q (record { sound = e; 
 pub reads-image : (t : Bytes) (q : Queue) → readImage t ≡ some q
     → (sound? q ≡ true) × (queueC .ok q × ((q .persisted ≡ q .cursor) × ((k : ℕ) × (kind? k ≡ true) × (says? k q ≡ true) × (t ≡ imageUnder k q))))
 reads-image t q e = let w = reads-shows t q e in (w .sound, (w .range, (w .level, (w .kind, w .known, w .says, w .is ∙ image-plain (w .kind) q))))
+
+-- and that kind is the one that the text tells
+pub reads-told : (t : Bytes) (q : Queue) → readImage t ≡ some q → (says? (kindOf t) q ≡ true) × (t ≡ imageUnder (kindOf t) q)
+reads-told t q e =
+    let w = reads-shows t q e in
+    let k = shows-kind t q w in
+    (ap (λ (j : ℕ). says? j q) k ∙ w .says, w .is ∙ image-plain (w .kind) q ∙ ap (λ (j : ℕ). imageUnder j q) (sym k))
 
 -- ---- the same of a queue that fits
 

@@ -10,10 +10,10 @@ use lib.ListN.{length, take, drop, replicate}
 use Rattle.queue.specs.declared.Answer.{Answer}
 use Rattle.queue.specs.Hex.{textOf, digOf}
 use Rattle.queue.specs.paper.Records.{Bytes, Id, Limits, Held, Rec, Queue, queued, mined, conflicted}
-use Rattle.queue.specs.paper.Lists.{one, all?, find, map, concat}
+use Rattle.queue.specs.paper.Lists.{one, all?, any?, find, map, concat}
 use Rattle.queue.specs.paper.Ids.{cmpL, same?, rise?}
 use Rattle.queue.specs.paper.Sound.{need, mined?, sound?, inRange, sharesRight?, counts?, right?, distinct?, apart?, used?, clash?, read?, crossed?, readApart?, reads}
-use Rattle.queue.specs.paper.Area.{termsBytes, placeBytes, heldUnder, recUnder, sharesBytes, headUnder, beVal, queueBytes, areaBytes, imageUnder, imageBytes, over}
+use Rattle.queue.specs.paper.Area.{termsUnder, placeBytes, heldUnder, recUnder, sharesBytes, headUnder, beVal, queueBytes, areaBytes, imageUnder, imageBytes, over}
 use Rattle.queue.specs.paper.Kinds.{kind?, firstShare, says?}
 use Rattle.queue.specs.paper.Changing.{Out, refused, done, top, named?, committed, moved, newRec, admit, finished, finishThose, forget, cancel, due?, expire, Applied, Reconciling, confirm, touch, releases, reconcile, reopened, reopen, setCursor, touchedRecs, toRelease}
 use Rattle.queue.specs.paper.Calls.{kindNumber, number, items, entryBytes, idsBytes, AdmitArgs, admitArgs, Call, admitting, shape?, overK?, fresh, freshOf, settleNext}
@@ -134,7 +134,7 @@ worked = record {
     caller = 5;
     state = 4;
     reason = 1;
-    terms = record { created = 5; due = none; dueHeight = none; priority = 4294967295; label = none; fee = 7; size = 3; cost = 9 };
+    terms = record { created = 5; due = none; dueHeight = none; priority = 18446744073709551615; label = none; fee = 7; size = 3; cost = 9 };
     place = none;
     mark = 0;
     finish = 1;
@@ -307,18 +307,28 @@ withCaller shares caller r = record { persisted = 0; limits = shared shares; rev
     called : Rec
     called = record { id = r .id; caller = caller; state = r .state; reason = r .reason; terms = r .terms; place = r .place; mark = r .mark; finish = r .finish; body = r .body }
 
-abbrev cancelledOne : Rec
-cancelledOne = record {
+-- document 02, P13: a tombstone with that priority
+abbrev cancelledWith : ℕ → Rec
+cancelledWith priority = record {
   id = id 1;
   caller = 0;
   state = 4;
   reason = 1;
-  terms = record { created = 0; due = none; dueHeight = none; priority = 0; label = none; fee = 0; size = 0; cost = 0 };
+  terms = record { created = 0; due = none; dueHeight = none; priority = priority; label = none; fee = 0; size = 0; cost = 0 };
   place = none;
   mark = 0;
   finish = 1;
   body = none;
 }
+
+abbrev cancelledOne : Rec
+cancelledOne = cancelledWith 0
+
+abbrev cancelledAt : ℕ → Queue
+cancelledAt priority = withCaller (3 ∷ []) 0 (cancelledWith priority)
+
+abbrev withPriority : ℕ → Queue
+withPriority priority = holding (waiting (1, (priority, ([], []))) ∷ [])
 
 -- an admission of a whole id with that caller
 abbrev calling : ℕ → Call
@@ -406,7 +416,7 @@ cards =
     ∷ eqb (gives (watch 132 100 [] (moved 100 132 (some (id 8)) at100))) 103
     -- "Fresh with P 2, B 10, T 1, K 1, whole", with P8's "2, then zeros, 213 bytes": each digit's byte, and the end byte
     ∷ same? (imageBytes small)
-    ((48 ∷ 53 ∷ [])
+    ((48 ∷ 54 ∷ [])
     ++ ((48 ∷ 48 ∷ 48 ∷ 48 ∷ 48 ∷ 48 ∷ 48 ∷ 50 ∷ [])
     ++ ((48 ∷ 48 ∷ 48 ∷ 48 ∷ 48 ∷ 48 ∷ 48 ∷ 97 ∷ [])
     ++ ((48 ∷ 48 ∷ 48 ∷ 48 ∷ 48 ∷ 48 ∷ 48 ∷ 49 ∷ [])
@@ -418,14 +428,14 @@ cards =
     ∷ eqb (need (limits 2 10 1 1)) 3476
     ∷ same? (areaBytes small)
     ((0 ∷ 0 ∷ 0 ∷ 0 ∷ [])
-    ++ ((5 ∷ 0 ∷ 0 ∷ 0 ∷ 2 ∷ 0 ∷ 0 ∷ 0 ∷ 10 ∷ 0 ∷ 0 ∷ 0 ∷ 1 ∷ 0 ∷ 0 ∷ 0 ∷ 1 ∷ [])
+    ++ ((6 ∷ 0 ∷ 0 ∷ 0 ∷ 2 ∷ 0 ∷ 0 ∷ 0 ∷ 10 ∷ 0 ∷ 0 ∷ 0 ∷ 1 ∷ 0 ∷ 0 ∷ 0 ∷ 1 ∷ [])
     ++ ((0 ∷ 0 ∷ 0 ∷ 2 ∷ [])
     ++ (replicate 60 0 ++ (replicate 8 0 ++ (replicate 4 0 ++ (replicate 1 0 ++ (replicate 8 0 ++ (replicate 4 0 ++ replicate 3366 0)))))))))
     -- "The same queue with one cancelled record .. starts with"
     ∷ sound? worked
     ∷ same? (queueBytes worked)
     ((0 ∷ 0 ∷ 0 ∷ 6 ∷ [])
-    ++ ((5 ∷ 0 ∷ 0 ∷ 0 ∷ 2 ∷ 0 ∷ 0 ∷ 0 ∷ 10 ∷ 0 ∷ 0 ∷ 0 ∷ 1 ∷ 0 ∷ 0 ∷ 0 ∷ 1 ∷ [])
+    ++ ((6 ∷ 0 ∷ 0 ∷ 0 ∷ 2 ∷ 0 ∷ 0 ∷ 0 ∷ 10 ∷ 0 ∷ 0 ∷ 0 ∷ 1 ∷ 0 ∷ 0 ∷ 0 ∷ 1 ∷ [])
     ++ ((0 ∷ 0 ∷ 0 ∷ 1 ∷ [])
     ++ ((replicate 19 0 ++ (1 ∷ replicate 40 0))
     ++ ((0 ∷ 0 ∷ 0 ∷ 0 ∷ 0 ∷ 0 ∷ 0 ∷ 2 ∷ [])
@@ -434,14 +444,14 @@ cards =
     ++ ((2 ∷ [])
     ++ (replicate 32 17
     ++ ((5 ∷ 4 ∷ 1 ∷ [])
-    ++ ((0 ∷ 0 ∷ 0 ∷ 0 ∷ 0 ∷ 0 ∷ 0 ∷ 5 ∷ 0 ∷ 0 ∷ 255 ∷ 255 ∷ 255 ∷ 255 ∷ 0 ∷ [])
+    ++ ((0 ∷ 0 ∷ 0 ∷ 0 ∷ 0 ∷ 0 ∷ 0 ∷ 5 ∷ 0 ∷ 0 ∷ (replicate 8 255 ++ (0 ∷ [])))
     ++ ((0 ∷ 0 ∷ 0 ∷ 0 ∷ 0 ∷ 0 ∷ 0 ∷ 7 ∷ 0 ∷ 0 ∷ 0 ∷ 3 ∷ 0 ∷ 0 ∷ 0 ∷ 0 ∷ 0 ∷ 0 ∷ 0 ∷ 9 ∷ [])
     ++ (0 ∷ 0 ∷ 0 ∷ 0 ∷ 0 ∷ 0 ∷ 0 ∷ 0 ∷ 0 ∷ 1 ∷ 0 ∷ [])))))))))))))
     -- "The fresh queue after an admission .. that spends .., reads .., starts with"
     ∷ sound? workedReading
     ∷ same? (queueBytes workedReading)
     ((0 ∷ 0 ∷ 0 ∷ 1 ∷ [])
-    ++ ((5 ∷ 0 ∷ 0 ∷ 0 ∷ 2 ∷ 0 ∷ 0 ∷ 0 ∷ 10 ∷ 0 ∷ 0 ∷ 0 ∷ 1 ∷ 0 ∷ 0 ∷ 0 ∷ 1 ∷ [])
+    ++ ((6 ∷ 0 ∷ 0 ∷ 0 ∷ 2 ∷ 0 ∷ 0 ∷ 0 ∷ 10 ∷ 0 ∷ 0 ∷ 0 ∷ 1 ∷ 0 ∷ 0 ∷ 0 ∷ 1 ∷ [])
     ++ ((0 ∷ 0 ∷ 0 ∷ 2 ∷ [])
     ++ (replicate 60 0
     ++ ((0 ∷ 0 ∷ 0 ∷ 0 ∷ 0 ∷ 0 ∷ 0 ∷ 1 ∷ 0 ∷ 0 ∷ 0 ∷ 1 ∷ 0 ∷ [])
@@ -449,7 +459,7 @@ cards =
     ++ ((2 ∷ [])
     ++ (replicate 32 34
     ++ ((0 ∷ 0 ∷ 0 ∷ [])
-    ++ ((0 ∷ 0 ∷ 0 ∷ 0 ∷ 0 ∷ 0 ∷ 0 ∷ 5 ∷ 0 ∷ 0 ∷ 0 ∷ 0 ∷ 0 ∷ 0 ∷ 0 ∷ [])
+    ++ ((0 ∷ 0 ∷ 0 ∷ 0 ∷ 0 ∷ 0 ∷ 0 ∷ 5 ∷ 0 ∷ 0 ∷ (replicate 8 0 ++ (0 ∷ [])))
     ++ ((0 ∷ 0 ∷ 0 ∷ 0 ∷ 0 ∷ 0 ∷ 0 ∷ 1 ∷ 0 ∷ 0 ∷ 0 ∷ 2 ∷ 0 ∷ 0 ∷ 0 ∷ 0 ∷ 0 ∷ 0 ∷ 0 ∷ 1 ∷ [])
     ++ (replicate 10 0
     ++ ((1 ∷ 0 ∷ 1 ∷ [])
@@ -553,9 +563,9 @@ cards =
     ∷ (sound? (withMark 2 0 true 0) && not (sound? (withMark 2 0 true 3)))
     ∷ (sound? (withMark 5 3 false 0) && not (sound? (withMark 5 3 false 3)))
     ∷ (sound? (withMark 4 1 false 0) && not (sound? (withMark 4 1 false 3)))
-    -- "header kind 03": 01 and 03 are read, 04 and 05; 01 can't say mark 3
-    ∷ all? kind? (1 ∷ 3 ∷ 4 ∷ 5 ∷ [])
-    ∷ all? (λ k. not (kind? k)) (0 ∷ 2 ∷ 6 ∷ 7 ∷ 255 ∷ [])
+    -- "header kind 03": 01 and 03 are read, 04, 05 and 06; 01 can't say mark 3
+    ∷ all? kind? (1 ∷ 3 ∷ 4 ∷ 5 ∷ 6 ∷ [])
+    ∷ all? (λ k. not (kind? k)) (0 ∷ 2 ∷ 7 ∷ 8 ∷ 255 ∷ [])
     ∷ (says? 3 (withMark 2 0 false 3) && not (says? 1 (withMark 2 0 false 3)))
     ∷ (says? 1 (withMark 2 0 false 5) && says? 3 (withMark 2 0 false 5))
     -- the worked image under 01 is document 01's, of 85 bytes: no shares; under 03 it differs in its second digit alone
@@ -663,11 +673,24 @@ cards =
     ∷ listsAt? 0 0 (withReads (61 ∷ []) (waiting (1, (0, ([], 60 ∷ [])))) ∷ withReads (60 ∷ []) (waiting (2, (0, ([], 61 ∷ [])))) ∷ []) []
     -- "older kinds open without read ids": they can say no other, and their frames have no count; the newest has it, 2 bytes and 32 an id
     ∷ (says? 5 (holding (withReads (9 ∷ []) (waiting (1, (0, ([], [])))) ∷ [])) && not (says? 4 (holding (withReads (9 ∷ []) (waiting (1, (0, ([], [])))) ∷ []))))
-    ∷ all? (λ k. says? k (holding (waiting (1, (0, (8 ∷ [], []))) ∷ []))) (1 ∷ 3 ∷ 4 ∷ 5 ∷ [])
+    ∷ all? (λ k. says? k (holding (waiting (1, (0, (8 ∷ [], []))) ∷ []))) (1 ∷ 3 ∷ 4 ∷ 5 ∷ 6 ∷ [])
     ∷ eqb (length (recUnder 5 (withReads (9 ∷ []) (waiting (1, (0, (8 ∷ [], []))))))) (34 + length (recUnder 4 (waiting (1, (0, (8 ∷ [], []))))))
     ∷ eqb (length (recUnder 5 cancelledOne)) (length (recUnder 4 cancelledOne))
+    -- P13: "64 signed bits": the old order from 2^63 - 1 down to -2^63; 2^32 is above 1
+    ∷ lists? ((1, (9223372036854775808, ([], []))) ∷ (2, (0, ([], []))) ∷ (3, (9223372036854775807, ([], []))) ∷ (4, (18446744073709551615, ([], []))) ∷ []) (3 ∷ 2 ∷ 4 ∷ 1 ∷ [])
+    ∷ lists? ((1, (1, ([], []))) ∷ (2, (4294967296, ([], []))) ∷ (3, (4294967295, ([], []))) ∷ (4, (18446744069414584320, ([], []))) ∷ []) (2 ∷ 3 ∷ 1 ∷ 4 ∷ [])
+    -- "eight bytes there": four more under 06 than under 05; -1 is ffffffff in the older kinds
+    ∷ eqb (length (recUnder 6 cancelledOne)) (4 + length (recUnder 5 cancelledOne))
+    ∷ same? (take 8 (drop 46 (recUnder 6 (waiting (1, (18446744073709551615, ([], []))))))) (replicate 8 255)
+    ∷ same? (take 4 (drop 45 (recUnder 1 (waiting (1, (18446744073709551615, ([], []))))))) (replicate 4 255)
+    ∷ same? (take 4 (drop 45 (recUnder 1 (waiting (1, (18446744071562067968, ([], []))))))) (128 ∷ 0 ∷ 0 ∷ 0 ∷ [])
+    -- "a priority outside 32 bits", of a holder or a tombstone: 06 alone says it
+    ∷ all? (λ p. all? (λ k. says? k (withPriority p)) (1 ∷ 3 ∷ 4 ∷ 5 ∷ 6 ∷ [])) (0 ∷ 1 ∷ 2147483647 ∷ 18446744071562067968 ∷ 18446744073709551615 ∷ [])
+    ∷ all? (λ p. says? 6 (withPriority p) && not (any? (λ k. says? k (withPriority p)) (1 ∷ 3 ∷ 4 ∷ 5 ∷ []))) (2147483648 ∷ 4294967295 ∷ 4294967296 ∷ 9223372036854775808 ∷ 18446744071562067967 ∷ [])
+    ∷ (says? 6 (cancelledAt 2147483648) && not (says? 1 (cancelledAt 2147483648)))
+    ∷ (says? 1 (cancelledAt 2147483647) && says? 1 (cancelledAt 18446744073709551615))
     ∷ []
 
 pub all-cards : all? (λ b. b) cards ≡ true
-unfolding says? cmpL over need sound? inRange counts? right? rise? distinct? apart? used? clash? read? crossed? readApart? termsBytes placeBytes heldUnder recUnder sharesBytes headUnder beVal items entryBytes freshOf sharesRight? queueBytes areaBytes imageUnder committed moved newRec admit finished finishThose forget cancel due? expire confirm touch releases touchedRecs toRelease reconcile entered decide decisions reopened reopen setCursor textOf digOf idsBytes bestBytes searchOf listed waitsFor? reservedInputs
+unfolding says? cmpL over need sound? inRange counts? right? rise? distinct? apart? used? clash? read? crossed? readApart? termsUnder placeBytes heldUnder recUnder sharesBytes headUnder beVal items entryBytes freshOf sharesRight? queueBytes areaBytes imageUnder committed moved newRec admit finished finishThose forget cancel due? expire confirm touch releases touchedRecs toRelease reconcile entered decide decisions reopened reopen setCursor textOf digOf idsBytes bestBytes searchOf listed waitsFor? reservedInputs
 all-cards = refl

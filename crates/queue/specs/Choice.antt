@@ -63,6 +63,37 @@ module _ {A : Type 0} (t : A → Bool) (𝓐 : Codec A) where
     fits = λ a h. 𝓐 .fits a (h .0);
   }
 
+-- another type for the same bytes, where P says which values of it have bytes
+module _ {A B : Type 0} (f : A → B) (g : B → A) (P : B → Type 0) (𝓐 : Codec A) (to : (a : A) → 𝓐 .ok a → (g (f a) ≡ a) × P (f a)) (from : (b : B) → P b → (f (g b) ≡ b) × 𝓐 .ok (g b)) where
+  unfoldable pub viaDec : Bytes → Got B
+  viaDec s = 𝓐 .dec s >>= λ a t. got (f a) t
+
+  pub via-fwd : (b : B) (r : Bytes) → P b → viaDec (𝓐 .enc (g b) ++ r) ≡ got b r
+  unfolding viaDec
+  via-fwd b r h = let k = from b h in rw (𝓐 .fwd (g b) r (k .1), k .0)
+
+  pub via-bwd : (s : Bytes) (b : B) (r : Bytes) → viaDec s ≡ got b r → (s ≡ 𝓐 .enc (g b) ++ r) × P b
+  unfolding viaDec
+  via-bwd s b r e =
+      bind-got (𝓐 .dec s) _ b r e λ a t p q.
+      let e1 : f a ≡ b = cc in
+      let e2 : t ≡ r = cc in
+      let u = 𝓐 .bwd s a t p in
+      let k = to a (u .1) in
+      rw (← e1, ← e2, k .0) (u .0, k .1)
+
+  unfoldable pub viaC : Codec B
+  viaC = record {
+    ok = P;
+    enc = λ b. 𝓐 .enc (g b);
+    dec = viaDec;
+    fwd = via-fwd;
+    bwd = via-bwd;
+    small = λ b h. 𝓐 .small (g b) (from b h .1);
+    most = λ b. 𝓐 .most (g b);
+    fits = λ b h. 𝓐 .fits (g b) (from b h .1);
+  }
+
 -- two in a row, the second by the value of the first
 module _ {A B : Type 0} (𝓐 : Codec A) (𝓑 : A → Codec B) where
   unfoldable pub thenDec : Bytes → Got (A × B)

@@ -9,7 +9,7 @@ use Rattle.queue.specs.Codec.{beC, optC}
 use Rattle.queue.specs.paper.Records.{Bytes, Id, Limits, Terms, Held, Rec}
 use Rattle.queue.specs.paper.Lists.{isSome}
 use Rattle.queue.specs.paper.Sound.{labelLen, inputs, outputs, reads, content}
-use Rattle.queue.specs.Frames.{Head, tagC, markC, callerC, readsC, idC, termsC, placeC, bodyK, signedEnc, Four, sharesC, limitsK}
+use Rattle.queue.specs.Frames.{Head, tagC, markC, callerC, readsC, idC, priorityC, termsK, placeC, bodyK, signedEnc, Four, sharesC, limitsK}
 use Rattle.queue.specs.Reads.{Reads, whole, listAt}
 use Rattle.queue.specs.ReadLaws.{Small}
 use Rattle.queue.specs.paper.Kinds.{newest, hasCallers, hasReads}
@@ -82,6 +82,10 @@ MarkAt k s at ok next v = Reads (markC k) s at ok next (λ x. x ≡ v) × (v < 2
 abbrev pub CallerAt : ℕ → Bytes → ℕ → Bool → ℕ → ℕ → Type 0
 CallerAt k s at ok next v = Reads (callerC k) s at ok next (λ x. x ≡ v) × (v < 256)
 
+-- a priority, as the kind k has it
+abbrev pub PriorityAt : ℕ → Bytes → ℕ → Bool → ℕ → ℕ → Type 0
+PriorityAt k s at ok next v = Reads (priorityC k) s at ok next (λ x. x ≡ v) × (v < 256 ^ 8)
+
 -- read ids, as the kind k has them: how many, and where they start
 abbrev pub ReadsAt : ℕ → Bytes → ℕ → Items → Type 0
 ReadsAt k s at x = Reads (readsC k) s at (x .ok) (x .next) (ListAs s x) × (hasReads k ≡ false → (x .start ≡ at) × (x .next ≡ at))
@@ -111,7 +115,7 @@ pub record TermsAs (x : TermsR) (t : Terms) : Type 0 where
   pub createdSmall : x .created .0 < 18446744073709551616
   pub dueSmall : x .due .0 < 18446744073709551616
   pub dueheightSmall : x .dueheight .0 < 4294967296
-  pub prioritySmall : x .priority < 4294967296
+  pub prioritySmall : x .priority < 18446744073709551616
   pub labelSmall : x .label < 256
   pub sizeSmall : x .size < 4294967296
 
@@ -164,8 +168,8 @@ abbrev pub termsAt : ℕ
 termsAt = 36
 
 -- under a kind: the older ones have no caller
-abbrev pub termsUnder : ℕ → ℕ
-termsUnder k = cond (hasCallers k) 36 35
+abbrev pub termsFrom : ℕ → ℕ
+termsFrom k = cond (hasCallers k) 36 35
 
 pub record Bounded (f : Facts) : Type 0 where
   pub caller : f .caller < 256
@@ -174,7 +178,7 @@ pub record Bounded (f : Facts) : Type 0 where
   pub created : f .created .0 < 18446744073709551616
   pub due : f .due .0 < 18446744073709551616
   pub dueheight : f .dueheight .0 < 4294967296
-  pub priority : f .priority < 4294967296
+  pub priority : f .priority < 18446744073709551616
   pub label : f .label < 256
   pub size : f .size < 4294967296
   pub mined : f .mined .0 < 4294967296
@@ -185,12 +189,12 @@ pub record Bounded (f : Facts) : Type 0 where
   pub reads : f .reads < 65536
   pub bytes : f .bytes < 4294967296
 
--- x was read from v, and says of r: its id, its facts, and where its parts stand, the terms at `from`, the holder's part under the kind k
+-- x was read from v, and says of r: its id, its facts, and where its parts stand, the terms at `from`, terms and holder's part under the kind k
 pub record SeenFrom (from k : ℕ) (v : Bytes) (x : Seen) (r : Rec) : Type 0 where
   pub id : x .id ≡ r .id
   pub facts : x .facts ≡ factsOf r
   pub small : Bounded (x .facts)
-  pub terms : drop from v ≡ termsC .enc (r .terms) ++ drop (x .after) v
+  pub terms : drop from v ≡ termsK k .enc (r .terms) ++ drop (x .after) v
   pub place : drop (x .after) v ≡ placeC .enc (r .place) ++ drop (x .mark) v
   pub marks : drop (x .mark) v ≡ beC 1 .enc (r .mark) ++ (beC 8 .enc (r .finish) ++ drop (x .body) v)
   pub body : drop (x .body) v ≡ bodyK k .enc (r .body) ++ drop (x .size) v
@@ -214,7 +218,7 @@ pub record SeenFrom (from k : ℕ) (v : Bytes) (x : Seen) (r : Rec) : Type 0 whe
 
 -- under a kind, and in an area
 abbrev pub SeenUnder : ℕ → Bytes → Seen → Rec → Type 0
-SeenUnder k v x r = SeenFrom (termsUnder k) k v x r
+SeenUnder k v x r = SeenFrom (termsFrom k) k v x r
 
 abbrev pub SeenAs : Bytes → Seen → Rec → Type 0
 SeenAs v x r = SeenFrom termsAt newest v x r

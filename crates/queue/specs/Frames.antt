@@ -1,18 +1,18 @@
 -- The frames of document 01's image and of the area as codecs, each under a header kind: a header, a record.
 use mathlib.Core.Path.{_≡_, refl}
-use mathlib.Core.Bool.{Bool, cond, not, _&&_}
+use mathlib.Core.Bool.{Bool, true, false, cond, not, _&&_, _||_}
 use mathlib.Core.Option.{Option, none, some}
 use mathlib.Core.List.{List, [], _∷_, _++_}
-use Prim.Native.Nat.{ℕ, _+_, _<_}
+use Prim.Native.Nat.{ℕ, _+_, _-_, _%_, _^_, _<_}
 use native.Mathlib.Omega.{arith}
-use lib.Dec.{ltb, eqb}
-use borrow.Author.Tests.{lt-ltb, ltb-true, eqb-true, eq-eqb}
-use Rattle.queue.specs.Codec.{Got, fail, got, no-got, if-got, Codec, byteC, beC, pairC, mapC, optC, vecC, countedC}
-use Rattle.queue.specs.Choice.{pickC, sinceC, guardC, thenC}
+use lib.Dec.{ltb, leb, eqb}
+use borrow.Author.Tests.{lt-ltb, le-ltb, ltb-true, ltb-false, leb-true, le-leb, eqb-true, eq-eqb}
+use Rattle.queue.specs.Codec.{Got, fail, got, no-got, if-got, cases, Codec, byteC, beC, pairC, mapC, optC, vecC, countedC}
+use Rattle.queue.specs.Choice.{pickC, sinceC, guardC, viaC, thenC}
 use Rattle.queue.specs.Lists.{and-true}
 use Rattle.queue.specs.paper.Records.{Bytes, Id, Limits, Terms, Held, Rec}
 use Rattle.queue.specs.paper.Lists.{maybe}
-use Rattle.queue.specs.paper.Kinds.{newest, hasMark3, hasCallers, hasReads, firstShare}
+use Rattle.queue.specs.paper.Kinds.{newest, hasMark3, hasCallers, hasReads, hasWide, fits32?, firstShare}
 
 -- one byte that says what stands behind it
 module _ (n : ℕ) where
@@ -62,9 +62,49 @@ termsTuple t = (t .created, (t .due, (t .dueHeight, (t .priority, (t .label, (t 
 unfoldable pub labelC : Codec (Option Bytes)
 labelC = optC (countedC byteC 1)
 
-unfoldable pub termsC : Codec Terms
-termsC = mapC termsOf termsTuple (λ t. refl) (λ t. refl)
-    (pairC (beC 8) (pairC (optC (beC 8)) (pairC (optC (beC 4)) (pairC (beC 4) (pairC labelC (pairC (beC 8) (pairC (beC 4) (beC 8))))))))
+-- ---- a number of 64 bits in 4 bytes, both two's complement
+
+-- with the sign of 32 bits carried, and the low 32 bits
+abbrev pub widen : ℕ → ℕ
+widen v = cond (ltb v 2147483648) v (v + 18446744069414584320)
+
+abbrev pub low32 : ℕ → ℕ
+low32 w = w % 4294967296
+
+abbrev pub Narrow : ℕ → Type 0
+Narrow w = (fits32? w ≡ true) × (w < 256 ^ 8)
+
+pub widen-low : (v : ℕ) → v < 256 ^ 4 → (low32 (widen v) ≡ v) × Narrow (widen v)
+widen-low v h = cases (ltb v 2147483648)
+    (λ e. let k = ltb-true v 2147483648 e in rw (e, e) (omega arith, (refl, omega arith)))
+    (λ e.
+    let k = ltb-false v 2147483648 e in
+    rw e (omega arith, (rw (le-ltb (v + 18446744069414584320) 2147483648 (omega arith), le-leb 18446744071562067968 (v + 18446744069414584320) (omega arith)), omega arith)))
+
+or-cases : {X : Type 0} (a b : Bool) → (a || b) ≡ true → (a ≡ true → X) → (b ≡ true → X) → X
+or-cases true b e f g = f refl
+or-cases false b e f g = g e
+
+pub low-widen : (w : ℕ) → Narrow w → (widen (low32 w) ≡ w) × (low32 w < 256 ^ 4)
+low-widen w h = or-cases (ltb w 2147483648) (leb 18446744071562067968 w) (h .0)
+    (λ e. let k = ltb-true w 2147483648 e in let z : low32 w ≡ w = omega arith in (rw (z, e), omega arith))
+    (λ e.
+    let b = leb-true 18446744071562067968 w e in
+    let c = h .1 in
+    let z : low32 w ≡ w - 18446744069414584320 = omega arith in
+    (rw (z, le-ltb (w - 18446744069414584320) 2147483648 (omega arith)) (omega arith), omega arith))
+
+unfoldable pub narrowC : Codec ℕ
+unfolding beC
+narrowC = viaC widen low32 Narrow (beC 4) widen-low low-widen
+
+-- a priority: 8 bytes since kind 06, before it 4
+abbrev pub priorityC : ℕ → Codec ℕ
+priorityC k = pickC (hasWide k) (beC 8) narrowC
+
+unfoldable pub termsK : ℕ → Codec Terms
+termsK k = mapC termsOf termsTuple (λ t. refl) (λ t. refl)
+    (pairC (beC 8) (pairC (optC (beC 8)) (pairC (optC (beC 4)) (pairC (priorityC k) (pairC labelC (pairC (beC 8) (pairC (beC 4) (beC 8))))))))
 
 abbrev pub HeldT : Type 0
 HeldT = List Id × (List Id × (List Id × Bytes))
@@ -132,7 +172,7 @@ callerC k = sinceC (hasCallers k) (beC 1) 0
 -- kind 02, id, caller, state, reason, terms, mined place, withdrawn mark, finish number, holder
 unfoldable pub recK : ℕ → Codec Rec
 recK k = mapC recOf recTuple (λ t. refl) (λ t. refl)
-    (pairC (tagC 2) (pairC idC (pairC (callerC k) (pairC (beC 1) (pairC (beC 1) (pairC termsC (restK k)))))))
+    (pairC (tagC 2) (pairC idC (pairC (callerC k) (pairC (beC 1) (pairC (beC 1) (pairC (termsK k) (restK k)))))))
 
 -- P, B, T, K
 abbrev pub Four : Type 0
@@ -182,6 +222,9 @@ headK k = mapC headOf headTuple (λ t. refl) (λ t. refl)
     (pairC (tagC k) (pairC (limitsK k) (pairC (beC 8) (pairC (beC 4) (pairC (optC idC) (pairC (beC 8) (beC 4)))))))
 
 -- ---- under the newest kind, which an area has
+abbrev pub termsC : Codec Terms
+termsC = termsK newest
+
 abbrev pub restC : Codec (Option (ℕ × Id) × (ℕ × (ℕ × Option Held)))
 restC = restK newest
 

@@ -8,14 +8,14 @@ use native.Mathlib.Omega.{arith}
 use lib.Dec.{eqb}
 use borrow.Author.Tests.{eqb-true, eq-eqb}
 use Rattle.queue.specs.Codec.{Codec, All, beC, pairC, mapC, optC, optEnc, vecC, countedC}
-use Rattle.queue.specs.Choice.{fixC, sinceC, guardC, thenC}
-use Rattle.queue.specs.Frames.{Head, tagC, idC, idsC, termsC, placeC, readsC, heldK, heldC, bodyK, bodyC, leadEnc, readsEnc, signedEnc, Four, fourC, sixteenC, sharesC, limitsK, limitsC, callerC, markSince, markC, recK, headK, recC, headC}
+use Rattle.queue.specs.Choice.{fixC, pickC, sinceC, guardC, viaC, thenC}
+use Rattle.queue.specs.Frames.{Head, tagC, idC, idsC, labelC, low32, narrowC, priorityC, termsK, termsC, placeC, readsC, heldK, heldC, bodyK, bodyC, leadEnc, readsEnc, signedEnc, Four, fourC, sixteenC, sharesC, limitsK, limitsC, callerC, markSince, markC, recK, headK, recC, headC}
 use Rattle.queue.specs.Lists.{and-true, and-both}
 use Rattle.queue.specs.Order.{same-is, same-self}
-use Rattle.queue.specs.paper.Records.{Bytes, Id, Limits, Held, Rec, Queue}
+use Rattle.queue.specs.paper.Records.{Bytes, Id, Limits, Terms, Held, Rec, Queue}
 use Rattle.queue.specs.paper.Ids.{same?}
 use Rattle.queue.specs.paper.Lists.{isEmpty?, all?}
-use Rattle.queue.specs.paper.Kinds.{newest, kind?, hasMark3, hasCallers, hasReads, markSaid?, callerSaid?, readsSaid?, sharesSaid?, recSaid?, firstShare, says?}
+use Rattle.queue.specs.paper.Kinds.{newest, kind?, hasMark3, hasCallers, hasReads, hasWide, fits32?, markSaid?, callerSaid?, readsSaid?, prioritySaid?, sharesSaid?, recSaid?, firstShare, says?}
 
 -- ---- the withdrawn mark; since: whether the kind has mark 3
 marks-enc : (since : Bool) (m : ℕ) → markSince since .enc m ≡ beC 1 .enc m
@@ -64,6 +64,49 @@ pub caller-up : (k c : ℕ) → callerC k .ok c → beC 1 .ok c
 unfolding beC
 caller-up k c h = since-up (hasCallers k) (beC 1) 0 c (omega arith) h
 
+-- ---- a priority; wide: whether the kind has 64 bits
+wides-up : (wide : Bool) (p : ℕ) → pickC wide (beC 8) narrowC .ok p → beC 8 .ok p
+unfolding beC narrowC viaC
+wides-up true p h = h
+wides-up false p h = h .1
+
+wides-said : (wide : Bool) (p : ℕ) → pickC wide (beC 8) narrowC .ok p → (wide || fits32? p) ≡ true
+unfolding narrowC viaC
+wides-said true p h = refl
+wides-said false p h = h .0
+
+wides-down : (wide : Bool) (p : ℕ) → (wide || fits32? p) ≡ true → beC 8 .ok p → pickC wide (beC 8) narrowC .ok p
+unfolding beC narrowC viaC
+wides-down true p s h = h
+wides-down false p s h = (s, h)
+
+pub narrow-enc : (p : ℕ) → narrowC .enc p ≡ beC 4 .enc (low32 p)
+unfolding narrowC viaC
+narrow-enc p = refl
+
+-- what stands before the priority in the terms, and what stands behind it
+abbrev pub foreEnc : Terms → Bytes
+foreEnc t = beC 8 .enc (t .created) ++ (optC (beC 8) .enc (t .due) ++ optC (beC 4) .enc (t .dueHeight))
+
+abbrev pub backEnc : Terms → Bytes
+backEnc t = labelC .enc (t .label) ++ (beC 8 .enc (t .fee) ++ (beC 4 .enc (t .size) ++ beC 8 .enc (t .cost)))
+
+pub terms-enc : (k : ℕ) (t : Terms) → termsK k .enc t ≡ foreEnc t ++ (priorityC k .enc (t .priority) ++ backEnc t)
+unfolding termsK mapC pairC
+terms-enc k t = simp append-assoc
+
+terms-up : (k : ℕ) (t : Terms) → termsK k .ok t → termsC .ok t
+unfolding termsK mapC pairC
+terms-up k t h = (h .0, (h .1 .0, (h .1 .1 .0, (wides-up (hasWide k) (t .priority) (h .1 .1 .1 .0), h .1 .1 .1 .1))))
+
+terms-said : (k : ℕ) (t : Terms) → termsK k .ok t → prioritySaid? k (t .priority) ≡ true
+unfolding termsK mapC pairC
+terms-said k t h = wides-said (hasWide k) (t .priority) (h .1 .1 .1 .0)
+
+terms-down : (k : ℕ) (t : Terms) → prioritySaid? k (t .priority) ≡ true → termsC .ok t → termsK k .ok t
+unfolding termsK mapC pairC
+terms-down k t s h = (h .0, (h .1 .0, (h .1 .1 .0, (wides-down (hasWide k) (t .priority) s (h .1 .1 .1 .0), h .1 .1 .1 .1))))
+
 -- ---- a body
 none-of : {A : Type 0} (l : List A) → isEmpty? l ≡ true → l ≡ []
 none-of [] e = refl
@@ -95,35 +138,40 @@ body-down k (some x) s h = (h .0, (h .1 .0, (since-down (hasReads k) idsC [] (x 
 
 -- ---- a record
 
--- from its state to its outputs it has the same bytes under all kinds
-unfoldable pub recMid : Rec → Bytes
-recMid r =
-    beC 1 .enc (r .state)
-    ++ (beC 1 .enc (r .reason) ++ (termsC .enc (r .terms) ++ (placeC .enc (r .place) ++ (beC 1 .enc (r .mark) ++ (beC 8 .enc (r .finish) ++ leadEnc (r .body))))))
+-- from its state to its deadlines, and from its label to its outputs, it has the same bytes under all kinds
+unfoldable pub recFore : Rec → Bytes
+recFore r = beC 1 .enc (r .state) ++ (beC 1 .enc (r .reason) ++ foreEnc (r .terms))
 
-pub rec-enc : (k : ℕ) (r : Rec) → recK k .enc r ≡ 2 ∷ (idC .enc (r .id) ++ (callerC k .enc (r .caller) ++ (recMid r ++ (readsEnc k (r .body) ++ signedEnc (r .body)))))
-unfolding recK recMid mapC pairC tagC
-rec-enc k r = rw (mark-enc k (r .mark), body-enc k (r .body)) (simp append-assoc)
+unfoldable pub recMid : Rec → Bytes
+recMid r = backEnc (r .terms) ++ (placeC .enc (r .place) ++ (beC 1 .enc (r .mark) ++ (beC 8 .enc (r .finish) ++ leadEnc (r .body))))
+
+pub rec-enc : (k : ℕ) (r : Rec)
+    → recK k .enc r ≡ 2 ∷ (idC .enc (r .id) ++ (callerC k .enc (r .caller) ++ (recFore r ++ (priorityC k .enc (r .terms .priority) ++ (recMid r ++ (readsEnc k (r .body) ++ signedEnc (r .body)))))))
+unfolding recK recFore recMid mapC pairC tagC
+rec-enc k r = rw (terms-enc k (r .terms), mark-enc k (r .mark), body-enc k (r .body)) (simp append-assoc)
 
 pub rec-up : (k : ℕ) (r : Rec) → recK k .ok r → recC .ok r
 unfolding recK mapC pairC
-rec-up k r h = (h .0, (h .1 .0, (caller-up k (r .caller) (h .1 .1 .0), (h .1 .1 .1 .0, (h .1 .1 .1 .1 .0, (h .1 .1 .1 .1 .1 .0, (h .1 .1 .1 .1 .1 .1 .0, (marks-up (hasMark3 k) (r .mark) (h .1 .1 .1 .1 .1 .1 .1 .0), (h .1 .1 .1 .1 .1 .1 .1 .1 .0, body-up k (r .body) (h .1 .1 .1 .1 .1 .1 .1 .1 .1))))))))))
+rec-up k r h = (h .0, (h .1 .0, (caller-up k (r .caller) (h .1 .1 .0), (h .1 .1 .1 .0, (h .1 .1 .1 .1 .0, (terms-up k (r .terms) (h .1 .1 .1 .1 .1 .0), (h .1 .1 .1 .1 .1 .1 .0, (marks-up (hasMark3 k) (r .mark) (h .1 .1 .1 .1 .1 .1 .1 .0), (h .1 .1 .1 .1 .1 .1 .1 .1 .0, body-up k (r .body) (h .1 .1 .1 .1 .1 .1 .1 .1 .1))))))))))
 
 pub rec-said : (k : ℕ) (r : Rec) → recK k .ok r → recSaid? k r ≡ true
 unfolding recK mapC pairC
-rec-said k r h = and-both (markSaid? k (r .mark)) (callerSaid? k (r .caller) && readsSaid? k (r .body))
-    (marks-said (hasMark3 k) (r .mark) (h .1 .1 .1 .1 .1 .1 .1 .0))
-    (and-both (callerSaid? k (r .caller)) (readsSaid? k (r .body))
+rec-said k r h = and-both (prioritySaid? k (r .terms .priority)) _
+    (terms-said k (r .terms) (h .1 .1 .1 .1 .1 .0))
+    (and-both (callerSaid? k (r .caller)) _
     (since-said (hasCallers k) (beC 1) 0 (r .caller) (eqb (r .caller) 0) (λ e. eq-eqb (r .caller) 0 e) (h .1 .1 .0))
-    (body-said k (r .body) (h .1 .1 .1 .1 .1 .1 .1 .1 .1)))
+    (and-both (markSaid? k (r .mark)) (readsSaid? k (r .body))
+    (marks-said (hasMark3 k) (r .mark) (h .1 .1 .1 .1 .1 .1 .1 .0))
+    (body-said k (r .body) (h .1 .1 .1 .1 .1 .1 .1 .1 .1))))
 
 pub rec-down : (k : ℕ) (r : Rec) → recSaid? k r ≡ true → recC .ok r → recK k .ok r
 unfolding recK mapC pairC
 rec-down k r s h =
-    let t = and-true (markSaid? k (r .mark)) (callerSaid? k (r .caller) && readsSaid? k (r .body)) s in
-    let u = and-true (callerSaid? k (r .caller)) (readsSaid? k (r .body)) (t .1) in
+    let p = and-true (prioritySaid? k (r .terms .priority)) _ s in
+    let u = and-true (callerSaid? k (r .caller)) _ (p .1) in
+    let t = and-true (markSaid? k (r .mark)) (readsSaid? k (r .body)) (u .1) in
     let c = since-down (hasCallers k) (beC 1) 0 (r .caller) (eqb (r .caller) 0) (λ e. eqb-true (r .caller) 0 e) (u .0) (h .1 .1 .0) in
-    (h .0, (h .1 .0, (c, (h .1 .1 .1 .0, (h .1 .1 .1 .1 .0, (h .1 .1 .1 .1 .1 .0, (h .1 .1 .1 .1 .1 .1 .0, (marks-down (hasMark3 k) (r .mark) (t .0) (h .1 .1 .1 .1 .1 .1 .1 .0), (h .1 .1 .1 .1 .1 .1 .1 .1 .0, body-down k (r .body) (u .1) (h .1 .1 .1 .1 .1 .1 .1 .1 .1))))))))))
+    (h .0, (h .1 .0, (c, (h .1 .1 .1 .0, (h .1 .1 .1 .1 .0, (terms-down k (r .terms) (p .0) (h .1 .1 .1 .1 .1 .0), (h .1 .1 .1 .1 .1 .1 .0, (marks-down (hasMark3 k) (r .mark) (t .0) (h .1 .1 .1 .1 .1 .1 .1 .0), (h .1 .1 .1 .1 .1 .1 .1 .1 .0, body-down k (r .body) (t .1) (h .1 .1 .1 .1 .1 .1 .1 .1 .1))))))))))
 
 -- ---- records
 pub recs-up : (k : ℕ) (l : List Rec) → All (recK k .ok) l → All (recC .ok) l
@@ -182,14 +230,15 @@ unfolding headK mapC pairC
 head-said k h x = limits-said k (h .limits) (x .1 .0)
 
 pub kind-byte : (k : ℕ) → kind? k ≡ true → k < 256
-kind-byte k e = go (eqb k 1) (eqb k 3) (eqb k 4) (eqb k 5) (eqb-true k 1) (eqb-true k 3) (eqb-true k 4) (eqb-true k 5) e
+kind-byte k e = go (eqb k 1) (eqb k 3) (eqb k 4) (eqb k 5) (eqb k 6) (eqb-true k 1) (eqb-true k 3) (eqb-true k 4) (eqb-true k 5) (eqb-true k 6) e
   where
-    go : (a b c d : Bool) → (a ≡ true → k ≡ 1) → (b ≡ true → k ≡ 3) → (c ≡ true → k ≡ 4) → (d ≡ true → k ≡ 5) → (a || (b || (c || d))) ≡ true → k < 256
-    go true b c d f g h i t = let z = f refl in omega arith
-    go false true c d f g h i t = let z = g refl in omega arith
-    go false false true d f g h i t = let z = h refl in omega arith
-    go false false false true f g h i t = let z = i refl in omega arith
-    go false false false false f g h i t = let z : _≡_ {A = ℕ} 0 1 = cc in absurd (omega arith)
+    go : (a b c d l : Bool) → (a ≡ true → k ≡ 1) → (b ≡ true → k ≡ 3) → (c ≡ true → k ≡ 4) → (d ≡ true → k ≡ 5) → (l ≡ true → k ≡ 6) → (a || (b || (c || (d || l)))) ≡ true → k < 256
+    go true b c d l f g h i j t = let z = f refl in omega arith
+    go false true c d l f g h i j t = let z = g refl in omega arith
+    go false false true d l f g h i j t = let z = h refl in omega arith
+    go false false false true l f g h i j t = let z = i refl in omega arith
+    go false false false false true f g h i j t = let z = j refl in omega arith
+    go false false false false false f g h i j t = let z : _≡_ {A = ℕ} 0 1 = cc in absurd (omega arith)
 
 -- ---- a queue; h: its header
 pub queue-said : (k : ℕ) (q : Queue) (h : Head) → h .limits ≡ q .limits → headK k .ok h × All (recK k .ok) (q .recs) → says? k q ≡ true

@@ -1,20 +1,20 @@
 -- The encoding that document 01 and docs/AREA.md say in plain words is that of the codecs.
 use mathlib.Core.Path.{_≡_, refl, ap, _∙_}
-use mathlib.Core.Bool.{Bool, true, false}
+use mathlib.Core.Bool.{Bool, true, false, cond}
 use mathlib.Core.Option.{Option, none, some}
 use mathlib.Core.List.{List, [], _∷_, _++_, append-assoc}
-use Prim.Native.Nat.{ℕ}
+use Prim.Native.Nat.{ℕ, _%_}
 use lib.ListN.{length}
 use Rattle.queue.specs.Codec.{Codec, be, byteC, beC, pairC, mapC, optC, optEnc, vecC, countedC, encs}
-use Rattle.queue.specs.Choice.{fixC, sinceC, thenC}
-use Rattle.queue.specs.Frames.{tagC, idC, labelC, termsC, idsC, heldK, bodyK, placeC, callerC, readsC, recK, recC, fourC, sixteenC, sharesC, limitsK, limitsC, headK}
+use Rattle.queue.specs.Choice.{fixC, pickC, sinceC, viaC, thenC}
+use Rattle.queue.specs.Frames.{tagC, idC, labelC, narrowC, termsK, termsC, idsC, heldK, bodyK, placeC, callerC, readsC, recK, recC, fourC, sixteenC, sharesC, limitsK, limitsC, headK}
 use Rattle.queue.specs.Forms.{headFor, storeOf, formC, lineEnc, recIn, textForm, queueC, queue-enc, image-enc}
 use Rattle.queue.specs.Kinds.{mark-enc}
 use Rattle.queue.specs.Areas.{layout, image}
 use Rattle.queue.specs.paper.Records.{Bytes, Id, Limits, Terms, Held, Rec, Queue}
 use Rattle.queue.specs.paper.Lists.{map, concat}
-use Rattle.queue.specs.paper.Area.{flagged, since, idListBytes, termsBytes, placeBytes, heldUnder, recUnder, recBytes, sharesBytes, headUnder, queueBytes, areaBytes, line, imageUnder}
-use Rattle.queue.specs.paper.Kinds.{newest, hasCallers, hasReads, firstShare}
+use Rattle.queue.specs.paper.Area.{flagged, since, idListBytes, termsUnder, termsBytes, placeBytes, heldUnder, recUnder, recBytes, sharesBytes, headUnder, queueBytes, areaBytes, line, imageUnder}
+use Rattle.queue.specs.paper.Kinds.{newest, hasCallers, hasReads, hasWide, firstShare}
 
 pub bytes-plain : (s : Bytes) → encs byteC s ≡ s
 unfolding encs byteC
@@ -43,18 +43,26 @@ be-plain : (n v : ℕ) → beC n .enc v ≡ be n v
 unfolding beC
 be-plain n v = refl
 
-pub terms-plain : (t : Terms) → termsC .enc t ≡ termsBytes t
-unfolding termsC mapC pairC labelC termsBytes
-terms-plain t = rw (
+priority-plain : (wide : Bool) (p : ℕ) → pickC wide (beC 8) narrowC .enc p ≡ cond wide (be 8 p) (be 4 (p % 4294967296))
+unfolding beC narrowC viaC
+priority-plain true p = refl
+priority-plain false p = refl
+
+pub terms-under : (k : ℕ) (t : Terms) → termsK k .enc t ≡ termsUnder k t
+unfolding termsK mapC pairC labelC termsUnder
+terms-under k t = rw (
   opt-plain (beC 8) (be 8) (be-plain 8) (t .due),
   opt-plain (beC 4) (be 4) (be-plain 4) (t .dueHeight),
   opt-plain (countedC byteC 1) (λ l. be 1 (length l) ++ l) label-plain (t .label),
   be-plain 8 (t .created),
-  be-plain 4 (t .priority),
+  priority-plain (hasWide k) (t .priority),
   be-plain 8 (t .fee),
   be-plain 4 (t .size),
   be-plain 8 (t .cost),
 )
+
+pub terms-plain : (t : Terms) → termsC .enc t ≡ termsBytes t
+terms-plain t = terms-under newest t
 
 pub place-plain : (o : Option (ℕ × Id)) → placeC .enc o ≡ placeBytes o
 unfolding placeC placeBytes pairC beC
@@ -90,7 +98,7 @@ caller-plain k c = since-plain (hasCallers k) (beC 1) 0 c
 
 pub rec-under : (k : ℕ) (r : Rec) → recK k .enc r ≡ recUnder k r
 unfolding recK recUnder mapC pairC tagC beC
-rec-under k r = rw (id-plain (r .id), caller-plain k (r .caller), terms-plain (r .terms), place-plain (r .place), mark-enc k (r .mark), body-plain k (r .body))
+rec-under k r = rw (id-plain (r .id), caller-plain k (r .caller), terms-under k (r .terms), place-plain (r .place), mark-enc k (r .mark), body-plain k (r .body))
 
 pub rec-plain : (r : Rec) → recC .enc r ≡ recBytes r
 rec-plain r = rec-under newest r

@@ -10,3 +10,4 @@ pub mod Reading
 pub mod Calls
 pub mod Fees
 pub mod Parents
+pub mod Base

@@ -108,7 +108,7 @@ fn put_terms(x: Asked, label: &[u8], n: u64, dst: &mut [u8], at: usize) -> usize
     let a = put_be(dst, at, 8, t.0);
     let b = put_opt(x.timeflag, 8, u.0, dst, a);
     let c = put_opt(x.heightflag, 4, h.0, dst, b);
-    let d = put_be(dst, c, 4, x.priority);
+    let d = put_be(dst, c, 8, x.priority);
     let e = put_label(x.labelflag, label, dst, d);
     let f = put_be(dst, e, 8, x.fee);
     let g = put_be(dst, f, 4, n);
@@ -369,7 +369,7 @@ fn label_size(flag: u64, label: &[u8]) -> usize
 // always there.
 const ENTRY: usize = 40;
 
-const FIXED_TERMS: usize = 32;
+const FIXED_TERMS: usize = 36;
 
 // How long the entry of the new record is.
 fn entry_new_len(x: Asked, inputs: &[u8], reads: &[u8], label: &[u8]) -> usize
@@ -802,7 +802,7 @@ pub fn admit(
     time: u64,
     heightflag: u8,
     height: u32,
-    priority: u32,
+    priority: u64,
     labelflag: u8,
     label: &[u8],
     fee: u64,
@@ -821,7 +821,7 @@ pub fn admit(
         time: Time(time),
         heightflag: heightflag as u64,
         height: Height(height as u64),
-        priority: priority as u64,
+        priority: priority,
         labelflag: labelflag as u64,
         fee: fee,
         cost: cost,

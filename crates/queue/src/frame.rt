@@ -15,9 +15,9 @@ ghost use mathlib.Core.Path.{_≡_};
 ghost use Prim.Native.Nat.{_+_, _≤_, _<_, _^_};
 ghost use lib.ListN.{length, getD};
 ghost use Rattle.queue.specs.Codec.{beC, optC};
-ghost use Rattle.queue.specs.Frames.{idC, labelC, termsC, placeC, readsC, bodyK, restK, recK, recC, fourC, limitsK, headK};
+ghost use Rattle.queue.specs.Frames.{idC, labelC, widen, termsK, placeC, readsC, bodyK, restK, recK, recC, fourC, limitsK, headK};
 ghost use Rattle.queue.specs.Reads.{Reads, Span, OptSpan, Counted, flagC};
-ghost use Rattle.queue.specs.Facts.{TagAt, MarkAt, CallerAt, ReadsAt, NumAt, OptAt, PlaceAs, TermsAs, BodyAs, RestAs, SeenUnder, SeenAs, LimAs, SharesAt, LimitsAs, HeadUnder};
+ghost use Rattle.queue.specs.Facts.{TagAt, MarkAt, CallerAt, PriorityAt, ReadsAt, NumAt, OptAt, PlaceAs, TermsAs, BodyAs, RestAs, SeenUnder, SeenAs, LimAs, SharesAt, LimitsAs, HeadUnder};
 ghost use mathlib.Core.Bool.{true, false};
 ghost use Rattle.queue.specs.paper.Sound.{labelLen};
 ghost use Rattle.queue.specs.paper.Kinds.{kind?};
@@ -40,7 +40,7 @@ pub struct Form {
 }
 
 // The header kind that is written.
-pub const NEWEST: u8 = 5;
+pub const NEWEST: u8 = 6;
 
 // The header kind that brought the withdrawn mark 3.
 const MARK_3: u8 = 3;
@@ -50,6 +50,9 @@ pub const CALLERS: u8 = 4;
 
 // The header kind that brought the read ids.
 pub const READS: u8 = 5;
+
+// The header kind that brought priorities of 64 bits.
+pub const WIDE: u8 = 6;
 
 // The frames of an area.
 pub const AREA: Form = Form {
@@ -410,13 +413,41 @@ pub fn label_at(s: &[u8], hex: bool, base: usize, at: usize) -> NumR
     }
 }
 
-pub fn terms_at(s: &[u8], hex: bool, base: usize, at: usize) -> TermsR
-    ensures { λ r. ⌜ Reads termsC (view hex (now (s .entry)) base) at (r .ok) (r .next) (TermsAs r) ⌝ }
+// A number of 32 bits as one of 64, both two's complement.
+fn widened(v: u64) -> u64
+    requires { ⌜ v < 4294967296 ⌝ }
+    ensures { λ r. ⌜ r ≡ widen v ⌝ }
 {
+    if v < 2147483648 {
+        return v;
+    }
+    v + 18446744069414584320
+}
+
+// A priority as the kind has it: 8 bytes, or 4 with their sign.
+fn priority_at(s: &[u8], form: Form, base: usize, at: usize) -> NumR
+    ensures { λ r. ⌜ PriorityAt (form .kind) (view (form .hex) (now (s .entry)) base) at (r .ok) (r .next) (r .value) ⌝ }
+{
+    if WIDE <= form.kind {
+        return num(s, form.hex, base, at, 8);
+    }
+    let p = num(s, form.hex, base, at, 4);
+    let v = widened(p.value);
+    NumR {
+        ok: p.ok,
+        value: v,
+        next: p.next,
+    }
+}
+
+fn terms_at(s: &[u8], form: Form, base: usize, at: usize) -> TermsR
+    ensures { λ r. ⌜ Reads (termsK (form .kind)) (view (form .hex) (now (s .entry)) base) at (r .ok) (r .next) (TermsAs r) ⌝ }
+{
+    let hex = form.hex;
     let a = num(s, hex, base, at, 8);
     let b = opt_num(s, hex, base, a.next, 8);
     let c = opt_num(s, hex, base, b.next, 4);
-    let d = num(s, hex, base, c.next, 4);
+    let d = priority_at(s, form, base, c.next);
     let e = label_at(s, hex, base, d.next);
     let f = span(s, hex, base, e.next, 8);
     let g = num(s, hex, base, f.next, 4);
@@ -575,7 +606,7 @@ fn rec_any(s: &[u8], form: Form, base: usize) -> Seen
     let w = caller_at(s, form, base, b.next);
     let c = num(s, hex, base, w.next, 1);
     let d = num(s, hex, base, c.next, 1);
-    let t = terms_at(s, hex, base, d.next);
+    let t = terms_at(s, form, base, d.next);
     let e = rest_at(s, form, base, t.next);
     let h = e.held;
     let created = t.created;
@@ -742,7 +773,10 @@ pub fn kind_at(s: &[u8], hex: bool, base: usize) -> u8
 pub fn known(kind: u8) -> bool
     ensures { λ r. ⌜ r ≡ kind? kind ⌝ }
 {
-    either(kind == 1, either(kind == 3, either(kind == 4, kind == 5)))
+    either(
+        kind == 1,
+        either(kind == 3, either(kind == 4, either(kind == 5, kind == 6))),
+    )
 }
 
 pub fn head_at(s: &[u8], form: Form, base: usize) -> HeadR

@@ -115,13 +115,13 @@ fn label_near(s: &[u8], base: usize, at: usize) -> NumR
 }
 
 fn terms_near(s: &[u8], base: usize, at: usize) -> TermsR
-    requires { ⌜ Near (view false (now s) base) at 303 ⌝ }
-    ensures { λ r. ⌜ Reads termsC (view false (now (s .entry)) base) at (r .ok) (r .next) (TermsAs r) × (r .next ≤ at + 303) ⌝ }
+    requires { ⌜ Near (view false (now s) base) at 307 ⌝ }
+    ensures { λ r. ⌜ Reads termsC (view false (now (s .entry)) base) at (r .ok) (r .next) (TermsAs r) × (r .next ≤ at + 307) ⌝ }
 {
     let a = num_near(s, base, at, 8);
     let b = opt_near(s, base, a.next, 8);
     let c = opt_near(s, base, b.next, 4);
-    let d = num_near(s, base, c.next, 4);
+    let d = num_near(s, base, c.next, 8);
     let e = label_near(s, base, d.next);
     let g = num_near(s, base, e.next + 8, 4);
     let ok = all8(a.ok, b.ok, c.ok, d.ok, e.ok, true, g.ok, true);

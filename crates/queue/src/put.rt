@@ -1,6 +1,7 @@
 // Writers: each returns the position after what it wrote.
 use super::view::fetch;
 ghost use mathlib.Core.Path.{_≡_};
+ghost use mathlib.Core.Bool.{true};
 ghost use mathlib.Core.List.{[], _∷_};
 ghost use Prim.Native.Nat.{_+_, _-_, _*_, _≤_, _<_};
 ghost use lib.ListN.{length, take, drop, replicate};
@@ -99,6 +100,23 @@ pub fn put_text(src: &[u8], from: usize, n: usize, dst: &mut [u8], at: usize) ->
     let mut o = at;
     while j < n {
         let b = src[from + j];
+        dst[o] = dig(b / 16);
+        dst[o + 1] = dig(b % 16);
+        o += 2;
+        j += 1;
+    }
+    o
+}
+
+// The digits of n bytes of a frame of text, from `from` on.
+pub fn copy_text(s: &[u8], base: usize, from: usize, n: usize, dst: &mut [u8], at: usize) -> usize
+    requires { ⌜ (from + n ≤ length (view true (now s) base)) × (at + 2 * n ≤ length (now dst)) ⌝ }
+    ensures { λ r. ⌜ Put (now (dst .entry)) at (textOf (take n (drop from (view true (now (s .entry)) base)))) (2 * n) r (now (dst .exit)) ⌝ }
+{
+    let mut j: usize = 0;
+    let mut o = at;
+    while j < n {
+        let b = fetch(s, true, base, from + j);
         dst[o] = dig(b / 16);
         dst[o + 1] = dig(b % 16);
         o += 2;

@@ -93,14 +93,14 @@ impl Lent {
 
 // What has one length stands first, then the lengths of the rest, then these.
 fn admit(a: &[u8], cur: &[u8], next: &mut [u8], out: &mut [u8]) -> u64 {
-    let id = length_at(a, 49);
-    let inputs = length_at(a, 51);
-    let outputs = length_at(a, 53);
-    let reads = length_at(a, 55);
-    let signed = length_at(a, 57);
-    let label = length_at(a, 59);
-    let tip = length_at(a, 61);
-    let b = 63 + id;
+    let id = length_at(a, 53);
+    let inputs = length_at(a, 55);
+    let outputs = length_at(a, 57);
+    let reads = length_at(a, 59);
+    let signed = length_at(a, 61);
+    let label = length_at(a, 63);
+    let tip = length_at(a, 65);
+    let b = 67 + id;
     let c = b + inputs;
     let d = c + outputs;
     let e = d + reads;
@@ -109,8 +109,8 @@ fn admit(a: &[u8], cur: &[u8], next: &mut [u8], out: &mut [u8]) -> u64 {
     pokerbox_admit(
         cur,
         next,
-        part(a, 63, id),
-        number_8(a, 48),
+        part(a, 67, id),
+        number_8(a, 52),
         part(a, b, inputs),
         part(a, c, outputs),
         part(a, d, reads),
@@ -120,13 +120,13 @@ fn admit(a: &[u8], cur: &[u8], next: &mut [u8], out: &mut [u8]) -> u64 {
         number(a, 9, 8),
         number_8(a, 17),
         number_32(a, 18),
-        number_32(a, 22),
-        number_8(a, 26),
+        number(a, 22, 8),
+        number_8(a, 30),
         part(a, f, label),
-        number(a, 27, 8),
-        number(a, 35, 8),
-        number_32(a, 43),
-        number_8(a, 47),
+        number(a, 31, 8),
+        number(a, 39, 8),
+        number_32(a, 47),
+        number_8(a, 51),
         part(a, g, tip),
         out,
     )

@@ -1,16 +1,18 @@
 -- The image writer and opening, on lent bytes, and how much has to be lent.
 use mathlib.Core.Bool.{cond}
+use mathlib.Core.Option.{Option, none}
 use Prim.Native.Nat.{ℕ}
-use lib.Dec.{ltb}
+use lib.Dec.{ltb, eqb}
 use lib.ListN.{length}
 use Rattle.queue.specs.declared.Kind.the-variants.{Nothing}
 use Rattle.queue.specs.declared.Answer.{Answer}
 use Rattle.queue.specs.declared.Answer.the-variants.{Refused, Done}
-use Rattle.queue.specs.Areas.{readArea, readImage}
-use Rattle.queue.specs.paper.Records.{Bytes, Limits}
+use Rattle.queue.specs.Areas.{readArea, kindOf, readImage}
+use Rattle.queue.specs.paper.Records.{Bytes, Limits, Queue}
 use Rattle.queue.specs.paper.Lists.{maybe}
 use Rattle.queue.specs.paper.Sound.{inRange, need}
-use Rattle.queue.specs.paper.Area.{sharesBytes, imageBytes, over}
+use Rattle.queue.specs.paper.Kinds.{newest, oldest, says?}
+use Rattle.queue.specs.paper.Area.{sharesBytes, imageUnder, imageBytes, over}
 use Rattle.queue.specs.paper.Calls.{putQueue}
 
 -- the image into an output, its length behind a reference: 3, 4
@@ -43,3 +45,17 @@ imageLimitsOf text old shares =
     maybe (Refused 16, (old, shares))
     (λ q. cond (ltb (length shares) 64) (Refused 4, (old, shares)) (Done Nothing, (limitsNeed (q .limits), over (sharesBytes (q .limits .shares)) shares)))
     (readImage text)
+
+-- Document 02, P13: "an image of another kind is 16 to it"
+unfoldable pub readNewest : Bytes → Option Queue
+readNewest text = cond (eqb (kindOf text) newest) (readImage text) none
+
+-- "a converter from 06 back to 01", text to text, its length behind a reference. "Checks: 22, a priority outside 32 bits, a caller other
+-- than 0, shares other than P and fifteen zeros, a withdrawn mark 3 or a read id, after 16 and before 4": what kind 01 can't say
+unfoldable pub convertOf : Bytes → Bytes → ℕ → Answer × (Bytes × ℕ)
+convertOf text out old =
+    maybe (Refused 16, (out, old))
+    (λ q. cond (says? oldest q)
+    (cond (ltb (length out) (length (imageUnder oldest q))) (Refused 4, (out, old)) (Done Nothing, (over (imageUnder oldest q) out, length (imageUnder oldest q))))
+    (Refused 22, (out, old)))
+    (readNewest text)

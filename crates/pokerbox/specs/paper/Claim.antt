@@ -34,7 +34,7 @@ Small s = All (λ b. b < 256) s
 abbrev pub CallOk : Call → Type 0
 CallOk (admitting a) =
     (Small (a .id) × (Small (a .inputs) × (Small (a .outputs) × (Small (a .reads) × (Small (a .bytes) × (Small (a .label) × Small (a .tip)))))))
-    × ((a .now < 18446744073709551616) × ((a .time < 18446744073709551616) × ((a .height < 4294967296) × ((a .priority < 4294967296) × ((a .fee < 18446744073709551616) × ((a .cost < 18446744073709551616) × (a .tipHeight < 4294967296)))))))
+    × ((a .now < 18446744073709551616) × ((a .time < 18446744073709551616) × ((a .height < 4294967296) × ((a .priority < 18446744073709551616) × ((a .fee < 18446744073709551616) × ((a .cost < 18446744073709551616) × (a .tipHeight < 4294967296)))))))
 CallOk (cancelling i) = Small i
 CallOk (expiring now height) = Unit {0}
 CallOk (reconciling a) =

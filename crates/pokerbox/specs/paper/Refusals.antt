@@ -12,11 +12,12 @@ use Rattle.queue.specs.Areas.{readArea, readImage}
 use Rattle.queue.specs.paper.Records.{Bytes, Id, Limits, Rec, Queue}
 use Rattle.queue.specs.paper.Lists.{isSome, maybe, any?, total, count, find}
 use Rattle.queue.specs.paper.Sound.{inRange, sharesRight?, need, holder?, pending?, mined?, labelLen, clash?, crossed?}
-use Rattle.queue.specs.paper.Area.{imageBytes}
+use Rattle.queue.specs.paper.Kinds.{oldest, says?}
+use Rattle.queue.specs.paper.Area.{imageUnder, imageBytes}
 use Rattle.queue.specs.paper.Changing.{Out, refused, done, top, named?, reached?, pendings, pendingBytes, pendingsOf, shareOf, admit, cancel, due?, expire, toRelease, reconcile}
 use Rattle.queue.specs.paper.Calls.{id?, entryBytes, idsBytes, releasedBytes, Call, admitting, cancelling, expiring, reconciling, reopening, settingCursor, admission, reconciliation, shape?, overK?, callOf, limitsOf, freshOf, soundOf, settleShape?, settleOf, readOf, numberOf, entryOf, signedBytesOf}
 use Rattle.queue.specs.paper.Fees.{bestFees, candidates, sizeOf, feeOf, bestBytes, budget?, bestFeesOf}
-use Rattle.image.specs.paper.Image.{imageOf, openOf, Five, needOf, imageLimitsOf}
+use Rattle.image.specs.paper.Image.{imageOf, openOf, Five, needOf, imageLimitsOf, readNewest, convertOf}
 
 -- numbers with their conditions
 abbrev pub Checks : Type 0
@@ -94,6 +95,11 @@ abbrev pub feesChecks : List Rec → ℕ → ℕ → ℕ → Checks
 feesChecks c limit budget room =
     (5, not (budget? budget)) ∷ (21, ltb top (total feeOf c)) ∷ (4, ltb room (length (bestBytes (bestFees sizeOf feeOf c limit budget)))) ∷ []
 
+-- document 02, P13: "22 .., after 16 and before 4"
+abbrev pub convertChecks : Bytes → ℕ → Checks
+convertChecks text room =
+    (16, not (isSome (readNewest text))) ∷ maybe [] (λ q. (22, not (says? oldest q)) ∷ (4, ltb room (length (imageUnder oldest q))) ∷ []) (readNewest text)
+
 -- every exported call
 pub record Demand1 : Type 0 where
   pub changing : (c : Call) (cur next out : Bytes) → Answers (callOf c cur next out) (next, out) (callChecks c cur (length next) (length out))
@@ -106,6 +112,7 @@ pub record Demand1 : Type 0 where
   pub need : (m : Limits) (old : ℕ) → Answers (needOf m old) old ((1, not (inRange m)) ∷ [])
   pub limits : (text : Bytes) (old : Five) (shares : Bytes)
       → Answers (imageLimitsOf text old shares) (old, shares) ((16, not (isSome (readImage text))) ∷ maybe [] (λ q. (4, ltb (length shares) 64) ∷ []) (readImage text))
+  pub converting : (text out : Bytes) (old : ℕ) → Answers (convertOf text out old) (out, old) (convertChecks text (length out))
   pub reading : (f : Queue → Bytes) (area out : Bytes) → Answers (readOf f area out) out (on area λ q. (4, ltb (length out) (length (f q))) ∷ [])
   pub number : (f : Queue → ℕ) (area : Bytes) (old : ℕ) → Answers (numberOf f area old) old (on area λ q. [])
   pub entry : (area id out : Bytes)

@@ -2,12 +2,12 @@
 use mathlib.Core.Bool.{Bool, cond}
 use mathlib.Core.Option.{Option}
 use mathlib.Core.List.{List, [], _∷_, _++_}
-use Prim.Native.Nat.{ℕ, _+_, _-_, _*_, _^_}
+use Prim.Native.Nat.{ℕ, _+_, _-_, _*_, _%_, _^_}
 use lib.ListN.{length, drop, replicate}
 use Rattle.queue.specs.paper.Records.{Bytes, Id, Terms, Held, Rec, Queue}
 use Rattle.queue.specs.paper.Lists.{maybe, map, concat}
 use Rattle.queue.specs.paper.Sound.{need}
-use Rattle.queue.specs.paper.Kinds.{newest, hasCallers, hasReads}
+use Rattle.queue.specs.paper.Kinds.{newest, hasCallers, hasReads, hasWide}
 use Rattle.queue.specs.Codec.{be}
 use Rattle.queue.specs.Hex.{textOf}
 
@@ -15,14 +15,22 @@ use Rattle.queue.specs.Hex.{textOf}
 abbrev pub flagged : {A : Type 0} → (A → Bytes) → Option A → Bytes
 flagged f o = maybe (0 ∷ []) (λ a. 1 ∷ f a) o
 
--- "created 8; time flag, 8; height flag, 4; priority 4, two's complement; label flag, length 1, bytes; fee 8; size 4; cost 8"
-unfoldable pub termsBytes : Terms → Bytes
-termsBytes t =
+-- "priority 4, two's complement". Document 02, P13: "Widen the stored priority to 64 signed bits; images get header kind 06 and eight
+-- bytes there"; the older kinds have the low 32 bits of it
+abbrev pub priorityUnder : ℕ → ℕ → Bytes
+priorityUnder k p = cond (hasWide k) (be 8 p) (be 4 (p % 4294967296))
+
+-- "created 8; time flag, 8; height flag, 4; priority ..; label flag, length 1, bytes; fee 8; size 4; cost 8"
+unfoldable pub termsUnder : ℕ → Terms → Bytes
+termsUnder k t =
     be 8 (t .created)
     ++ (flagged (be 8) (t .due)
     ++ (flagged (be 4) (t .dueHeight)
-    ++ (be 4 (t .priority)
+    ++ (priorityUnder k (t .priority)
     ++ (flagged (λ l. be 1 (length l) ++ l) (t .label) ++ (be 8 (t .fee) ++ (be 4 (t .size) ++ be 8 (t .cost)))))))
+
+abbrev pub termsBytes : Terms → Bytes
+termsBytes t = termsUnder newest t
 
 -- "mined flag, height 4, block 32"
 unfoldable pub placeBytes : Option (ℕ × Id) → Bytes
@@ -54,7 +62,7 @@ recUnder k r =
     ++ (since (hasCallers k) (be 1 (r .caller))
     ++ (be 1 (r .state)
     ++ (be 1 (r .reason)
-    ++ (termsBytes (r .terms) ++ (placeBytes (r .place) ++ (be 1 (r .mark) ++ (be 8 (r .finish) ++ flagged (heldUnder k) (r .body)))))))))
+    ++ (termsUnder k (r .terms) ++ (placeBytes (r .place) ++ (be 1 (r .mark) ++ (be 8 (r .finish) ++ flagged (heldUnder k) (r .body)))))))))
 
 abbrev pub recBytes : Rec → Bytes
 recBytes r = recUnder newest r
@@ -64,7 +72,7 @@ unfoldable pub sharesBytes : List ℕ → Bytes
 sharesBytes l = concat (map (be 4) l)
 
 -- "Header: kind 01; P, B, T, K 4 each; revision 8; cursor height 4; tip flag, tip 32; counter 8; record count 4." Document 02, P4:
--- "header kind 03"; P8: "the header kind becomes 04, with the shares, 4 bytes each, after K"; P11: "header kind 05"
+-- "header kind 03"; P8: "the header kind becomes 04, with the shares, 4 bytes each, after K"; P11: "header kind 05"; P13: "header kind 06"
 unfoldable pub headUnder : ℕ → Queue → Bytes
 headUnder k q =
     k ∷ (be 4 (q .limits .P)

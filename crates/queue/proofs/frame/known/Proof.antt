@@ -16,8 +16,13 @@ either-requires-2 c κs = search needs
 either-requires-3 : tie.Need-either-requires-3
 either-requires-3 c κs = search needs
 
+either-requires-4 : tie.Need-either-requires-4
+either-requires-4 c κs = search needs
+
 returns : tie.Need-returns
-returns c = c .either3 .ensures ∙ rw (c .before .either2 .ensures, c .before .before .either .ensures)
+returns c = c .either4 .ensures ∙ rw (c .before .either3 .ensures, c .before .before .either2 .ensures, c .before .before .before .either .ensures)
 
 pub known-spec : {M : Type 1} → statement M
-known-spec = tie.close (tie.spec either-requires either-requires-2 either-requires-3 returns)
+known-spec =
+    tie.close
+    (tie.spec either-requires either-requires-2 either-requires-3 either-requires-4 returns)

@@ -8,6 +8,7 @@ use Rattle.queue.proofs.frame.terms_at.Lts as lts
 use Rattle.queue.proofs.frame.label_at.Reads as label-at-reads
 use Rattle.queue.proofs.frame.num.Reads as num-reads
 use Rattle.queue.proofs.frame.opt_num.Reads as opt-num-reads
+use Rattle.queue.proofs.frame.priority_at.Reads as priority-at-reads
 use Rattle.queue.proofs.frame.span.Reads as span-reads
 use Rattle.queue.proofs.logic.all8.Reads as all8-reads
 
@@ -20,8 +21,8 @@ opt-num-requires c κs = search needs
 opt-num-requires-2 : tie.Need-opt-num-requires-2
 opt-num-requires-2 c κs = search needs
 
-num-requires-2 : tie.Need-num-requires-2
-num-requires-2 c κs = search needs
+priority-at-requires : tie.Need-priority-at-requires
+priority-at-requires c κs = search needs
 
 label-at-requires : tie.Need-label-at-requires
 label-at-requires c κs = search needs
@@ -29,8 +30,8 @@ label-at-requires c κs = search needs
 span-requires : tie.Need-span-requires
 span-requires c κs = search needs
 
-num-requires-3 : tie.Need-num-requires-3
-num-requires-3 c κs = search needs
+num-requires-2 : tie.Need-num-requires-2
+num-requires-2 c κs = search needs
 
 span-requires-2 : tie.Need-span-requires-2
 span-requires-2 c κs = search needs
@@ -39,7 +40,7 @@ all8-requires : tie.Need-all8-requires
 all8-requires c κs = search needs
 
 returns : tie.Need-returns
-returns c = terms-read _ (c .before .before .before .before .before .before .before .before .num .ensures) (c .before .before .before .before .before .before .before .opt-num .ensures) (c .before .before .before .before .before .before .opt-num2 .ensures) (c .before .before .before .before .before .num2 .ensures) (c .before .before .before .before .label-at .ensures) (c .before .before .before .span .ensures) (c .before .before .num3 .ensures) (c .before .span2 .ensures) (c .all8 .ensures)
+returns c = terms-read (c .before .before .before .before .before .before .before .before .before .before .args .form .kind) _ (c .before .before .before .before .before .before .before .before .num .ensures) (c .before .before .before .before .before .before .before .opt-num .ensures) (c .before .before .before .before .before .before .opt-num2 .ensures) (c .before .before .before .before .before .priority-at .ensures) (c .before .before .before .before .label-at .ensures) (c .before .before .before .span .ensures) (c .before .before .num2 .ensures) (c .before .span2 .ensures) (c .all8 .ensures)
 
 pub terms-at-spec : {M : Type 1} → statement M
 terms-at-spec =
@@ -48,10 +49,10 @@ terms-at-spec =
     num-requires
     opt-num-requires
     opt-num-requires-2
-    num-requires-2
+    priority-at-requires
     label-at-requires
     span-requires
-    num-requires-3
+    num-requires-2
     span-requires-2
     all8-requires
     returns)

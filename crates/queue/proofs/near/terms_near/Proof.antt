@@ -1,12 +1,18 @@
 -- Filled from its answers by tools/proofkit.py: change those, and fill it again.
-use Rattle.queue.proofs.FrameLaws.{terms-read}
+use Rattle.queue.proofs.FrameLaws.{priority-yes, terms-read}
 use Rattle.queue.proofs.NearLaws.{span-near}
+use Rattle.queue.specs.paper.Kinds.{newest}
 use borrow.Author.Needs.{needs}
+use mathlib.Core.Path.{refl}
 use native.Mathlib.Omega.{arith}
 use Rattle.queue.proofs.near.terms_near.Statement.{statement}
 use Rattle.queue.proofs.near.terms_near.Tie as tie
 use Rattle.queue.proofs.near.terms_near.Reads as reads
 use Rattle.queue.proofs.near.terms_near.Lts as lts
+use Rattle.queue.proofs.logic.all8.Reads as all8-reads
+use Rattle.queue.proofs.near.label_near.Reads as label-near-reads
+use Rattle.queue.proofs.near.num_near.Reads as num-near-reads
+use Rattle.queue.proofs.near.opt_near.Reads as opt-near-reads
 
 num-near-requires : tie.Need-num-near-requires
 num-near-requires c κs = (omega arith, (omega (arith, c .before .pre .0), omega (arith, c .before .pre .1), c .before .pre .2))
@@ -36,7 +42,7 @@ add-t11 : tie.Need-add-t11
 add-t11 c = omega (arith, c .before .before .num-near3 .ensures .1, c .before .before .before .before .label-near .ensures .1, c .before .before .before .before .before .num-near2 .ensures .1, c .before .before .before .before .before .before .opt-near2 .ensures .1, c .before .before .before .before .before .before .before .opt-near .ensures .1, c .before .before .before .before .before .before .before .before .num-near .ensures .1, c .before .before .before .before .before .before .before .before .before .before .pre .0)
 
 returns : tie.Need-returns
-returns c = (terms-read _ (c .before .before .before .before .before .before .before .before .num-near .ensures .0) (c .before .before .before .before .before .before .before .opt-near .ensures .0) (c .before .before .before .before .before .before .opt-near2 .ensures .0) (c .before .before .before .before .before .num-near2 .ensures .0) (c .before .before .before .before .label-near .ensures .0) (span-near (omega (arith, c .before .before .before .before .label-near .ensures .1, c .before .before .before .before .before .num-near2 .ensures .1, c .before .before .before .before .before .before .opt-near2 .ensures .1, c .before .before .before .before .before .before .before .opt-near .ensures .1, c .before .before .before .before .before .before .before .before .num-near .ensures .1, c .before .before .before .before .before .before .before .before .before .before .pre .1)) (c .before .before .before .before .before .before .before .before .before .before .pre .2)) (c .before .before .num-near3 .ensures .0) (span-near (omega (arith, c .before .before .num-near3 .ensures .1, c .before .before .before .before .label-near .ensures .1, c .before .before .before .before .before .num-near2 .ensures .1, c .before .before .before .before .before .before .opt-near2 .ensures .1, c .before .before .before .before .before .before .before .opt-near .ensures .1, c .before .before .before .before .before .before .before .before .num-near .ensures .1, c .before .before .before .before .before .before .before .before .before .before .pre .1)) (c .before .before .before .before .before .before .before .before .before .before .pre .2)) (c .before .all8 .ensures), omega (arith, c .before .before .num-near3 .ensures .1, c .before .before .before .before .label-near .ensures .1, c .before .before .before .before .before .num-near2 .ensures .1, c .before .before .before .before .before .before .opt-near2 .ensures .1, c .before .before .before .before .before .before .before .opt-near .ensures .1, c .before .before .before .before .before .before .before .before .num-near .ensures .1))
+returns c = (terms-read newest _ (c .before .before .before .before .before .before .before .before .num-near .ensures .0) (c .before .before .before .before .before .before .before .opt-near .ensures .0) (c .before .before .before .before .before .before .opt-near2 .ensures .0) (priority-yes newest refl (c .before .before .before .before .before .num-near2 .ensures .0)) (c .before .before .before .before .label-near .ensures .0) (span-near (omega (arith, c .before .before .before .before .label-near .ensures .1, c .before .before .before .before .before .num-near2 .ensures .1, c .before .before .before .before .before .before .opt-near2 .ensures .1, c .before .before .before .before .before .before .before .opt-near .ensures .1, c .before .before .before .before .before .before .before .before .num-near .ensures .1, c .before .before .before .before .before .before .before .before .before .before .pre .1)) (c .before .before .before .before .before .before .before .before .before .before .pre .2)) (c .before .before .num-near3 .ensures .0) (span-near (omega (arith, c .before .before .num-near3 .ensures .1, c .before .before .before .before .label-near .ensures .1, c .before .before .before .before .before .num-near2 .ensures .1, c .before .before .before .before .before .before .opt-near2 .ensures .1, c .before .before .before .before .before .before .before .opt-near .ensures .1, c .before .before .before .before .before .before .before .before .num-near .ensures .1, c .before .before .before .before .before .before .before .before .before .before .pre .1)) (c .before .before .before .before .before .before .before .before .before .before .pre .2)) (c .before .all8 .ensures), omega (arith, c .before .before .num-near3 .ensures .1, c .before .before .before .before .label-near .ensures .1, c .before .before .before .before .before .num-near2 .ensures .1, c .before .before .before .before .before .before .opt-near2 .ensures .1, c .before .before .before .before .before .before .before .opt-near .ensures .1, c .before .before .before .before .before .before .before .before .num-near .ensures .1))
 
 pub terms-near-spec : {M : Type 1} → statement M
 terms-near-spec =
