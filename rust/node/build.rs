@@ -22,6 +22,7 @@ const CALLS: &[&str] = &[
     "open",
     "need",
     "image_limits",
+    "convert",
     "revision",
     "is_empty",
     "deadline_due",

@@ -7,7 +7,7 @@ use compare::tables::Tables;
 use model::calls::ReconcileArgs;
 use model::load::{self, Ids, Links, Load, Reads};
 use model::random::nth_id;
-use model::{area, image, HeaderKind, Id, State};
+use model::{area, image, HeaderKind, Id, Queue, State};
 use pokerbox::raw;
 
 const ALL: [(Ids, Links, &str); 5] = [
@@ -43,6 +43,8 @@ pub struct Lent {
     image: Vec<u8>,
     /// Of kind 01.
     older: Vec<u8>,
+    /// Without read ids, which kind 01 has not.
+    to_convert: Vec<u8>,
     id: Id,
     mined: Vec<u8>,
     /// All inputs and read ids, rising.
@@ -72,6 +74,7 @@ impl Lent {
             area,
             image,
             older: image::encode_as(HeaderKind::K01, &queue),
+            to_convert: image::encode(&without_reads(queue)),
             id,
             mined,
             asked_for,
@@ -164,6 +167,10 @@ impl Lent {
         timed!("image", raw::image(area, out, &mut 0));
         timed!("open", raw::open(&self.image, next));
         timed!("open, an image of kind 01", raw::open(&self.older, next));
+        timed!(
+            "convert, to an image of kind 01",
+            raw::convert(&self.to_convert, out, &mut 0)
+        );
         let ([p, b, t, k, need], shares) = (&mut [0; 5], &mut [0; 64]);
         let image = &self.image;
         timed!(
@@ -172,6 +179,14 @@ impl Lent {
         );
         rows
     }
+}
+
+fn without_reads(mut queue: Queue) -> Queue {
+    let records = queue.records.iter_mut();
+    for holder in records.filter_map(|record| record.holder.as_mut()) {
+        holder.reads.clear();
+    }
+    queue
 }
 
 const TOP: [u64; 4] = [1_024, 16_777_216, 1_024, 128];

@@ -220,7 +220,7 @@ fn record(n: usize, state: State) -> Record {
         created: TimeMs(n as u64),
         time_deadline: (n == 1).then_some(TimeMs(DUE)),
         height_deadline: None,
-        priority: (n % 5) as i32,
+        priority: (n % 5) as i64,
         label: None,
         fee: 1_000_000,
         size: SIGNED_BYTES as u32,
@@ -475,6 +475,14 @@ impl<'a> Bench<'a> {
             library: Some(time(
                 || (),
                 || raw::open(&older, &mut self.next).expect("opened"),
+            )),
+        });
+        rows.push(Row {
+            work: "convert, to an image of kind 01".into(),
+            oracle: None,
+            library: Some(time(
+                || (),
+                || raw::convert(&self.image, &mut self.out, &mut 0).expect("converted"),
             )),
         });
         rows

@@ -3,14 +3,15 @@
 
 use model::calls::entry_bytes;
 use model::random::Rng;
-use model::{area, Height, Queue, Record, TimeMs};
+use model::{area, HeaderKind, Height, Queue, Record, TimeMs};
 
 use crate::counts::Counts;
 use crate::list::{Event, List, Look, Short};
 use crate::run::{Difference, Found};
 use crate::side::{Model, Reading, Side};
 use crate::unit::{Fault, Unit};
-use crate::{callers, generate, reads};
+use crate::wide::as_texts;
+use crate::{callers, generate, reads, wide};
 
 /// The most events of a list.
 const EVENTS: usize = 60;
@@ -49,6 +50,7 @@ impl<'a, S: Side> Two<'a, S> {
     fn event(&mut self, event: &Event, counts: &mut Counts) -> Result<(), Difference> {
         match self.look {
             Look::Reads => counts.reads.events += 1,
+            Look::Wide => counts.wide.events += 1,
             _ => counts.callers.events += 1,
         }
         let before = self.queue()?;
@@ -71,6 +73,7 @@ impl<'a, S: Side> Two<'a, S> {
                     let after = self.queue()?;
                     match self.look {
                         Look::Reads => reads::count(call, &before, &after, &right, counts),
+                        Look::Wide => wide::count(call, &right, counts),
                         _ => callers::count(call, &before, &after, &right, counts),
                     }
                 }
@@ -116,8 +119,9 @@ impl<'a, S: Side> Two<'a, S> {
             let right = self.model.best_fees(&asked, BEST_FEES);
             self.same("the answer of best_fees", best, right)?;
         }
-        for record in &queue.records {
-            self.entry(record)?;
+        for (n, record) in queue.records.iter().enumerate() {
+            // Of one record after each event also with other outputs.
+            self.entry(record, n == self.at % queue.records.len())?;
         }
         if let Some(text) = &self.model.stored {
             for length in [63, 64] {
@@ -126,17 +130,31 @@ impl<'a, S: Side> Two<'a, S> {
                 self.same("the answer of image_limits", answer, right)?;
             }
         }
+        self.converted(&queue, counts)?;
         match self.look {
             Look::Reads => reads::seen(self, &queue, counts),
+            Look::Wide => wide::seen(self, &queue, counts),
             _ => callers::seen(self, &queue, counts),
         }
     }
 
-    /// The entry, with an output that is long enough, and with one that is a byte too short; the signed
-    /// bytes.
-    fn entry(&self, record: &Record) -> Result<(), Difference> {
+    /// What is made an image of kind 01.
+    fn converted(&self, queue: &Queue, counts: &mut Counts) -> Result<(), Difference> {
+        let rng = &mut Rng::new(self.seed);
+        let text = wide::text(rng, queue, self.model.stored.as_deref());
+        let right = text.right();
+        text.count(right.0, counts);
+        let what = format!("the answer of convert for {}", text.what);
+        let answer = self.unit.convert(&text.bytes, text.lent);
+        self.same(&what, as_texts(answer), as_texts(right))
+    }
+
+    /// The entry, with an output that is long enough, or also with one that is longer and with one that is a
+    /// byte too short; the signed bytes.
+    fn entry(&self, record: &Record, others: bool) -> Result<(), Difference> {
         let length = entry_bytes(record).len();
-        for length in [length - 1, length, length + 3] {
+        let lengths = [length, length - 1, length + 3];
+        for length in lengths.into_iter().take(if others { 3 } else { 1 }) {
             let right = self.model.entry(&record.id, length);
             let answer = self.unit.entry(&record.id, length);
             self.same("the answer of entry", answer, right)?;
@@ -155,7 +173,6 @@ impl<'a, S: Side> Two<'a, S> {
         differ(self.at, "a fault of the model", "-", fault)
     }
 
-    /// Areas are shown as the queues that they hold.
     /// Whether this area is sound, and what this text opens as; the answers are counted by these names.
     pub fn same_altered(
         &self,
@@ -166,14 +183,16 @@ impl<'a, S: Side> Two<'a, S> {
     ) -> Result<(), Difference> {
         let right = self.model.soundness(area);
         self.same("the answer of sound", self.unit.soundness(area), right)?;
-        counts.kind(names[0], 5, right);
+        let newest = HeaderKind::NEWEST as u8;
+        counts.kind(names[0], newest, right);
         let right = self.model.opened(text);
-        counts.kind(names[1], 5, right.0);
+        counts.kind(names[1], newest, right.0);
         let answer = self.unit.opened(text);
         self.same("the answer of open", answer.0, right.0)?;
         self.same_area("the opened area", &answer.1, &right.1)
     }
 
+    /// Areas are shown as the queues that they hold.
     pub fn same_area(&self, what: &str, side: &[u8], model: &[u8]) -> Result<(), Difference> {
         match side == model {
             true => Ok(()),
@@ -230,31 +249,33 @@ pub(crate) fn run_list<S: Side>(
         .try_for_each(|event| two.event(event, counts))
 }
 
-/// Makes and runs one random list, with callers and shares or with read ids. A difference comes with the
-/// list up to it.
+/// Makes and runs one random list, with callers and shares, with read ids or with wide priorities. A
+/// difference comes with the list up to it.
 pub(crate) fn random_list<S: Side>(
     side: &S,
     rng: &mut Rng,
     look: Look,
     counts: &mut Counts,
 ) -> Result<(), Found> {
-    let reading = look == Look::Reads;
-    let mut list = match reading {
-        true => generate::reads_list(rng),
-        false => generate::callers_list(rng),
+    let mut list = match look {
+        Look::Reads => generate::reads_list(rng),
+        Look::Wide => generate::wide_list(rng),
+        _ => generate::callers_list(rng),
     };
-    match reading {
-        true => counts.reads.lists += 1,
-        false => counts.callers.lists += 1,
+    match look {
+        Look::Reads => counts.reads.lists += 1,
+        Look::Wide => counts.wide.lists += 1,
+        _ => counts.callers.lists += 1,
     }
     let started = Two::new(side, &list).and_then(|two| two.seen(counts).map(|()| two));
     let mut two = started.map_err(|found| Box::new((list.clone(), found)))?;
     for _ in 0..1 + rng.below(EVENTS) {
         let queue = two.queue();
         let queue = queue.map_err(|found| Box::new((list.clone(), found)))?;
-        let event = match reading {
-            true => generate::reads_event(rng, &queue),
-            false => generate::callers_event(rng, &queue),
+        let event = match look {
+            Look::Reads => generate::reads_event(rng, &queue),
+            Look::Wide => generate::wide_event(rng, &queue),
+            _ => generate::callers_event(rng, &queue),
         };
         list.events.push(event.clone());
         if let Err(found) = two.event(&event, counts) {

@@ -3,6 +3,8 @@
 use std::collections::BTreeMap;
 use std::fmt;
 
+use crate::wide::Cause;
+
 #[derive(Debug, Clone, Default)]
 pub struct Counts {
     pub steps: u64,
@@ -19,6 +21,8 @@ pub struct Counts {
     pub marks: Marks,
     pub callers: Callers,
     pub reads: Reads,
+    pub wide: Wide,
+    pub converted: Converted,
     /// Texts and areas with other kinds and marks, by what was lent, its kind and the number given back.
     kinds: BTreeMap<(&'static str, u8), BTreeMap<u64, u64>>,
 }
@@ -92,6 +96,57 @@ pub struct Reads {
     pub over_k: u64,
     /// Read lists that are not whole, refused by 5.
     pub not_whole: u64,
+}
+
+/// Lists with priorities of 64 bits, which the model judges (document 02, P13).
+#[derive(Debug, Clone, Copy, Default)]
+pub struct Wide {
+    pub lists: u64,
+    pub events: u64,
+    /// Admissions that were kept, with a priority outside 32 bits.
+    pub admitted: u64,
+    /// Those with the first one beyond an end of 32 bits.
+    pub beyond: u64,
+    /// Events after which the selection is in another order without the sign, by the last 32 bits alone, or
+    /// by the first 32 alone.
+    pub by_sign: u64,
+    pub by_last: u64,
+    pub by_first: u64,
+}
+
+/// Texts that the converter was given, in all lists (document 02, P13). The model is the judge.
+#[derive(Debug, Clone, Copy, Default)]
+pub struct Converted {
+    pub answered: u64,
+    /// Those with records.
+    pub with_records: u64,
+    /// Images of older kinds, refused by 16.
+    pub older: u64,
+    /// Other texts that were refused by 16.
+    pub no_image: u64,
+    /// Refused by 4.
+    pub short: u64,
+    /// Refused by 22, for one cause or several.
+    pub refused: u64,
+    /// For one cause alone: in a holder, and in a tombstone.
+    pub priority: [u64; 2],
+    pub caller: [u64; 2],
+    pub shares: u64,
+    pub mark: u64,
+    pub reads: u64,
+}
+
+impl Converted {
+    /// The count of this cause alone.
+    pub fn by(&mut self, cause: Cause) -> &mut u64 {
+        match cause {
+            Cause::Priority(place) => &mut self.priority[place as usize],
+            Cause::Caller(place) => &mut self.caller[place as usize],
+            Cause::Shares => &mut self.shares,
+            Cause::Mark => &mut self.mark,
+            Cause::Reads => &mut self.reads,
+        }
+    }
 }
 
 /// Selections that were compared parents first (document 02, P7).
@@ -216,6 +271,8 @@ impl fmt::Display for Counts {
         writeln!(f, "  {}", self.marks)?;
         writeln!(f, "  {}", self.callers)?;
         writeln!(f, "  {}", self.reads)?;
+        writeln!(f, "  {}", self.wide)?;
+        writeln!(f, "  {}", self.converted)?;
         writeln!(f, "  {}", self.withdrawn)
     }
 }
@@ -278,6 +335,48 @@ impl fmt::Display for Reads {
             self.waiting,
             self.over_k,
             self.not_whole
+        )
+    }
+}
+
+impl fmt::Display for Wide {
+    fn fmt(&self, f: &mut fmt::Formatter<'_>) -> fmt::Result {
+        write!(
+            f,
+            "priorities of 64 bits, by the model: {} lists, {} events; {} admitted with one outside 32 \
+             bits, {} of them the first beyond; the order is another without the sign after {} events, by \
+             the last 32 bits after {}, by the first 32 after {}",
+            self.lists,
+            self.events,
+            self.admitted,
+            self.beyond,
+            self.by_sign,
+            self.by_last,
+            self.by_first
+        )
+    }
+}
+
+impl fmt::Display for Converted {
+    fn fmt(&self, f: &mut fmt::Formatter<'_>) -> fmt::Result {
+        write!(
+            f,
+            "texts to convert, by the model: {} converted ({} with records); refused by 16: {} of an older \
+             kind, {} others; by 22: {}, and for one cause alone {} priorities of holders, {} of \
+             tombstones, {} callers of holders, {} of tombstones, {} shares, {} marks, {} read ids; by 4: {}",
+            self.answered,
+            self.with_records,
+            self.older,
+            self.no_image,
+            self.refused,
+            self.priority[0],
+            self.priority[1],
+            self.caller[0],
+            self.caller[1],
+            self.shares,
+            self.mark,
+            self.reads,
+            self.short
         )
     }
 }

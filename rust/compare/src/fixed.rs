@@ -1000,6 +1000,7 @@ fn refusals(fixed: &mut Fixed) {
     shares(&mut lent);
     callers(&mut lent);
     reads(&mut lent);
+    wide(&mut lent);
     top_counter(&mut lent, queue, &id);
 }
 
@@ -1309,15 +1310,20 @@ fn kinds(lent: &mut Lent<'_>) {
         [kind.as_bytes(), &text[2..]].concat()
     };
     lent.fixed.both(
-        "images of kinds 01, 03, 04 and 05, and of no others: without shares and callers, with them, and with read counts",
+        "images of kinds 01, 03, 04, 05 and 06, and of no others: without shares and callers, with them, with read counts, and with wide priorities",
     );
-    for form in [HeaderKind::K03, HeaderKind::K04, HeaderKind::K05] {
-        for kind in ["01", "03", "04", "05", "00", "02", "06", "0f"] {
+    for form in [
+        HeaderKind::K03,
+        HeaderKind::K04,
+        HeaderKind::K05,
+        HeaderKind::K06,
+    ] {
+        for kind in ["01", "03", "04", "05", "06", "00", "02", "07", "0f"] {
             lent.open(&of_kind(kind, form));
             lent.image('q');
         }
     }
-    lent.fixed.both("marks under kinds 01, 03, 04 and 05");
+    lent.fixed.both("marks under kinds 01, 03, 04, 05 and 06");
     for form in HeaderKind::ALL {
         let digits = image::mark_place(form, &queue, 0);
         for mark in 0..7 {
@@ -1328,7 +1334,7 @@ fn kinds(lent: &mut Lent<'_>) {
         }
     }
     lent.fixed.both("areas of other kinds, and other marks");
-    for kind in [0, 1, 2, 3, 4, 6, 5] {
+    for kind in [0, 1, 2, 3, 4, 5, 7, 6] {
         let mut wrong = bytes.clone();
         wrong[4] = kind;
         lent.put('a', &wrong);
@@ -1658,6 +1664,54 @@ fn reads(lent: &mut Lent<'_>) {
         .both("an image of kind 04 opens without read ids");
     lent.open(&image::encode_as(HeaderKind::K04, &queue));
     lent.image('q');
+}
+
+/// Priorities of 64 bits, and the signs of those of 32.
+fn wide(lent: &mut Lent<'_>) {
+    const END: i64 = 1 << 31;
+    lent.fixed
+        .both("priorities of 64 bits: admitted, shown, and in the order of the selection");
+    let limits = Limits::checked(4, 10, 2, 1).expect("limits in range");
+    for priorities in [
+        [0, 1 << 32, END, -END - 1],
+        [i64::MIN, i64::MAX, -1, 1_700_000_000_000],
+    ] {
+        let mut queue = Queue::fresh(limits);
+        for (n, priority) in (1..).zip(priorities) {
+            let id = [n; 32];
+            lent.put('a', &area::encode(&queue));
+            let given = AdmitArgs {
+                priority: priority as u64,
+                ..known(&id)
+            };
+            lent.admit(78, &given);
+            lent.admit(79, &given);
+            lent.image('w');
+            let given = Admission {
+                priority,
+                ..Admission::plain(id)
+            };
+            let next = model::rules::admit(&queue, &given);
+            queue = next.expect("admitted").next;
+        }
+        lent.put('a', &area::encode(&queue));
+        for letter in ['S', 'T', 'L'] {
+            lent.read(letter, 400, &reading_arguments(letter, &[1; 32]));
+        }
+        lent.change('c', 79, &[1; 32]);
+        lent.image('w');
+    }
+    lent.fixed.both("the sign is carried from older kinds");
+    let mut queue = marked_queue();
+    for priority in [-1, -END, END - 1, 0] {
+        for record in &mut queue.records {
+            record.priority = priority;
+        }
+        for kind in HeaderKind::ALL {
+            lent.open(&image::encode_as(kind, &queue));
+            lent.image('q');
+        }
+    }
 }
 
 fn top_counter(lent: &mut Lent<'_>, mut queue: Queue, id: &Id) {

@@ -231,6 +231,51 @@ fn read_by(rng: &mut Rng, queue: &Queue, given: &mut Admission) {
     }
 }
 
+/// A list without events whose records have priorities of 64 bits. Some begin with a queue that has them, and
+/// some with one of 32 bits, also in an older image.
+pub fn wide_list(rng: &mut Rng) -> List {
+    let small = random::small_limits(rng).numbers();
+    // Room for more pending records, so that there is an order to see.
+    let limits = Limits::checked(small[0] + 3, 10, small[2], small[3]);
+    let limits = limits.expect("limits in range");
+    let start = match rng.below(4) {
+        0 | 1 => any_queue(rng, limits),
+        2 => Start::Fresh,
+        _ => {
+            let queue = random::queue(rng, limits);
+            let queue = random::with_wide(rng, queue);
+            Start::Queue(Box::new(queue), HeaderKind::NEWEST)
+        }
+    };
+    List {
+        limits,
+        start,
+        events: Vec::new(),
+        probe: (random::time(rng), random::height(rng)),
+        fees: rng.u64(),
+        look: Look::Wide,
+    }
+}
+
+/// An event of such a list: an admission has a priority of 64 bits mostly, and mostly nothing to refuse it.
+pub fn wide_event(rng: &mut Rng, queue: &Queue) -> Event {
+    let mut event = event(rng, queue);
+    if let Event::Call(call, _) = &mut event {
+        if let Call::Admit(given) = &mut **call {
+            if !rng.once_in(4) {
+                given.priority = random::wide_priority(rng);
+            }
+            if !rng.once_in(4) {
+                given.signed.clear();
+                given.inputs.clear();
+                given.label = None;
+                (given.time_deadline, given.height_deadline) = (None, None);
+            }
+        }
+    }
+    event
+}
+
 /// What best fees is asked of this queue; the draws are the same for all queues.
 pub fn fees(seed: u64, queue: &Queue, (now, height): (TimeMs, Height)) -> [Fees; 3] {
     let mut rng = Rng::new(seed);

@@ -11,6 +11,7 @@
 //! - [`beside`]: lists that the oracle cannot run, compared with the model.
 //! - [`callers`]: those with callers and shares.
 //! - [`reads`]: those with read ids.
+//! - [`wide`]: those with priorities of 64 bits; and images that are made ones of kind 01.
 //! - [`run`]: compares the two after each event.
 //! - [`fixed`]: the fixed list that a Rattle program replays.
 //! - [`shrink`]: makes a list that shows a difference smaller.
@@ -30,4 +31,5 @@ pub mod shrink;
 pub mod side;
 pub mod tables;
 pub mod unit;
+pub mod wide;
 pub mod withdrawn;

@@ -86,7 +86,7 @@ pub struct List {
     /// The time and height with which reading calls are asked after each event.
     pub probe: (TimeMs, Height),
     /// The seed of what best fees is asked, at the start and after each event, and of the kind and the
-    /// mark, caller, share or read id that are put into texts and areas.
+    /// mark, caller, share, read id or priority that are put into texts and areas.
     pub fees: u64,
     pub look: Look,
 }
@@ -105,6 +105,15 @@ pub enum Look {
     Callers,
     /// The same of a list with read ids (document 02, P11), which the oracle has not.
     Reads,
+    /// The same of a list with priorities of 64 bits (document 02, P13); the oracle has 32.
+    Wide,
+}
+
+impl Look {
+    /// Whether the oracle cannot run such a list, and the model is the judge.
+    pub fn is_by_model(self) -> bool {
+        matches!(self, Look::Callers | Look::Reads | Look::Wide)
+    }
 }
 
 impl fmt::Display for List {

@@ -11,6 +11,7 @@ use ergo_mempool::types::TxSource;
 use ergo_primitives::digest::Digest32;
 use ergo_primitives::registry::{self, Transaction};
 use model::calls::{entry_bytes, ids_bytes};
+use model::frame::is_narrow;
 use model::rules::{self, Admission, Reconciliation};
 use model::{
     Caller, Confirmation, FinishNumber, Height, Holder, Id, Limits, Queue, Reason, Record, State,
@@ -59,8 +60,8 @@ pub struct Oracle {
 
 impl Oracle {
     /// Uses `folder`, which must exist, and removes what an earlier oracle left there. The oracle has no
-    /// callers, no shares and no read ids: all is of caller 0, whose share is P, nothing is only read, and
-    /// nothing else is taken.
+    /// callers, no shares and no read ids, and priorities of 32 bits: all is of caller 0, whose share is P,
+    /// nothing is only read, and nothing else is taken.
     pub fn new(folder: &Path, limits: Limits, start: &Start) -> Result<Oracle, String> {
         if !limits.is_all_to_caller_0() {
             return Err("the oracle has no shares".into());
@@ -96,6 +97,10 @@ impl Oracle {
         }
         if !queue.records.iter().all(|record| record.reads().is_empty()) {
             return Err("the oracle has no read ids".into());
+        }
+        let narrow = |record: &Record| is_narrow(record.priority);
+        if !queue.records.iter().all(narrow) {
+            return Err("the oracle has priorities of 32 bits".into());
         }
         self.marked = Marked::new(queue);
         for record in &queue.records {
@@ -157,6 +162,9 @@ impl Oracle {
         }
         if matches!(call, Call::Admit(given) if !given.reads.is_empty()) {
             return Err("the oracle has no read ids".into());
+        }
+        if matches!(call, Call::Admit(given) if !is_narrow(given.priority)) {
+            return Err("the oracle has priorities of 32 bits".into());
         }
         let fails = match write {
             Write::Kept | Write::CutAfterRename => None,
@@ -364,12 +372,17 @@ pub fn options_of(given: &Admission) -> PrivateTransactionOptions {
     PrivateTransactionOptions {
         expires_at_ms: given.time_deadline.map(|time| time.0),
         expires_at_height: given.height_deadline.map(|height| height.0),
-        priority: given.priority,
+        priority: narrow(given.priority),
         label: given
             .label
             .clone()
             .map(|label| String::from_utf8(label).expect("labels are UTF-8")),
     }
+}
+
+/// The priority as the oracle has it.
+fn narrow(priority: i64) -> i32 {
+    i32::try_from(priority).expect("a priority of 32 bits")
 }
 
 /// Sets this thread's limits of the oracle.
@@ -501,7 +514,7 @@ fn shown_of(entry: &PrivateTransactionEntry) -> Record {
         created: TimeMs(entry.created_at_ms),
         time_deadline: entry.expires_at_ms.map(TimeMs),
         height_deadline: entry.expires_at_height.map(Height),
-        priority: entry.priority,
+        priority: entry.priority.into(),
         label: entry.label.clone().map(String::into_bytes),
         fee: entry.fee_nano_erg.parse().expect("a fee of 64 bits"),
         size: entry.size_bytes,
@@ -570,7 +583,7 @@ fn whole_record(record: &Record) -> WholeRecord {
             created_at_ms: record.created.0,
             expires_at_ms: record.time_deadline.map(|time| time.0),
             expires_at_height: record.height_deadline.map(|height| height.0),
-            priority: record.priority,
+            priority: narrow(record.priority),
             label: record
                 .label
                 .clone()

@@ -14,6 +14,7 @@ use crate::list::{Call, Event, List, Look, Short, Write};
 use crate::oracle::{self, Oracle};
 use crate::side::{Fees, Model, Reading, Side};
 use crate::unit::{self, ids_of, output, Fault, Unit, UNTOUCHED};
+use crate::wide::{self, as_texts};
 use crate::withdrawn::{History, Moved};
 
 /// Refusals outside the domain of demand 2 that lists meet: the oracle is not asked.
@@ -309,6 +310,7 @@ impl<'a, S: Side> Pair<'a, S> {
         counts.marks.events += u64::from(self.oracle.left_out() > 0);
         self.readings(&queue, counts)?;
         self.kinds(&queue, counts)?;
+        self.converted(&queue, counts)?;
         self.fees(&queue, counts)?;
         self.parents(&queue, counts)?;
         self.stored(&queue, counts)
@@ -358,9 +360,14 @@ impl<'a, S: Side> Pair<'a, S> {
     fn kinds(&self, queue: &Queue, counts: &mut Counts) -> Result<(), Difference> {
         let mut rng = Rng::new(self.fees);
         let (kind, mark) = (rng.pick(&KINDS), rng.pick(&MARKS));
-        // With shares, callers and read counts, without the counts, or without all of them: often as the
-        // kind has it.
-        let form = rng.pick(&[HeaderKind::K05, HeaderKind::K04, HeaderKind::K03]);
+        // With wide priorities, without them, without read counts besides, or without all of them and
+        // shares and callers: often as the kind has it.
+        let form = rng.pick(&[
+            HeaderKind::K06,
+            HeaderKind::K05,
+            HeaderKind::K04,
+            HeaderKind::K03,
+        ]);
         let form = match HeaderKind::from_number(kind) {
             Some(own) if rng.once_in(2) => own,
             _ => form,
@@ -396,6 +403,18 @@ impl<'a, S: Side> Pair<'a, S> {
         self.same("the opened area", opened, expected)?;
         counts.kind("texts", kind, number);
         Ok(())
+    }
+
+    /// What is made an image of kind 01, which the oracle has not, is judged by the model.
+    fn converted(&self, queue: &Queue, counts: &mut Counts) -> Result<(), Difference> {
+        // In each list the same draws, so that shorter lists show the same.
+        let rng = &mut Rng::new(self.fees);
+        let text = wide::text(rng, queue, self.unit.stored.as_deref());
+        let right = text.right();
+        text.count(right.0, counts);
+        let what = format!("the answer of convert for {}", text.what);
+        let answer = self.unit.convert(&text.bytes, text.lent);
+        self.same(&what, as_texts(answer), as_texts(right))
     }
 
     /// The stored image is that of a sound queue with these records.
@@ -534,7 +553,7 @@ impl<'a, S: Side> Pair<'a, S> {
 }
 
 /// Header kinds, mostly those that there are.
-const KINDS: [u8; 13] = [1, 3, 4, 5, 1, 3, 4, 5, 1, 3, 0, 2, 6];
+const KINDS: [u8; 15] = [1, 3, 4, 5, 6, 1, 3, 4, 5, 6, 1, 3, 0, 2, 7];
 /// Withdrawn marks, two numbers that are none, and the mark that is there.
 const MARKS: [Option<u8>; 7] = [Some(3), Some(5), Some(4), Some(0), Some(1), Some(2), None];
 
@@ -621,7 +640,7 @@ fn count(call: &Call, write: Write, done: &unit::Done, counts: &mut Counts) {
 /// Runs a whole list; the first difference.
 pub fn run_list<S: Side>(side: &S, folder: &Path, list: &List) -> Result<(), Difference> {
     let mut counts = Counts::default();
-    if matches!(list.look, Look::Callers | Look::Reads) {
+    if list.look.is_by_model() {
         return beside::run_list(side, list, &mut counts);
     }
     let mut pair = Pair::new(side, folder, list)?;
@@ -651,7 +670,8 @@ fn started<'a, S: Side>(
 const PARENTS: u64 = 12;
 
 /// What belongs to one seed: a random list, under these limits or random ones, a queue for best fees,
-/// some for parents first, a list with callers and shares, and one with read ids.
+/// some for parents first, a list with callers and shares, one with read ids, and one with priorities of 64
+/// bits.
 pub fn seed<S: Side>(
     side: &S,
     folder: &Path,
@@ -673,8 +693,10 @@ pub fn seed<S: Side>(
         let list = generate::parents_list(&mut Rng::new(seed));
         started(side, folder, &list, counts)?;
     }
-    beside::random_list(side, &mut Rng::new(seed), Look::Callers, counts)?;
-    beside::random_list(side, &mut Rng::new(seed), Look::Reads, counts)
+    for look in [Look::Callers, Look::Reads, Look::Wide] {
+        beside::random_list(side, &mut Rng::new(seed), look, counts)?;
+    }
+    Ok(())
 }
 
 /// Makes and runs one random list. A difference comes with the list up to it.

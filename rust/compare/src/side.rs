@@ -38,6 +38,8 @@ pub trait Side {
     /// P, B, T, K and the need; the shares.
     fn image_limits(&self, text: &[u8], numbers: &mut [u64; 5], shares: &mut [u8]) -> u64;
 
+    fn convert(&self, text: &[u8], out: &mut [u8], length: &mut u64) -> u64;
+
     fn sound(&self, area: &[u8]) -> u64;
 
     fn entry(&self, area: &[u8], id: &[u8], out: &mut [u8]) -> u64;
@@ -192,6 +194,10 @@ impl Side for Model {
     fn image_limits(&self, text: &[u8], numbers: &mut [u64; 5], shares: &mut [u8]) -> u64 {
         let [p, b, t, k, need] = numbers;
         calls::image_limits(text, p, b, t, k, shares, need)
+    }
+
+    fn convert(&self, text: &[u8], out: &mut [u8], length: &mut u64) -> u64 {
+        calls::convert(text, out, length)
     }
 
     fn sound(&self, area: &[u8]) -> u64 {
@@ -354,6 +360,10 @@ impl Side for Library {
     fn image_limits(&self, text: &[u8], numbers: &mut [u64; 5], shares: &mut [u8]) -> u64 {
         let [p, b, t, k, need] = numbers;
         number(raw::image_limits(text, p, b, t, k, shares, need))
+    }
+
+    fn convert(&self, text: &[u8], out: &mut [u8], length: &mut u64) -> u64 {
+        number(raw::convert(text, out, length))
     }
 
     fn sound(&self, area: &[u8]) -> u64 {

@@ -238,6 +238,14 @@ impl<'s, S: Side> Unit<'s, S> {
         image_limits(self.side, text, length)
     }
 
+    /// The number given back for a text to convert, the output of so many bytes, and what stands behind the
+    /// pointer.
+    pub fn convert(&self, text: &[u8], length: usize) -> (u64, Vec<u8>, u64) {
+        let (mut out, mut written) = (vec![UNTOUCHED; length], UNTOUCHED.into());
+        let number = self.side.convert(text, &mut out, &mut written);
+        (number, out, written)
+    }
+
     /// The number that a fresh queue under these limits gives back, and the area as it is then: one
     /// that is long enough, or a byte too short.
     pub fn fresh(&self, limits: [u64; 4], shares: &[u8], short: bool) -> (u64, Vec<u8>) {
@@ -359,7 +367,7 @@ pub fn admit_args<'a>(
         time: given.time_deadline.map_or(0, |time| time.0),
         height_flag: u8::from(given.height_deadline.is_some()),
         height: given.height_deadline.map_or(0, |height| height.0),
-        priority: given.priority as u32,
+        priority: given.priority as u64,
         label_flag: u8::from(given.label.is_some()),
         label: given.label.as_deref().unwrap_or_default(),
         fee: given.fee,

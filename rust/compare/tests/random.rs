@@ -82,7 +82,7 @@ fn callers_were_met(counts: &Counts) {
     ] {
         assert!(count > least, "{met}");
     }
-    let altered = |lent| counts.met_by_kind(lent, 5);
+    let altered = |lent| counts.met_by_kind(lent, 6);
     assert_eq!(altered("areas with another caller or share"), [3, 100]);
     assert_eq!(altered("texts with another caller or share"), [16, 100]);
 }
@@ -109,9 +109,52 @@ fn reads_were_met(counts: &Counts) {
     ] {
         assert!(count > least, "{met}");
     }
-    let altered = |lent| counts.met_by_kind(lent, 5);
+    let altered = |lent| counts.met_by_kind(lent, 6);
     assert_eq!(altered("areas with other read ids"), [3, 100]);
     assert_eq!(altered("texts with other read ids"), [16, 100]);
+}
+
+/// In the lists that the model judges, priorities of 64 bits were met often; and in all lists the converter
+/// answered, and refused by each number and for each cause alone.
+fn wide_were_met(counts: &Counts) {
+    let met = counts.wide;
+    assert!(met.lists >= 100, "{met}");
+    assert!(met.events > 1_500, "{met}");
+    for (count, least) in [
+        (met.admitted, 200),
+        (met.beyond, 20),
+        (met.by_sign, 200),
+        (met.by_last, 200),
+        (met.by_first, 200),
+    ] {
+        assert!(count > least, "{met}");
+    }
+    assert_eq!(counts.met_by_kind("areas with another priority", 6), [100]);
+    assert_eq!(counts.met_by_kind("texts with another priority", 6), [100]);
+    converted_were_met(counts);
+}
+
+fn converted_were_met(counts: &Counts) {
+    let met = counts.converted;
+    let [of_holders, of_tombstones] = met.priority;
+    let [by_holders, by_tombstones] = met.caller;
+    for (count, least) in [
+        (met.answered, 2_000),
+        (met.with_records, 1_800),
+        (met.older, 1_000),
+        (met.no_image, 200),
+        (met.short, 500),
+        (met.refused, 1_500),
+        (of_holders, 300),
+        (of_tombstones, 200),
+        (by_holders, 150),
+        (by_tombstones, 80),
+        (met.shares, 200),
+        (met.mark, 50),
+        (met.reads, 300),
+    ] {
+        assert!(count > least, "{met}");
+    }
 }
 
 /// The reason that is left out was there often enough, and so were other kinds and marks.
@@ -125,10 +168,11 @@ fn marks_were_met(counts: &Counts) {
         (1, &[16, 100][..], &[3][..]),
         (3, &[16, 100], &[3]),
         (4, &[16, 100], &[3]),
-        (5, &[16, 100], &[3, 100]),
+        (5, &[16, 100], &[3]),
+        (6, &[16, 100], &[3, 100]),
         (0, &[16], &[3]),
         (2, &[16], &[3]),
-        (6, &[16], &[3]),
+        (7, &[16], &[3]),
     ] {
         assert_eq!(counts.met_by_kind("texts", kind), texts, "{kind}");
         assert_eq!(counts.met_by_kind("areas", kind), areas, "{kind}");
@@ -162,6 +206,7 @@ fn the_library_answers_as_the_oracle() {
     marks_were_met(&counts);
     callers_were_met(&counts);
     reads_were_met(&counts);
+    wide_were_met(&counts);
 }
 
 type Admit = fn(&[u8], &mut [u8], &AdmitArgs<'_>, &mut [u8]) -> u64;
@@ -181,6 +226,7 @@ struct Faulty {
     open: fn(&[u8], &mut [u8]) -> u64,
     need: fn([u64; 4], &mut u64) -> u64,
     image_limits: fn(&[u8], &mut [u64; 5], &mut [u8]) -> u64,
+    convert: fn(&[u8], &mut [u8], &mut u64) -> u64,
     read: fn(Reading, &[u8], &mut [u8]) -> u64,
     best_fees: BestFees,
     parents_first: ParentsFirst,
@@ -197,6 +243,7 @@ const RIGHT: Faulty = Faulty {
     open: calls::open,
     need: |limits, value| Model.need(limits, value),
     image_limits: |text, numbers, shares| Model.image_limits(text, numbers, shares),
+    convert: calls::convert,
     read: |reading, area, out| Model.read(reading, area, out),
     best_fees: |area, asked, out| Model.best_fees(area, asked, out),
     parents_first: calls::selection_parents_first,
@@ -257,6 +304,10 @@ impl Side for Faulty {
         (self.image_limits)(text, numbers, shares)
     }
 
+    fn convert(&self, text: &[u8], out: &mut [u8], length: &mut u64) -> u64 {
+        (self.convert)(text, out, length)
+    }
+
     fn sound(&self, area: &[u8]) -> u64 {
         (self.sound)(area)
     }
@@ -292,7 +343,7 @@ fn noticed_by(look: Look, side: Faulty, name: &str) -> (List, Difference) {
     let folder = Folder::new(name);
     for seed in 0..500 {
         match lists(&side, &folder, seed..seed + 1, look) {
-            Err(found) if !matches!(found.0.look, Look::Callers | Look::Reads) => {
+            Err(found) if !found.0.look.is_by_model() => {
                 return shrink(&side, folder.path(), *found)
             }
             _ => {}
@@ -648,7 +699,7 @@ fn a_wrong_read_id_is_noticed() {
             // What another spends may be read in a sound area.
             Faulty {
                 sound: |area| match (calls::sound(area), area.get(4)) {
-                    (3, Some(5)) => {
+                    (3, Some(6)) => {
                         // As if nothing were read, but for over K ids.
                         let Some(mut queue) = parsed(area) else {
                             return 3;
@@ -706,6 +757,295 @@ fn parsed(area: &[u8]) -> Option<Queue> {
     }
     queue.persisted = model::Height(u32::from_be_bytes(area[..4].try_into().ok()?));
     Some(queue)
+}
+
+/// The selection of a queue whose priorities are changed so, before it is asked.
+fn selection_by(key: fn(i64) -> i64, reading: Reading, area: &[u8], out: &mut [u8]) -> u64 {
+    let mut shown = area.to_vec();
+    if matches!(
+        reading,
+        Reading::SelectionEntries | Reading::SelectionEntriesAt(..)
+    ) {
+        with_records(&mut shown, |record| record.priority = key(record.priority));
+    }
+    Model.read(reading, &shown, out)
+}
+
+/// What is right for priorities of 32 bits.
+#[test]
+fn a_wrong_wide_priority_is_noticed() {
+    let sides: [(Faulty, &str, &str); 6] = [
+        (
+            // The last 32 bits, with their sign.
+            Faulty {
+                admit: |cur, next, args, out| {
+                    let priority = i64::from(args.priority as i32) as u64;
+                    calls::admit(cur, next, &AdmitArgs { priority, ..*args }, out)
+                },
+                ..RIGHT
+            },
+            "admits-32-bits",
+            "what admit did, by the model",
+        ),
+        (
+            Faulty {
+                admit: |cur, next, args, out| {
+                    let wide = i64::from(args.priority as i32) as u64 != args.priority;
+                    match wide {
+                        true => 5,
+                        false => calls::admit(cur, next, args, out),
+                    }
+                },
+                ..RIGHT
+            },
+            "refuses-64-bits",
+            "what admit did, by the model",
+        ),
+        (
+            Faulty {
+                read: |reading, area, out| {
+                    selection_by(|of| i64::from(of as i32), reading, area, out)
+                },
+                ..RIGHT
+            },
+            "selects-by-the-last-32-bits",
+            "the answer of selection_entries, by the model",
+        ),
+        (
+            // At the ends of 32 bits all beyond them are alike.
+            Faulty {
+                read: |reading, area, out| {
+                    let key = |of: i64| of.clamp(i32::MIN.into(), i32::MAX.into());
+                    selection_by(key, reading, area, out)
+                },
+                ..RIGHT
+            },
+            "selects-by-the-nearest-of-32-bits",
+            "the answer of selection_entries, by the model",
+        ),
+        (
+            // Parents first by the last 32 bits.
+            Faulty {
+                parents_first: |area, now, height, out| {
+                    let mut shown = area.to_vec();
+                    with_records(&mut shown, |record| {
+                        record.priority = i64::from(record.priority as i32);
+                    });
+                    calls::selection_parents_first(&shown, now, height, out)
+                },
+                ..RIGHT
+            },
+            "lists-by-the-last-32-bits",
+            "the answer of selection_parents_first, by the model",
+        ),
+        (
+            // A tombstone's priority is cut.
+            Faulty {
+                cancel: |cur, next, id, out| {
+                    let number = calls::cancel(cur, next, id, out);
+                    if number == 102 {
+                        with_records(next, |record| {
+                            if record.holder.is_none() && record.id == *id {
+                                record.priority = i64::from(record.priority as i32);
+                            }
+                        });
+                    }
+                    number
+                },
+                ..RIGHT
+            },
+            "finishes-with-32-bits",
+            "the image, by the model",
+        ),
+    ];
+    for (side, name, what) in sides {
+        let (list, found) = noticed_by_model(Look::Wide, side, name);
+        assert_eq!(found.what, what, "{list}{found}");
+    }
+}
+
+/// The number and the text of the queue that `change` makes of the text's.
+fn converted_as(text: &[u8], out: &mut [u8], length: &mut u64, change: impl Fn(&mut Queue)) -> u64 {
+    let Some(mut queue) = model::image::decode_as(model::HeaderKind::K06, text) else {
+        return 16;
+    };
+    change(&mut queue);
+    calls::convert(&model::image::encode(&queue), out, length)
+}
+
+/// Judged by the model in the lists that the oracle runs.
+#[test]
+fn a_wrong_conversion_is_noticed() {
+    let sides: [(Faulty, &str); 12] = [
+        (
+            Faulty {
+                convert: |text, out, length| match text.strip_prefix(b"05") {
+                    // As it would be written.
+                    Some(_) => match model::image::decode(text) {
+                        Some(queue) => calls::convert(&model::image::encode(&queue), out, length),
+                        None => 16,
+                    },
+                    None => calls::convert(text, out, length),
+                },
+                ..RIGHT
+            },
+            "converts-05",
+        ),
+        (
+            Faulty {
+                convert: |text, out, length| match model::image::decode(text) {
+                    Some(queue) if text.starts_with(b"01") => {
+                        calls::convert(&model::image::encode(&queue), out, length)
+                    }
+                    _ => calls::convert(text, out, length),
+                },
+                ..RIGHT
+            },
+            "converts-01",
+        ),
+        (
+            Faulty {
+                convert: |text, out, length| {
+                    converted_as(text, out, length, |queue| {
+                        let tombstones = queue.records.iter_mut().filter(|of| of.holder.is_none());
+                        tombstones.for_each(|of| of.priority = i64::from(of.priority as i32));
+                    })
+                },
+                ..RIGHT
+            },
+            "no-22-by-priorities-of-tombstones",
+        ),
+        (
+            Faulty {
+                convert: |text, out, length| {
+                    converted_as(text, out, length, |queue| {
+                        let tombstones = queue.records.iter_mut().filter(|of| of.holder.is_none());
+                        tombstones.for_each(|of| of.caller = model::Caller(0));
+                    })
+                },
+                ..RIGHT
+            },
+            "no-22-by-callers-of-tombstones",
+        ),
+        (
+            Faulty {
+                convert: |text, out, length| {
+                    converted_as(text, out, length, |queue| {
+                        let p = queue.limits.pending;
+                        queue.limits.shares = model::values::all_to_caller_0(p);
+                    })
+                },
+                ..RIGHT
+            },
+            "no-22-by-shares",
+        ),
+        (
+            // Mark 5 in its place.
+            Faulty {
+                convert: |text, out, length| {
+                    converted_as(text, out, length, |queue| {
+                        let mut marked = queue.records.iter_mut();
+                        if let Some(record) = marked.find(|of| of.withdrawn == MARK_3) {
+                            record.withdrawn = Withdrawn::Expired;
+                        }
+                    })
+                },
+                ..RIGHT
+            },
+            "no-22-by-marks",
+        ),
+        (
+            Faulty {
+                convert: |text, out, length| {
+                    let queue = model::image::decode_as(model::HeaderKind::K06, text);
+                    let marked = |queue: &Queue| {
+                        let mut marks = queue.records.iter();
+                        marks.any(|of| of.withdrawn == Withdrawn::Expired)
+                    };
+                    match queue.is_some_and(|queue| marked(&queue)) {
+                        true => 22,
+                        false => calls::convert(text, out, length),
+                    }
+                },
+                ..RIGHT
+            },
+            "22-by-mark-5",
+        ),
+        (
+            Faulty {
+                convert: |text, out, length| {
+                    converted_as(text, out, length, |queue| {
+                        let holders = queue.records.iter_mut().filter_map(|of| of.holder.as_mut());
+                        holders.for_each(|holder| holder.reads.clear());
+                    })
+                },
+                ..RIGHT
+            },
+            "no-22-by-read-ids",
+        ),
+        (
+            // 4 before 22.
+            Faulty {
+                convert: |text, out, length| match calls::convert(text, out, length) {
+                    22 if out.is_empty() => 4,
+                    number => number,
+                },
+                ..RIGHT
+            },
+            "4-before-22",
+        ),
+        (
+            // A later byte is written.
+            Faulty {
+                convert: |text, out, length| {
+                    let number = calls::convert(text, out, length);
+                    if number == 100 {
+                        if let Some(byte) = out.get_mut(*length as usize) {
+                            *byte = 0;
+                        }
+                    }
+                    number
+                },
+                ..RIGHT
+            },
+            "converts-and-writes-later-bytes",
+        ),
+        (
+            // A refusal sets the length.
+            Faulty {
+                convert: |text, out, length| {
+                    let number = calls::convert(text, out, length);
+                    if number == 22 {
+                        *length = 0;
+                    }
+                    number
+                },
+                ..RIGHT
+            },
+            "22-sets-the-length",
+        ),
+        (
+            // A digit of a priority is lost.
+            Faulty {
+                convert: |text, out, length| {
+                    converted_as(text, out, length, |queue| {
+                        for record in &mut queue.records {
+                            if record.priority == i64::from(i32::MIN) {
+                                record.priority = 0;
+                            }
+                        }
+                    })
+                },
+                ..RIGHT
+            },
+            "loses-the-least-priority",
+        ),
+    ];
+    for (side, name) in sides {
+        let (list, found) = noticed(side, name);
+        let what = "the answer of convert for ";
+        assert!(found.what.starts_with(what), "{name}: {list}{found}");
+    }
 }
 
 #[test]
@@ -1144,7 +1484,7 @@ fn a_wrong_kind_is_noticed() {
                 sound: |area| {
                     let mut newest = area.to_vec();
                     if newest.get(4) == Some(&1) {
-                        newest[4] = 5;
+                        newest[4] = 6;
                     }
                     calls::sound(&newest)
                 },

@@ -68,6 +68,11 @@ pub fn caller_place(queue: &Queue, n: usize) -> usize {
     4 + frame::caller_place(queue, n)
 }
 
+/// Where the `n`-th record's priority stands in the area of this queue.
+pub fn priority_place(queue: &Queue, n: usize) -> usize {
+    4 + frame::priority_place(HeaderKind::NEWEST, queue, n)
+}
+
 /// Where the `n`-th record's read count stands in the area of this queue; nothing for a tombstone.
 pub fn reads_place(queue: &Queue, n: usize) -> Option<usize> {
     frame::reads_place(queue, n).map(|place| 4 + place)

@@ -1,5 +1,5 @@
 //! The calls as docs/CALLS.md has them: lent bytes, numbers, and one number back. Document 01's
-//! order of checks is 1, 16, 3, 2, 5, 6, then each call's own, 15, 4, 17.
+//! order of checks is 1, 16, 3, 2, 5, 6, then each call's own, 15, 4, 17; document 02's 22 comes after 16.
 
 use std::collections::{BTreeMap, BTreeSet};
 
@@ -15,6 +15,7 @@ pub const SHAPE: u64 = 5;
 pub const OVER_K: u64 = 6;
 pub const NOT_AN_IMAGE: u64 = 16;
 pub const FAILED: u64 = 17;
+pub const NOT_CONVERTIBLE: u64 = 22;
 /// A call was answered; a changing call's kind is added.
 pub const ANSWERED: u64 = 100;
 
@@ -185,7 +186,8 @@ pub struct AdmitArgs<'a> {
     pub time: u64,
     pub height_flag: u8,
     pub height: u32,
-    pub priority: u32,
+    /// In two's complement.
+    pub priority: u64,
     pub label_flag: u8,
     pub label: &'a [u8],
     pub fee: u64,
@@ -207,7 +209,7 @@ impl AdmitArgs<'_> {
             now: TimeMs(self.now),
             time_deadline: optional(self.time_flag, || Ok(TimeMs(self.time)))?,
             height_deadline: optional(self.height_flag, || Ok(Height(self.height)))?,
-            priority: self.priority as i32,
+            priority: self.priority as i64,
             label: optional(self.label_flag, || Ok(self.label.to_vec()))?,
             fee: self.fee,
             cost: self.cost,
@@ -410,6 +412,22 @@ fn try_image(lent: &[u8], out: &mut [u8], length: &mut u64) -> Answer {
     let text = image::encode(&read_area(lent)?);
     write_output(&text, out)?;
     *length = text.len() as u64;
+    Ok(ANSWERED)
+}
+
+/// 16, 22, then 4.
+pub fn convert(text: &[u8], out: &mut [u8], length: &mut u64) -> u64 {
+    number(try_convert(text, out, length))
+}
+
+fn try_convert(text: &[u8], out: &mut [u8], length: &mut u64) -> Answer {
+    let queue = image::decode_as(HeaderKind::K06, text).ok_or(NOT_AN_IMAGE)?;
+    if !HeaderKind::K01.can_hold(&queue) {
+        return Err(NOT_CONVERTIBLE);
+    }
+    let older = image::encode_as(HeaderKind::K01, &queue);
+    write_output(&older, out)?;
+    *length = older.len() as u64;
     Ok(ANSWERED)
 }
 

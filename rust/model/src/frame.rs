@@ -19,17 +19,20 @@ pub enum HeaderKind {
     K04 = 4,
     /// Document 02, P11: each holder's read ids.
     K05 = 5,
+    /// Document 02, P13: priorities of 64 bits.
+    K06 = 6,
 }
 
 impl HeaderKind {
-    pub const ALL: [HeaderKind; 4] = [
+    pub const ALL: [HeaderKind; 5] = [
         HeaderKind::K01,
         HeaderKind::K03,
         HeaderKind::K04,
         HeaderKind::K05,
+        HeaderKind::K06,
     ];
     /// What areas and new images have.
-    pub const NEWEST: HeaderKind = HeaderKind::K05;
+    pub const NEWEST: HeaderKind = HeaderKind::K06;
 
     pub fn from_number(number: u8) -> Option<HeaderKind> {
         match number {
@@ -37,6 +40,7 @@ impl HeaderKind {
             3 => Some(HeaderKind::K03),
             4 => Some(HeaderKind::K04),
             5 => Some(HeaderKind::K05),
+            6 => Some(HeaderKind::K06),
             _ => None,
         }
     }
@@ -56,14 +60,26 @@ impl HeaderKind {
         self >= HeaderKind::K05
     }
 
+    /// Whether record frames of this kind have priorities of 8 bytes. Where they have not, of 4.
+    pub fn is_wide(self) -> bool {
+        self >= HeaderKind::K06
+    }
+
     /// Whether an image of this kind can hold the queue.
     pub fn can_hold(self, queue: &Queue) -> bool {
         let records = || queue.records.iter();
-        let callers = queue.limits.is_all_to_caller_0() && records().all(|of| of.caller.0 == 0);
+        let shares = self.has_callers() || queue.limits.is_all_to_caller_0();
+        let callers = self.has_callers() || records().all(|of| of.caller.0 == 0);
         let reads = self.has_reads() || records().all(|of| of.reads().is_empty());
         let marks = records().all(|of| self.has_mark(of.withdrawn));
-        (self.has_callers() || callers) && reads && marks
+        let priorities = self.is_wide() || records().all(|of| is_narrow(of.priority));
+        shares && callers && reads && marks && priorities
     }
+}
+
+/// Whether 32 signed bits have it.
+pub fn is_narrow(priority: i64) -> bool {
+    (-(1 << 31)..1 << 31).contains(&priority)
 }
 
 /// The header's values and the number of records that follow.
@@ -133,7 +149,13 @@ pub fn put_head(bytes: &mut Vec<u8>, kind: HeaderKind, record: &Record) {
         bytes,
         record.height_deadline.map(|height| height.0.to_be_bytes()),
     );
-    bytes.extend(record.priority.to_be_bytes());
+    // The last four of the eight are the number of 32 bits.
+    let priority = record.priority.to_be_bytes();
+    bytes.extend(if kind.is_wide() {
+        &priority[..]
+    } else {
+        &priority[4..]
+    });
     bytes.push(u8::from(record.label.is_some()));
     if let Some(label) = &record.label {
         bytes.push(label.len() as u8);
@@ -160,6 +182,15 @@ pub fn mark_place(kind: HeaderKind, queue: &Queue, n: usize) -> usize {
 /// Where the `n`-th record's caller stands in the newest kind, counted so.
 pub fn caller_place(queue: &Queue, n: usize) -> usize {
     id_place(HeaderKind::NEWEST, queue, n) + 32
+}
+
+/// Where the `n`-th record's priority stands in this kind, counted so.
+pub fn priority_place(kind: HeaderKind, queue: &Queue, n: usize) -> usize {
+    let record = &queue.records[n];
+    let caller = usize::from(kind.has_callers());
+    let time = 1 + record.time_deadline.map_or(0, |_| 8);
+    let height = 1 + record.height_deadline.map_or(0, |_| 4);
+    id_place(kind, queue, n) + 32 + caller + 2 + 8 + time + height
 }
 
 /// Where the `n`-th record's read count stands in the newest kind, counted so; nothing for a tombstone.
@@ -303,7 +334,7 @@ impl<'a> Reader<'a> {
             created: TimeMs(self.u64()?),
             time_deadline: self.optional(Self::u64)?.map(TimeMs),
             height_deadline: self.optional(Self::u32)?.map(Height),
-            priority: i32::from_be_bytes(self.array()?),
+            priority: self.priority(kind)?,
             label: self.optional(Self::label)?,
             fee: self.u64()?,
             size: self.u32()?,
@@ -320,6 +351,14 @@ impl<'a> Reader<'a> {
         match kind.has_callers() {
             true => self.byte().map(Caller),
             false => Some(Caller(0)),
+        }
+    }
+
+    /// In an older kind 4 bytes, with their sign.
+    fn priority(&mut self, kind: HeaderKind) -> Option<i64> {
+        match kind.is_wide() {
+            true => self.array().map(i64::from_be_bytes),
+            false => self.array().map(i32::from_be_bytes).map(i64::from),
         }
     }
 

@@ -33,6 +33,12 @@ pub fn caller_place(queue: &Queue, n: usize) -> usize {
     2 * frame::caller_place(queue, n) + lines
 }
 
+/// Where the digits of the `n`-th record's priority begin in the queue's image of this kind.
+pub fn priority_place(kind: HeaderKind, queue: &Queue, n: usize) -> usize {
+    let lines = 1 + n;
+    2 * frame::priority_place(kind, queue, n) + lines
+}
+
 /// Where the digits of the `n`-th record's read count begin in the queue's newest image; nothing for a
 /// tombstone.
 pub fn reads_place(queue: &Queue, n: usize) -> Option<usize> {
@@ -60,8 +66,17 @@ fn digit(value: u8) -> u8 {
 /// The queue of which this is the image, in any kind, persisted set to the cursor height; nothing
 /// unless that queue is sound.
 pub fn decode(text: &[u8]) -> Option<Queue> {
+    whole(text).map(|(_, queue)| queue)
+}
+
+/// The same of an image of this kind alone.
+pub fn decode_as(kind: HeaderKind, text: &[u8]) -> Option<Queue> {
+    whole(text).and_then(|(own, queue)| (own == kind).then_some(queue))
+}
+
+fn whole(text: &[u8]) -> Option<(HeaderKind, Queue)> {
     let (kind, queue) = parse(text)?;
-    (is_sound(&queue) && encode_as(kind, &queue) == text).then_some(queue)
+    (is_sound(&queue) && encode_as(kind, &queue) == text).then_some((kind, queue))
 }
 
 /// Each record is read under the header's kind.

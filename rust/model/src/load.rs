@@ -193,9 +193,9 @@ fn record(load: &Load, n: u64) -> Record {
     }
 }
 
-fn priority(load: &Load, n: u64) -> i32 {
+fn priority(load: &Load, n: u64) -> i64 {
     match load.links {
-        Links::Apart | Links::Ring => (n % 5) as i32,
+        Links::Apart | Links::Ring => (n % 5) as i64,
         Links::Chain | Links::Reversed | Links::Spread => 0,
     }
 }

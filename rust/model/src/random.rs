@@ -219,8 +219,50 @@ pub fn height(rng: &mut Rng) -> Height {
     })
 }
 
-pub fn priority(rng: &mut Rng) -> i32 {
-    rng.pick(&[0, 0, 1, -1, i32::MAX, i32::MIN])
+/// The ends of 32 bits.
+const NARROW: [i64; 2] = [i32::MIN as i64, i32::MAX as i64];
+/// Priorities that meet the ends of 32 bits.
+const EDGES: [i64; 5] = [NARROW[0], -1, 0, 1, NARROW[1]];
+/// Those that 32 bits have not: around their ends, around the ends of 64, such whose last 32 bits are a
+/// small number or one of another sign, and times in milliseconds.
+const WIDE: [i64; 15] = [
+    NARROW[0] - 1,
+    NARROW[1] + 1,
+    i64::MIN,
+    i64::MIN + 1,
+    i64::MAX,
+    i64::MAX - 1,
+    1 << 32,
+    (1 << 32) - 1,
+    (1 << 32) + 1,
+    -(1 << 32),
+    -(1 << 32) - 1,
+    1 << 62,
+    1_700_000_000_000,
+    1_700_000_000_001,
+    -1_700_000_000_000,
+];
+
+/// One of 32 bits: often an end of them, 0 or -1.
+pub fn priority(rng: &mut Rng) -> i64 {
+    rng.pick(&[0, 0, 1, -1, NARROW[1], NARROW[0]])
+}
+
+/// One that 32 bits have not.
+pub fn wide_priority(rng: &mut Rng) -> i64 {
+    rng.pick(&WIDE)
+}
+
+/// The queue with other priorities: of all records, or of one alone.
+pub fn with_wide(rng: &mut Rng, mut queue: Queue) -> Queue {
+    let only = rng.once_in(2).then(|| rng.below(queue.records.len()));
+    for (n, record) in queue.records.iter_mut().enumerate() {
+        if only.is_none_or(|only| only == n) && (only.is_some() || !rng.once_in(4)) {
+            record.priority = wide_priority(rng);
+        }
+    }
+    debug_assert!(is_sound(&queue));
+    queue
 }
 
 /// A label in UTF-8, rarely a long one.
@@ -421,7 +463,7 @@ pub fn fees_queue(rng: &mut Rng, selected: usize) -> Queue {
     let inputs = 1 + rng.below(2);
     let mut queue = Queue::fresh(limits([1 + count, 1 + count * size, 1 + others, inputs]));
     let mut room = Room::new(&queue.limits);
-    let priorities = rng.pick(&[&[4][..], &[0, 1], &[i32::MIN, -1, 0, 1, i32::MAX]]);
+    let priorities = rng.pick(&[&[4][..], &[0, 1], &EDGES]);
     // Which of the ids are not selected is left to chance.
     let mut ids: Vec<Id> = (0..count).map(nth_id).collect();
     for n in 0..count {
@@ -558,7 +600,7 @@ pub fn parents_queue(rng: &mut Rng, count: usize, inputs: usize) -> Queue {
     let inputs: Vec<Vec<Id>> = (0..count).map(|_| room.take_inputs(rng)).collect();
     // How often an output is not of a later one, so that rings come about.
     let wild = rng.pick(&[1, 2, 6, usize::MAX]);
-    let priorities = rng.pick(&[&[4][..], &[0, 1], &[i32::MIN, -1, 0, 1, i32::MAX]]);
+    let priorities = rng.pick(&[&[4][..], &[0, 1], &EDGES]);
     let states = rng.pick(&[&[State::Queued][..], &PARENT_STATES]);
     let mut ids: Vec<Id> = (0..count).map(nth_id).collect();
     for n in 0..count {

@@ -53,7 +53,7 @@ pub struct Admission {
     pub now: TimeMs,
     pub time_deadline: Option<TimeMs>,
     pub height_deadline: Option<Height>,
-    pub priority: i32,
+    pub priority: i64,
     pub label: Option<Vec<u8>>,
     pub fee: u64,
     pub cost: u64,

@@ -230,7 +230,8 @@ pub struct Record {
     pub created: TimeMs,
     pub time_deadline: Option<TimeMs>,
     pub height_deadline: Option<Height>,
-    pub priority: i32,
+    /// 64 bits since document 02, P13.
+    pub priority: i64,
     pub label: Option<Vec<u8>>,
     pub fee: u64,
     pub size: u32,

@@ -398,7 +398,7 @@ fn entries_show_the_caller() {
     let entry = calls::entry_bytes(&queue.records[0]);
     assert_eq!(
         entry.len(),
-        32 + 1 + 2 + 8 + 2 + 4 + 1 + 20 + 1 + 2 + 32 + 2
+        32 + 1 + 2 + 8 + 2 + 8 + 1 + 20 + 1 + 2 + 32 + 2
     );
     assert_eq!(entry[..34], [&[1; 32][..], &[15, 0]].concat());
     let mut out = vec![0; entry.len()];
@@ -474,7 +474,7 @@ fn an_older_image_opens_for_caller_0_alone() {
     for kind in [model::HeaderKind::K01, model::HeaderKind::K03] {
         let opened = image::decode(&image::encode_as(kind, &queue)).expect("an image");
         assert_eq!(opened, queue);
-        assert_eq!(image::encode(&opened)[..2], *b"05");
+        assert_eq!(image::encode(&opened)[..2], *b"06");
         assert_eq!(refusal(&opened, &given(2, 0)), None);
         for caller in 1..16 {
             assert_eq!(refusal(&opened, &given(2, caller)), Some(SHARE));

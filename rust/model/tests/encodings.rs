@@ -3,15 +3,19 @@
 use model::random::{self, Rng};
 use model::{area, image, sound, Caller, HeaderKind, Queue, State};
 
-/// Of caller 0 alone under all to caller 0, or with other shares and callers; with read ids or without.
+/// Of caller 0 alone under all to caller 0, or with other shares and callers; with read ids or without;
+/// with priorities of 32 bits or of more.
 fn queue(rng: &mut Rng) -> Queue {
     let limits = random::small_limits(rng);
     let mut queue = random::queue(rng, limits);
     if rng.once_in(2) {
         queue = random::with_callers(rng, queue);
     }
-    match rng.once_in(2) {
-        true => random::with_reads(rng, queue),
+    if rng.once_in(2) {
+        queue = random::with_reads(rng, queue);
+    }
+    match rng.once_in(3) {
+        true => random::with_wide(rng, queue),
         false => queue,
     }
 }
@@ -45,7 +49,8 @@ fn with_kind(text: &[u8], kind: u8) -> Vec<u8> {
     [format!("{kind:02x}").as_bytes(), &text[2..]].concat()
 }
 
-/// The queue with nothing in it that this kind has not: all of caller 0, or nothing read.
+/// The queue with nothing in it that this kind has not: all of caller 0, nothing read, or of each priority
+/// the last 32 bits with their sign.
 fn bared(queue: &Queue, kind: HeaderKind) -> Queue {
     let mut queue = queue.clone();
     if !kind.has_callers() {
@@ -55,6 +60,9 @@ fn bared(queue: &Queue, kind: HeaderKind) -> Queue {
     for record in &mut queue.records {
         if !kind.has_callers() {
             record.caller = Caller(0);
+        }
+        if !kind.is_wide() {
+            record.priority = i64::from(record.priority as i32);
         }
         if let (false, Some(holder)) = (kind.has_reads(), &mut record.holder) {
             holder.reads.clear();
@@ -67,60 +75,133 @@ fn has_holders(queue: &Queue) -> bool {
     queue.holders().next().is_some()
 }
 
-/// A text with shares, callers and read ids is an image of kind 05; one without read ids is of kind 04; one
-/// without shares and callers besides is of kind 03, and of 01 where no mark is 3. An older one opens
-/// with every value unchanged, without read ids and, before 04, all to caller 0. No other kind is one.
+/// A text with priorities of 8 bytes is an image of kind 06; one of 4 bytes with shares, callers and read
+/// ids is of kind 05; one without read ids is of kind 04; one without shares and callers besides is of kind
+/// 03, and of 01 where no mark is 3. An older one opens with every value unchanged, priorities with their
+/// sign, without read ids before 05 and, before 04, all to caller 0. No other kind is one.
 #[test]
 fn images_of_every_kind() {
     let mut rng = Rng::new(4);
-    let (mut of_01, mut of_03, mut of_04, mut of_05) = (0, 0, 0, 0);
-    for _ in 0..4_000 {
+    let mut of = [0; 5];
+    for _ in 0..2_000 {
         let queue = queue(&mut rng);
-        let newest = image::encode(&queue);
-        assert_eq!(newest[..2], *b"05");
-        let of_form = |form| (image::encode_as(form, &queue), opened(&bared(&queue, form)));
-        let [three, four] = [HeaderKind::K03, HeaderKind::K04].map(of_form);
+        assert_eq!(image::encode(&queue)[..2], *b"06");
         let has_mark_3 = (queue.records.iter()).any(|record| record.withdrawn as u8 == 3);
-        for kind in 0..=255 {
-            // Without a holder there is no read count to tell 04 from 05.
-            let alike = !has_holders(&queue) && [4, 5].contains(&kind);
-            let expected = (kind == 5 || alike).then(|| opened(&queue));
-            let text = with_kind(&newest, kind);
-            assert_eq!(image::decode(&text), expected, "kind {kind}");
-            let expected = (kind == 4 || alike).then(|| four.1.clone());
-            let text = with_kind(&four.0, kind);
-            assert_eq!(image::decode(&text), expected, "kind {kind}, without reads");
-            let expected = match kind {
-                1 if has_mark_3 => None,
-                1 | 3 => Some(three.1.clone()),
-                _ => None,
-            };
-            let text = with_kind(&three.0, kind);
-            assert_eq!(
-                image::decode(&text),
-                expected,
-                "kind {kind}, without shares"
-            );
+        // Kinds whose frames of this queue have the same fields.
+        let alike = |form: HeaderKind, kind: HeaderKind| {
+            let counts = form.has_reads() == kind.has_reads() || !has_holders(&queue);
+            let widths = form.is_wide() == kind.is_wide() || queue.records.is_empty();
+            form.has_callers() == kind.has_callers() && counts && widths
+        };
+        for form in HeaderKind::ALL {
+            let (text, bare) = (image::encode_as(form, &queue), bared(&queue, form));
+            assert_eq!(text[..2], *format!("{:02x}", form as u8).as_bytes());
+            for number in 0..=255 {
+                let kind = HeaderKind::from_number(number);
+                let opens = kind.is_some_and(|kind| alike(form, kind));
+                let expected = (opens && !(number == 1 && has_mark_3)).then(|| opened(&bare));
+                let found = image::decode(&with_kind(&text, number));
+                assert_eq!(found, expected, "{form:?} as {number}");
+                if let Some(kind) = kind {
+                    let text = with_kind(&text, number);
+                    assert_eq!(image::decode_as(kind, &text), expected);
+                    let mut others = HeaderKind::ALL.into_iter().filter(|other| *other != kind);
+                    assert!(others.all(|other| image::decode_as(other, &text).is_none()));
+                }
+            }
+            let marked = form == HeaderKind::K01 && has_mark_3;
+            assert_eq!(form.can_hold(&queue), bare == queue && !marked, "{form:?}");
         }
-        let by_reads = four.1 != opened(&queue);
-        let by_callers = three.1 != four.1;
-        assert!(HeaderKind::K05.can_hold(&queue));
-        assert_eq!(HeaderKind::K04.can_hold(&queue), !by_reads);
-        let can_be_03 = !by_reads && !by_callers;
-        assert_eq!(HeaderKind::K03.can_hold(&queue), can_be_03);
-        assert_eq!(HeaderKind::K01.can_hold(&queue), can_be_03 && !has_mark_3);
-        let text = image::encode_as(HeaderKind::K01, &queue);
-        assert_eq!(text, with_kind(&three.0, 1));
-        *(match (by_reads, by_callers, has_mark_3) {
-            (true, _, _) => &mut of_05,
-            (false, true, _) => &mut of_04,
-            (false, false, true) => &mut of_03,
-            (false, false, false) => &mut of_01,
-        }) += 1;
+        let oldest = HeaderKind::ALL
+            .iter()
+            .position(|kind| kind.can_hold(&queue));
+        of[oldest.expect("kind 06 can")] += 1;
     }
-    let least = of_01.min(of_03).min(of_04).min(of_05);
-    assert!(least > 50, "{of_01}, {of_03}, {of_04}, {of_05}");
+    assert!(of.iter().min() > Some(&15), "{of:?}");
 }
+
+/// The eight bytes of a priority, of holders and tombstones, under the newest kind; and the four under each
+/// other, with their sign.
+#[test]
+fn priorities_of_every_record() {
+    let mut rng = Rng::new(13);
+    let (mut holders, mut tombstones) = (0, 0);
+    for _ in 0..300 {
+        let queue = queue(&mut rng);
+        let (bytes, text) = (area::encode(&queue), image::encode(&queue));
+        for (n, record) in queue.records.iter().enumerate() {
+            let place = area::priority_place(&queue, n);
+            assert_eq!(bytes[place..place + 8], record.priority.to_be_bytes());
+            let digits = image::priority_place(HeaderKind::NEWEST, &queue, n);
+            for priority in PRIORITIES {
+                let mut other = queue.clone();
+                other.records[n].priority = priority;
+                let mut bytes = bytes.clone();
+                bytes[place..place + 8].copy_from_slice(&priority.to_be_bytes());
+                assert_eq!(area::decode(&bytes).as_ref(), Some(&other));
+                let mut text = text.clone();
+                text[digits..digits + 16].copy_from_slice(format!("{priority:016x}").as_bytes());
+                assert_eq!(image::decode(&text), Some(opened(&other)));
+            }
+            *(match record.holder {
+                Some(_) => &mut holders,
+                None => &mut tombstones,
+            }) += 1;
+        }
+        for kind in HeaderKind::ALL {
+            let bare = bared(&queue, kind);
+            if kind == HeaderKind::NEWEST || !kind.can_hold(&bare) {
+                continue;
+            }
+            let text = image::encode_as(kind, &bare);
+            for n in 0..bare.records.len() {
+                let digits = image::priority_place(kind, &bare, n);
+                for (shown, priority) in SIGNS {
+                    let mut text = text.clone();
+                    text[digits..digits + 8].copy_from_slice(shown.as_bytes());
+                    let mut other = bare.clone();
+                    other.records[n].priority = priority;
+                    assert_eq!(image::decode(&text), Some(opened(&other)), "{kind:?}");
+                    assert!(kind.can_hold(&other));
+                    assert_eq!(image::encode_as(kind, &other), text);
+                }
+                for priority in PRIORITIES {
+                    let mut other = bare.clone();
+                    other.records[n].priority = priority;
+                    let narrow = i32::try_from(priority).is_ok();
+                    assert_eq!(kind.can_hold(&other), narrow, "{kind:?}, {priority}");
+                }
+            }
+        }
+    }
+    assert!(holders > 100 && tombstones > 100, "{holders}, {tombstones}");
+}
+
+const PRIORITIES: [i64; 13] = [
+    0,
+    1,
+    -1,
+    (1 << 31) - 1,
+    1 << 31,
+    -(1 << 31),
+    -(1 << 31) - 1,
+    (1 << 32) - 1,
+    1 << 32,
+    -(1 << 32),
+    i64::MAX,
+    i64::MIN,
+    1_700_000_000_000,
+];
+
+/// The digits under an older kind, and the priority.
+const SIGNS: [(&str, i64); 6] = [
+    ("00000000", 0),
+    ("00000001", 1),
+    ("ffffffff", -1),
+    ("7fffffff", 2_147_483_647),
+    ("80000000", -2_147_483_648),
+    ("fffffffe", -2),
+];
 
 /// Of a holder's read count every byte and of its read ids each one: what is sound is read back, and
 /// all else is refused.
@@ -257,7 +338,7 @@ fn areas_of_other_kinds_are_refused() {
         let mut bytes = area::encode(&queue);
         for kind in 0..=255 {
             bytes[4] = kind;
-            let expected = (kind == 5).then_some(&queue);
+            let expected = (kind == 6).then_some(&queue);
             assert_eq!(area::decode(&bytes).as_ref(), expected, "kind {kind}");
         }
     }

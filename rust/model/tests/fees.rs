@@ -406,7 +406,7 @@ fn refusals_in_their_order() {
 fn the_set_is_in_the_old_order() {
     let mut queue = queue_of(&[1, 1, 1]);
     for (n, record) in queue.records.iter_mut().enumerate() {
-        record.priority = n as i32;
+        record.priority = n as i64;
     }
     let question = Question {
         limit: u64::MAX,

@@ -15,7 +15,7 @@ const NOW: TimeMs = TimeMs(50);
 const HEIGHT: Height = Height(60);
 
 /// A Queued record of this number and priority, with inputs and outputs of these.
-fn record(n: u8, priority: i32, inputs: &[u8], outputs: &[u8]) -> Record {
+fn record(n: u8, priority: i64, inputs: &[u8], outputs: &[u8]) -> Record {
     let ids = |numbers: &[u8]| numbers.iter().map(|n| [*n; 32]).collect();
     Record {
         id: [n; 32],

@@ -618,7 +618,7 @@ fn a_short_output_comes_after_20() {
 /// Count and ids after the inputs, also in the list and in the answers of admission and cancellation.
 #[test]
 fn entries_show_the_read_ids() {
-    let without = 32 + 1 + 2 + 8 + 2 + 4 + 1 + 20 + 1 + 2;
+    let without = 32 + 1 + 2 + 8 + 2 + 8 + 1 + 20 + 1 + 2;
     let queue = admitted(&[given(1, &[11], &[12], &[21, 20])]);
     let entry = calls::entry_bytes(&queue.records[0]);
     assert_eq!(entry.len(), without + 32 + 2 + 64);
@@ -730,16 +730,17 @@ fn an_older_image_opens_without_read_ids() {
     }
     bare.persisted = bare.cursor;
     for kind in HeaderKind::ALL {
-        assert_eq!(kind.has_reads(), kind == HeaderKind::K05);
-        assert_eq!(kind.can_hold(&reading), kind == HeaderKind::K05);
+        assert_eq!(kind.has_reads(), kind >= HeaderKind::K05);
+        assert_eq!(kind.can_hold(&reading), kind >= HeaderKind::K05);
         assert!(kind.can_hold(&bare));
         let text = image::encode_as(kind, &bare);
         assert_eq!(image::decode(&text), Some(bare.clone()));
         let frames = if kind.has_reads() { 2 * 2 * 2 } else { 0 };
         let shares = if kind.has_callers() { 2 * (64 + 2) } else { 0 };
+        let priorities = if kind.is_wide() { 2 * 2 * 4 } else { 0 };
         let of_01 = image::encode_as(HeaderKind::K01, &bare).len();
-        assert_eq!(text.len(), of_01 + frames + shares);
-        assert_eq!(image::encode(&bare)[..2], *b"05");
+        assert_eq!(text.len(), of_01 + frames + shares + priorities);
+        assert_eq!(image::encode(&bare)[..2], *b"06");
     }
     // A text of 04 under kind 05, or one of 05 under kind 04, is no image.
     for (kind, digits) in [(HeaderKind::K04, b"05"), (HeaderKind::K05, b"04")] {

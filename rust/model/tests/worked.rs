@@ -6,7 +6,7 @@ use model::{
     Withdrawn,
 };
 
-const HEADER: &str = "05 00000002 0000000a 00000001 00000001 \
+const HEADER: &str = "06 00000002 0000000a 00000001 00000001 \
     00000002 00000000 00000000 00000000 00000000 00000000 00000000 00000000 \
     00000000 00000000 00000000 00000000 00000000 00000000 00000000 00000000 \
     0000000000000000 00000000 00 0000000000000000 00000000";
@@ -17,21 +17,21 @@ const REST: &str =
 
 /// Caller 0 may have one pending, and so may caller 5, whose record it was.
 const CANCELLED: &str = "00000006 \
-    05 00000002 0000000a 00000001 00000001 \
+    06 00000002 0000000a 00000001 00000001 \
     00000001 00000000 00000000 00000000 00000000 00000001 00000000 00000000 \
     00000000 00000000 00000000 00000000 00000000 00000000 00000000 00000000 \
     0000000000000002 00000006 00 0000000000000001 00000001 \
     02 1111111111111111111111111111111111111111111111111111111111111111 05 04 01 0000000000000005 \
-    00 00 ffffffff 00 0000000000000007 00000003 0000000000000009 00 00 0000000000000001 00";
+    00 00 ffffffffffffffff 00 0000000000000007 00000003 0000000000000009 00 00 0000000000000001 00";
 
 /// A queue with one record, of caller 0, that spends one id and reads another.
 const READING: &str = "00000001 \
-    05 00000002 0000000a 00000001 00000001 \
+    06 00000002 0000000a 00000001 00000001 \
     00000002 00000000 00000000 00000000 00000000 00000000 00000000 00000000 \
     00000000 00000000 00000000 00000000 00000000 00000000 00000000 00000000 \
     0000000000000001 00000001 00 0000000000000000 00000001 \
     02 2222222222222222222222222222222222222222222222222222222222222222 00 00 00 0000000000000005 \
-    00 00 00000000 00 0000000000000001 00000002 0000000000000001 00 00 0000000000000000 \
+    00 00 0000000000000000 00 0000000000000001 00000002 0000000000000001 00 00 0000000000000000 \
     01 0001 3333333333333333333333333333333333333333333333333333333333333333 0000 \
     0001 4444444444444444444444444444444444444444444444444444444444444444 00000002 abcd";
 
@@ -124,13 +124,25 @@ fn fresh_image() {
     let fresh = Queue::fresh(limits());
     assert_eq!(image::encode(&fresh), expected.as_bytes());
     assert_eq!(image::decode(expected.as_bytes()), Some(fresh.clone()));
-    let of_04 = format!("04{}", &expected[2..]);
-    assert_eq!(image::decode(of_04.as_bytes()), Some(fresh.clone()));
+    for kind in ["04", "05"] {
+        let older = format!("{kind}{}", &expected[2..]);
+        assert_eq!(image::decode(older.as_bytes()), Some(fresh.clone()));
+    }
     for kind in ["01", "03"] {
         let older = format!("{kind}{}\n", without_blanks(REST));
         assert_eq!(older.len(), 85);
         assert_eq!(image::decode(older.as_bytes()), Some(fresh.clone()));
     }
+    let older = format!("01{}\n", without_blanks(REST));
+    let (mut out, mut length) = ([0xee; 87], 7);
+    assert_eq!(
+        calls::convert(expected.as_bytes(), &mut out, &mut length),
+        100
+    );
+    assert_eq!(
+        (&out[..85], &out[85..], length),
+        (older.as_bytes(), &[0xee; 2][..], 85)
+    );
     assert_eq!(image::decode(b"0A"), None);
     assert_eq!(calls::open(b"0A", &mut []), 16);
 }

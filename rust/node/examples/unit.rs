@@ -3,7 +3,8 @@
 //! - `unit DIR` prints what is stored and changes nothing;
 //! - `unit DIR --demo` makes a store, where none stands, and shows what a unit lives through;
 //! - `unit DIR --run ROUNDS` opens or makes a store and makes calls with writes, over and over;
-//!   with 0 rounds until it is killed.
+//!   with 0 rounds until it is killed;
+//! - `unit DIR --older FILE` writes what is stored to FILE as a unit with the first version reads it.
 //!
 //! Killed at any moment, it opens again.
 
@@ -19,7 +20,7 @@ use pokerbox::{
     TimeMs, TxId,
 };
 
-const USAGE: &str = "usage: unit DIR [--demo | --run ROUNDS]";
+const USAGE: &str = "usage: unit DIR [--demo | --run ROUNDS | --older FILE]";
 /// Transactions that are put in at a time.
 const BATCH: u8 = 6;
 const BLOCK: BlockId = BlockId([0xbb; 32]);
@@ -43,6 +44,7 @@ fn run(arguments: &[String]) -> Result<(), Box<dyn Error>> {
         [folder] => print_stored(&image_in(folder)),
         [folder, "--demo"] => demo(folder),
         [folder, "--run", rounds] => Unit::open_or_create(folder)?.run(rounds.parse()?),
+        [folder, "--older", file] => write_older(&image_in(folder), Path::new(file)),
         _ => Err(USAGE.into()),
     }
 }
@@ -181,6 +183,18 @@ impl Unit {
         }
     }
 
+    /// For a unit with the first version, which has neither such priorities nor callers and read ids.
+    fn older(&self) -> Result<(), Box<dyn Error>> {
+        println!("Its image for a unit with the first version:");
+        match Queue::convert(&self.queue().image()?) {
+            Err(error @ pokerbox::Error::NotConvertible) => {
+                println!("  {error}");
+                Ok(())
+            }
+            other => Err(format!("it was not refused: {other:?}").into()),
+        }
+    }
+
     /// A folder stands in the way of the second file.
     fn failed_write(&mut self, folder: &str) -> Result<(), Box<dyn Error>> {
         println!("A write that fails:");
@@ -243,6 +257,7 @@ fn demo(folder: &str) -> Result<(), Box<dyn Error>> {
     unit.print_queued("Queued, best first:")?;
     unit.refused()?;
     unit.meets()?;
+    unit.older()?;
     unit.withdraw()?;
     unit.block()?;
     unit.rollback()?;
@@ -252,6 +267,14 @@ fn demo(folder: &str) -> Result<(), Box<dyn Error>> {
     drop(unit);
     cut(folder)?;
     print_stored(&image_in(folder))
+}
+
+/// Writes the image of kind 01.
+fn write_older(image: &Path, file: &Path) -> Result<(), Box<dyn Error>> {
+    let older = Queue::convert(&std::fs::read(image)?)?;
+    std::fs::write(file, &older)?;
+    println!("{} bytes of kind 01", older.len());
+    Ok(())
 }
 
 /// Another process writes to the same store and is killed at whatever it does.
@@ -293,7 +316,8 @@ fn transaction(n: u8) -> Admission {
         caller: caller(n),
         reads: vec![READ],
         time_deadline: Some(deadline(n)),
-        priority: i32::from(n),
+        // As a wallet has it that takes the time for it.
+        priority: 1_700_000_000_000 + i64::from(n),
         label: Some(format!("transaction {n}").into_bytes()),
         fee: 1_000_000,
         cost: 12_000,

@@ -11,9 +11,9 @@
  * written overlaps nothing else that is lent to the same call. Numbers in bytes are big-endian.
  *
  * Each call gives back one number:
- *   1 to 18, 20, 21  a refusal; nothing lent has changed, except the next area after 17;
- *   100              the call was answered;
- *   100 to 103       a changing call's kind on top of 100.
+ *   1 to 18, 20, 21, 22  a refusal; nothing lent has changed, except the next area after 17;
+ *   100                  the call was answered;
+ *   100 to 103           a changing call's kind on top of 100.
  *
  * A flag is 0 or 1; what stands beside a flag of 0 is not looked at. An id has 32 bytes. A list of
  * ids is 32 bytes an id.
@@ -52,6 +52,7 @@ extern "C" {
 #define POKERBOX_SHARE_EXHAUSTED 18
 #define POKERBOX_READ_AND_SPENT 20
 #define POKERBOX_FEES_TOO_LARGE 21
+#define POKERBOX_NOT_CONVERTIBLE 22
 
 /* Answers: of calls without a kind, and of changing calls by kind. */
 #define POKERBOX_ANSWERED 100
@@ -124,13 +125,13 @@ uint64_t pokerbox_sound(const uint8_t *area, size_t area_len);
 /* Admits a transaction. `out` gets its entry: the new one, or with kind 0 the old one of a pending or
  * Mined id, whoever asks. 18 where as many records of `caller`, 0 to 15, are pending as its share
  * allows. `reads` has the ids that are only read, at most K; 20 where another record spends one of
- * them, or reads an input. `priority` is in two's complement. */
+ * them, or reads an input. `priority` is in two's complement, of 64 bits. */
 uint64_t pokerbox_admit(const uint8_t *cur, size_t cur_len, uint8_t *next, size_t next_len,
                         const uint8_t *id, size_t id_len, uint8_t caller, const uint8_t *inputs,
                         size_t inputs_len, const uint8_t *outputs, size_t outputs_len,
                         const uint8_t *reads, size_t reads_len, const uint8_t *signed_bytes,
                         size_t signed_len, uint64_t now, uint8_t time_flag, uint64_t time,
-                        uint8_t height_flag, uint32_t height, uint32_t priority,
+                        uint8_t height_flag, uint32_t height, uint64_t priority,
                         uint8_t label_flag, const uint8_t *label, size_t label_len, uint64_t fee,
                         uint64_t cost, uint32_t tip_height, uint8_t tip_flag, const uint8_t *tip,
                         size_t tip_len, uint8_t *out, size_t out_len);
@@ -186,6 +187,14 @@ uint64_t pokerbox_need(uint64_t pending, uint64_t bytes, uint64_t tombstones, ui
 uint64_t pokerbox_image_limits(const uint8_t *text, size_t text_len, uint64_t *pending,
                                uint64_t *bytes, uint64_t *tombstones, uint64_t *inputs,
                                uint8_t *shares, size_t shares_len, uint64_t *need);
+
+/* For units with the first version: the image of kind 01 of the queue that an image of kind 06 has, at
+ * the start of `out`, its length behind `length`. As many bytes as the text has are enough. Gives 16
+ * (no image of a sound queue, or one of another kind), 22 where kind 01 cannot hold the queue (a
+ * priority outside 32 bits, a caller other than 0, shares other than P and fifteen zeros, the withdrawn
+ * mark 3 or a read id), 4 or 100. */
+uint64_t pokerbox_convert(const uint8_t *text, size_t text_len, uint8_t *out, size_t out_len,
+                          uint64_t *length);
 
 /* The entry of one record. */
 uint64_t pokerbox_entry(const uint8_t *area, size_t area_len, const uint8_t *id, size_t id_len,

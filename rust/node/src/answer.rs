@@ -20,7 +20,7 @@ pub struct Entry {
     /// It is withdrawn from this height on.
     pub height_deadline: Option<Height>,
     /// Higher ones are selected first.
-    pub priority: i32,
+    pub priority: i64,
     /// The label given at the admission.
     pub label: Option<Vec<u8>>,
     /// The fee given at the admission.
@@ -38,9 +38,9 @@ pub struct Entry {
 }
 
 impl Entry {
-    /// No entry is longer: 124 bytes and what a label, K inputs and K read ids take.
+    /// No entry is longer: 128 bytes and what a label, K inputs and K read ids take.
     pub(crate) fn max_len(limits: &Limits) -> usize {
-        124 + 200 + 64 * limits.inputs() as usize
+        128 + 200 + 64 * limits.inputs() as usize
     }
 }
 
@@ -232,7 +232,7 @@ impl<'a> Reader<'a> {
             created: TimeMs(self.u64()),
             time_deadline: self.optional(|reader| TimeMs(reader.u64())),
             height_deadline: self.optional(Self::height),
-            priority: i32::from_be_bytes(self.array()),
+            priority: i64::from_be_bytes(self.array()),
             label: self.optional(Self::label),
             fee: self.u64(),
             size: self.u32(),

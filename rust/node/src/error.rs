@@ -2,8 +2,8 @@
 
 use std::fmt;
 
-/// A refusal: the numbers 1 to 17 of document 01, and 18, 20 and 21 of document 02. Nothing lent has
-/// changed, except the next area after [`Error::WriteFailed`].
+/// A refusal: the numbers 1 to 17 of document 01, and 18, 20, 21 and 22 of document 02. Nothing lent
+/// has changed, except the next area after [`Error::WriteFailed`].
 #[derive(Debug, Clone, Copy, PartialEq, Eq, PartialOrd, Ord, Hash)]
 pub enum Error {
     /// A limit is out of range, or a share is over P.
@@ -46,11 +46,13 @@ pub enum Error {
     ReadAndSpent = 20,
     /// The candidates' fees have no sum of 64 bits.
     FeesTooLarge = 21,
+    /// An image of kind 01 cannot hold the queue.
+    NotConvertible = 22,
 }
 
 impl Error {
     /// All refusals, in the order of their numbers.
-    pub const ALL: [Error; 20] = [
+    pub const ALL: [Error; 21] = [
         Error::LimitOutOfRange,
         Error::AreaTooShort,
         Error::AreaNotSound,
@@ -71,6 +73,7 @@ impl Error {
         Error::ShareExhausted,
         Error::ReadAndSpent,
         Error::FeesTooLarge,
+        Error::NotConvertible,
     ];
 
     /// The number in the table of docs/CALLS.md.
@@ -158,6 +161,12 @@ impl Error {
                 "the fees of the first 20 selected records sum to more than \
                  18,446,744,073,709,551,615: look for a fee that cannot be true among their \
                  entries, and cancel that record"
+            }
+            Error::NotConvertible => {
+                "an image of kind 01 cannot hold the queue: a record has a priority outside 32 bits, a \
+                 caller other than 0, a read id or the withdrawn mark 3, or the shares are not P and \
+                 fifteen zeros; keep this version, or start a fresh queue on the older unit and queue \
+                 the pending transactions there"
             }
         }
     }

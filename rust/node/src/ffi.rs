@@ -27,7 +27,7 @@ mod c {
             time: u64,
             height_flag: u8,
             height: u32,
-            priority: u32,
+            priority: u64,
             label_flag: u8,
             label: *const u8,
             label_len: usize,
@@ -144,6 +144,13 @@ mod c {
             shares: *mut u8,
             shares_len: usize,
             need: *mut u64,
+        ) -> u64;
+        pub fn pokerbox_convert(
+            text: *const u8,
+            text_len: usize,
+            out: *mut u8,
+            out_len: usize,
+            length: *mut u64,
         ) -> u64;
         pub fn pokerbox_revision(area: *const u8, area_len: usize, value: *mut u64) -> u64;
         pub fn pokerbox_is_empty(area: *const u8, area_len: usize, value: *mut u64) -> u64;
@@ -474,6 +481,19 @@ pub fn image_limits(
             shares.as_mut_ptr(),
             shares.len(),
             need,
+        )
+    }
+}
+
+#[cfg(exported = "convert")]
+pub fn convert(text: &[u8], out: &mut [u8], length: &mut u64) -> u64 {
+    unsafe {
+        c::pokerbox_convert(
+            text.as_ptr(),
+            text.len(),
+            out.as_mut_ptr(),
+            out.len(),
+            length,
         )
     }
 }

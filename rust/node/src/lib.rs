@@ -8,7 +8,7 @@
 //!   call gives a [`Change`], which says what is due and is settled with the outcome of the write.
 //! - [`raw`]: the exported calls on lent byte slices, for a node that owns its areas.
 //!
-//! A refusal is an [`Error`] with its number, 1 to 18, 20 or 21, and a sentence that says what to do.
+//! A refusal is an [`Error`] with its number, 1 to 18, 20, 21 or 22, and a sentence that says what to do.
 //! A thread that makes calls needs at least 1 MiB of stack; 160 KiB while the queue holds at most
 //! 8,192 inputs and read ids together.
 //!

@@ -133,8 +133,8 @@ pub struct Admission {
     pub time_deadline: Option<TimeMs>,
     /// It is withdrawn from this height on.
     pub height_deadline: Option<Height>,
-    /// Higher ones are selected first.
-    pub priority: i32,
+    /// Higher ones are selected first. Any number, for instance a time in milliseconds.
+    pub priority: i64,
     /// Any text, at most 200 bytes.
     pub label: Option<Vec<u8>>,
     /// The transaction's fee.
@@ -228,6 +228,40 @@ impl Queue {
         Ok(queue)
     }
 
+    /// For a unit with the first version: the image of kind 01 of the queue that this image, of kind
+    /// 06, has. There it opens as the same queue.
+    ///
+    /// [`Error::NotAnImage`] where the text is not the image of a sound queue, or one of another kind,
+    /// kind 01 among them; [`Error::NotConvertible`] where kind 01 cannot hold the queue.
+    ///
+    /// ```
+    /// use pokerbox::{Admission, Error, Height, Limits, Outcome, Queue, TimeMs, TxId};
+    ///
+    /// let mut queue = Queue::fresh(Limits::new(4, 100, 4, 2)?)?;
+    /// let image = queue.image()?;
+    /// let older = Queue::convert(&image)?;
+    /// assert!(image.starts_with(b"06") && older.starts_with(b"01"));
+    /// assert_eq!(Queue::open(&older)?.image()?, image);
+    /// assert_eq!(Queue::convert(&older), Err(Error::NotAnImage));
+    /// // A time as the priority does not fit into 32 bits.
+    /// let given = Admission {
+    ///     priority: 1_700_000_000_000,
+    ///     ..Admission::new(TxId([1; 32]), vec![], vec![], vec![7], TimeMs(5), Height(9))
+    /// };
+    /// queue.admit(&given)?.settle(Outcome::Kept)?;
+    /// assert_eq!(Queue::convert(&queue.image()?), Err(Error::NotConvertible));
+    /// # Ok::<(), Error>(())
+    /// ```
+    #[cfg(exported = "convert")]
+    pub fn convert(image: &[u8]) -> Result<Vec<u8>, Error> {
+        // Kind 01 has no field that kind 06 has not, and none is longer.
+        let mut older = vec![0; image.len()];
+        let mut length = 0;
+        raw::convert(image, &mut older, &mut length)?;
+        older.truncate(length as usize);
+        Ok(older)
+    }
+
     fn with_areas(limits: Limits, need: usize) -> Queue {
         Queue {
             limits,
@@ -315,7 +349,7 @@ impl Queue {
             time: given.time_deadline.map_or(0, |time| time.0),
             height_flag: u8::from(given.height_deadline.is_some()),
             height: given.height_deadline.map_or(0, |height| height.0),
-            priority: given.priority as u32,
+            priority: given.priority as u64,
             label_flag: u8::from(given.label.is_some()),
             label: given.label.as_deref().unwrap_or_default(),
             fee: given.fee,

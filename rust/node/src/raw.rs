@@ -34,7 +34,7 @@ pub struct AdmitArgs<'a> {
     /// The height deadline.
     pub height: u32,
     /// The priority in two's complement.
-    pub priority: u32,
+    pub priority: u64,
     /// Whether there is a label.
     pub label_flag: u8,
     /// The label.
@@ -225,6 +225,14 @@ pub fn image_limits(
     answered(ffi::image_limits(
         text, pending, bytes, tombstones, inputs, shares, need,
     ))
+}
+
+/// The image of kind 01 of an image's queue at the start of `out`, and its length.
+/// [`Error::NotAnImage`] where [`open`] gives it, and for an image of another kind than 06; then
+/// [`Error::NotConvertible`] where kind 01 cannot hold the queue.
+#[cfg(exported = "convert")]
+pub fn convert(text: &[u8], out: &mut [u8], length: &mut u64) -> Result<(), Error> {
+    answered(ffi::convert(text, out, length))
 }
 
 // Reading calls.

@@ -8,7 +8,10 @@
 mod common;
 mod every;
 
-use common::{area_to_write, lent_caller, lent_id, many, sometimes_cut, sound_queue, Met};
+use common::{
+    area_to_write, lent_caller, lent_id, lent_priority, many, nearly_old_queue, sometimes_cut,
+    sound_queue, Met,
+};
 use every::Args;
 use model::random::{self, Rng};
 use model::{area, calls, image, Caller, HeaderKind, Holder, Id, Queue, Record, State};
@@ -34,7 +37,7 @@ fn damaged_area(rng: &mut Rng) -> Vec<u8> {
     let good = area::encode(&queue);
     let used = used_length(&good);
     let mut bytes = good;
-    match rng.below(16) {
+    match rng.below(17) {
         0 => bytes = noise(rng),
         1 => bytes = area::encode(&random::altered(rng, &queue)),
         2 => {
@@ -70,6 +73,12 @@ fn damaged_area(rng: &mut Rng) -> Vec<u8> {
                 bytes[place..place + put.len()].copy_from_slice(&put);
             }
         }
+        14 if !queue.records.is_empty() => {
+            let n = rng.below(queue.records.len());
+            let (at, put) = other_priority(rng);
+            let place = area::priority_place(&queue, n) + at;
+            bytes[place..place + put.len()].copy_from_slice(&put);
+        }
         _ => {
             for _ in 0..1 + rng.below(3) {
                 random::damage(rng, &mut bytes, used);
@@ -83,7 +92,7 @@ fn damaged_area(rng: &mut Rng) -> Vec<u8> {
 
 /// A header's kind, or another number.
 fn kind(rng: &mut Rng) -> u8 {
-    rng.pick(&[0, 1, 1, 2, 3, 3, 4, 4, 5, 5, 6, 0x15, 0xff])
+    rng.pick(&[0, 1, 1, 2, 3, 3, 4, 4, 5, 5, 6, 6, 7, 0x16, 0xff])
 }
 
 /// A caller, or another number.
@@ -127,6 +136,14 @@ fn other_reads(rng: &mut Rng, queue: &Queue) -> Option<(usize, usize, Vec<u8>)> 
             (n, at, vec![rng.pick(&[0, 1, 2, 0x7f, 0x80, 0xfe, 0xff])])
         }
     })
+}
+
+/// Other bytes for a priority, all eight or one: where from its first on, and the bytes.
+fn other_priority(rng: &mut Rng) -> (usize, Vec<u8>) {
+    match rng.once_in(2) {
+        true => (0, lent_priority(rng).to_be_bytes().to_vec()),
+        false => (rng.below(8), vec![rng.pick(&[0, 1, 0x7f, 0x80, 0xff])]),
+    }
 }
 
 /// A withdrawn mark, or another number.
@@ -205,6 +222,7 @@ fn args(rng: &mut Rng, queue: &Queue) -> Args {
     Args {
         id: lent_id(rng, queue),
         caller: lent_caller(rng),
+        priority: lent_priority(rng),
         ids: ids.concat(),
         reads: lent_reads(rng, queue),
         now: now.0,
@@ -286,17 +304,21 @@ fn next_areas() {
 fn damaged_image(rng: &mut Rng) -> Vec<u8> {
     let queue = sound_queue(rng);
     let kind_of = rng.pick(&HeaderKind::ALL);
-    let mut text = image::encode_as(kind_of, &queue);
+    damaged_image_of(rng, &queue, kind_of)
+}
+
+fn damaged_image_of(rng: &mut Rng, queue: &Queue, kind_of: HeaderKind) -> Vec<u8> {
+    let mut text = image::encode_as(kind_of, queue);
     let length = text.len();
-    match rng.below(18) {
+    match rng.below(20) {
         0 => text = noise(rng),
-        1 => text = image::encode(&random::altered(rng, &queue)),
+        1 => text = image::encode(&random::altered(rng, queue)),
         2 => {
             let other = image::encode(&sound_queue(rng));
             text = spliced(rng, &text, length, &other);
         }
         3 => text.truncate(rng.up_to(length)),
-        4 => text = area::encode(&queue),
+        4 => text = area::encode(queue),
         5 | 6 => put_digits(rng, &mut text),
         7 => {
             let at = rng.below(length);
@@ -307,25 +329,34 @@ fn damaged_image(rng: &mut Rng) -> Vec<u8> {
         10 => put_byte(&mut text, 0, kind(rng)),
         11 if !queue.records.is_empty() => {
             let n = rng.below(queue.records.len());
-            put_byte(&mut text, image::mark_place(kind_of, &queue, n), mark(rng));
+            put_byte(&mut text, image::mark_place(kind_of, queue, n), mark(rng));
         }
         12 if !queue.records.is_empty() => {
             let n = rng.below(queue.records.len());
-            text = image::encode(&queue);
-            put_byte(&mut text, image::caller_place(&queue, n), caller(rng));
+            text = image::encode(queue);
+            put_byte(&mut text, image::caller_place(queue, n), caller(rng));
         }
         13 => {
-            text = image::encode(&queue);
+            text = image::encode(queue);
             let place = image::share_place(random_caller(rng)) + 2 * rng.below(4);
-            put_byte(&mut text, place, share_byte(rng, &queue));
+            put_byte(&mut text, place, share_byte(rng, queue));
         }
         14 | 15 => {
-            text = image::encode(&queue);
-            if let Some((n, at, put)) = other_reads(rng, &queue) {
-                let place = image::reads_place(&queue, n).expect("a holder") + 2 * at;
+            text = image::encode(queue);
+            if let Some((n, at, put)) = other_reads(rng, queue) {
+                let place = image::reads_place(queue, n).expect("a holder") + 2 * at;
                 for (at, byte) in put.into_iter().enumerate() {
                     put_byte(&mut text, place + 2 * at, byte);
                 }
+            }
+        }
+        16 | 17 if !queue.records.is_empty() => {
+            let n = rng.below(queue.records.len());
+            let (at, put) = other_priority(rng);
+            text = image::encode(queue);
+            let place = image::priority_place(HeaderKind::NEWEST, queue, n) + 2 * at;
+            for (at, byte) in put.into_iter().enumerate() {
+                put_byte(&mut text, place + 2 * at, byte);
             }
         }
         _ => {
@@ -397,9 +428,62 @@ fn limits_of_images() {
     expect(&met, &[4, 16, 100]);
 }
 
+/// The same, lent to be made images of kind 01: often such that this can say, and damaged after that.
+#[test]
+#[cfg(exported = "convert")]
+fn images_to_convert() {
+    let mut met = Met::default();
+    many(4 * cases(), |rng| {
+        let text = match rng.once_in(4) {
+            true => damaged_image(rng),
+            false => {
+                let queue = nearly_old_queue(rng);
+                damaged_image_of(rng, &queue, HeaderKind::K06)
+            }
+        };
+        let before = text.clone();
+        common::same_convert(&mut met, rng, &text);
+        assert!(text == before, "the lent image was changed");
+        // 16 where it does not open, and where it is of another kind.
+        let (mut out, mut length) = (vec![0; text.len()], 0);
+        let number = common::Number::number(raw::convert(&text, &mut out, &mut length));
+        let opens = image::decode(&text).is_some();
+        assert_eq!(number == 16, !opens || !text.starts_with(b"06"));
+    });
+    expect(&met, &[4, 16, 22, 100]);
+}
+
+/// Every digit of a text that is converted, and every byte in its place: what comes of it is what the model
+/// has.
+#[test]
+#[cfg(exported = "convert")]
+fn every_digit_of_an_image_to_convert() {
+    let mut met = Met::default();
+    let queue = loop {
+        let mut rng = Rng::new(met.total());
+        let queue = nearly_old_queue(&mut rng);
+        met.count(0);
+        let (holders, all) = (queue.holders().count(), queue.records.len());
+        if HeaderKind::K01.can_hold(&queue) && holders > 0 && all > holders {
+            break queue;
+        }
+    };
+    let text = image::encode(&queue);
+    let (mut met, mut rng) = (Met::default(), Rng::new(1));
+    let step = if cases() >= 4_000 { 1 } else { 7 };
+    for at in (0..text.len()).step_by(step) {
+        for byte in *b"0178fF\n" {
+            let mut text = text.clone();
+            text[at] = byte;
+            common::same_convert(&mut met, &mut rng, &text);
+        }
+    }
+    expect(&met, &[4, 16, 22, 100]);
+}
+
 /// Every kind byte and every mark byte of areas and images, by document 02's words and not by the
 /// model. A text of kind 01 or 03 has no shares and no callers, one of 04 has both and no read ids, one
-/// of 05 has all.
+/// of 05 has all in which priorities have four bytes, one of 06 has eight.
 #[test]
 #[cfg(all(exported = "open", exported = "sound"))]
 fn kinds_and_marks() {
@@ -409,19 +493,26 @@ fn kinds_and_marks() {
         let (bytes, text) = (area::encode(&queue), image::encode(&queue));
         let older = image::encode_as(HeaderKind::K03, &queue);
         let four = image::encode_as(HeaderKind::K04, &queue);
-        // Without a holder there is no read count to tell 04 from 05.
-        let alike = queue.holders().next().is_none();
+        let five = image::encode_as(HeaderKind::K05, &queue);
+        // Without a holder there is no read count to tell 04 from 05, and without a record no priority to
+        // tell 05 from 06.
+        let no_holder = queue.holders().next().is_none();
+        let no_record = queue.records.is_empty();
         let has_mark_3 = (queue.records.iter()).any(|record| record.withdrawn as u8 == 3);
         for kind in 0..=255 {
             let (mut bytes, mut text, mut older) = (bytes.clone(), text.clone(), older.clone());
             bytes[4] = kind;
-            assert_eq!(raw::sound(&bytes).is_ok(), kind == 5, "area of kind {kind}");
+            assert_eq!(raw::sound(&bytes).is_ok(), kind == 6, "area of kind {kind}");
             put_byte(&mut text, 0, kind);
-            let taken = kind == 5 || (kind == 4 && alike);
+            let taken = kind == 6 || ([4, 5].contains(&kind) && no_record);
             assert_eq!(opens(&text, &queue), taken, "image of kind {kind}");
+            let mut five = five.clone();
+            put_byte(&mut five, 0, kind);
+            let taken = kind == 5 || (kind == 4 && no_holder) || (kind == 6 && no_record);
+            assert_eq!(opens(&five, &queue), taken, "image of 05 as {kind}");
             let mut four = four.clone();
             put_byte(&mut four, 0, kind);
-            let taken = kind == 4 || (kind == 5 && alike);
+            let taken = kind == 4 || (kind == 5 && no_holder) || (kind == 6 && no_record);
             assert_eq!(opens(&four, &queue), taken, "image of 04 as {kind}");
             put_byte(&mut older, 0, kind);
             let taken = kind == 3 || (kind == 1 && !has_mark_3);
@@ -437,9 +528,9 @@ fn kinds_and_marks() {
                 bytes[area::mark_place(&queue, n)] = mark;
                 assert_eq!(raw::sound(&bytes).is_ok(), right, "mark {mark}");
                 met.count(u64::from(right));
-                let place = image::mark_place(HeaderKind::K05, &queue, n);
+                let place = image::mark_place(HeaderKind::K06, &queue, n);
                 put_byte(&mut text, place, mark);
-                assert_eq!(opens(&text, &queue), right, "mark {mark} under 05");
+                assert_eq!(opens(&text, &queue), right, "mark {mark} under 06");
                 put_byte(
                     &mut older,
                     image::mark_place(HeaderKind::K03, &queue, n),
@@ -494,6 +585,64 @@ fn callers_and_shares() {
         }
     });
     expect(&met, &[0, 1]);
+}
+
+/// All eight bytes of every record's priority may have any value, and under each older kind all four: the
+/// sign is carried. By document 02's words, read from the area.
+#[test]
+#[cfg(all(exported = "open", exported = "sound"))]
+fn priorities() {
+    let mut met = Met::default();
+    many(cases() / 40, |rng| {
+        let queue = sound_queue(rng);
+        let (bytes, text) = (area::encode(&queue), image::encode(&queue));
+        let mut lent = vec![0; queue.limits.need()];
+        for n in 0..queue.records.len() {
+            let place = area::priority_place(&queue, n);
+            let digits = image::priority_place(HeaderKind::NEWEST, &queue, n);
+            for _ in 0..8 {
+                let (at, put) = other_priority(rng);
+                let (mut bytes, mut text) = (bytes.clone(), text.clone());
+                bytes[place + at..place + at + put.len()].copy_from_slice(&put);
+                for (at, byte) in (at..).zip(put) {
+                    put_byte(&mut text, digits + 2 * at, byte);
+                }
+                assert_eq!(raw::sound(&bytes), Ok(()));
+                assert_eq!(raw::open(&text, &mut lent), Ok(()));
+                assert_eq!(lent[place..place + 8], bytes[place..place + 8]);
+                met.count(6);
+            }
+            for kind in [
+                HeaderKind::K01,
+                HeaderKind::K03,
+                HeaderKind::K04,
+                HeaderKind::K05,
+            ] {
+                let mut text = image::encode_as(kind, &queue);
+                let digits = image::priority_place(kind, &queue, n);
+                for put in [u32::MAX, 1 << 31, i32::MAX as u32, 0, 1, rng.u64() as u32] {
+                    text[digits..digits + 8].copy_from_slice(format!("{put:08x}").as_bytes());
+                    if raw::open(&text, &mut lent).is_err() {
+                        // Mark 3 in one of kind 01.
+                        assert_eq!(kind, HeaderKind::K01);
+                        continue;
+                    }
+                    let sign = if put < 1 << 31 { 0 } else { 0xff };
+                    // Where the record stands by the queue as it was opened.
+                    let opened = area::decode(&lent).expect("a sound area");
+                    let place = area::priority_place(&opened, n);
+                    assert_eq!(
+                        lent[place..place + 4],
+                        [sign; 4],
+                        "{put:08x} under {kind:?}"
+                    );
+                    assert_eq!(lent[place + 4..place + 8], put.to_be_bytes());
+                    met.count(kind as u64);
+                }
+            }
+        }
+    });
+    expect(&met, &[1, 3, 4, 5, 6]);
 }
 
 /// Read ids and inputs that meet, and over K of them, by document 02's words and not by the model; and

@@ -9,9 +9,9 @@ mod common;
 use std::collections::BTreeSet;
 
 use common::{
-    area_to_write, counters, lent_caller, lent_flag, lent_id, lent_queue, lent_shares, many,
-    output, same, same_change, same_image_limits, same_reading, same_values, sometimes_cut,
-    sound_queue, Met,
+    area_to_write, counters, lent_caller, lent_flag, lent_id, lent_priority, lent_queue,
+    lent_shares, many, nearly_old_queue, output, same, same_change, same_convert,
+    same_image_limits, same_reading, same_values, sometimes_cut, sound_queue, Met,
 };
 use model::load::{self, Ids, Links, Load, Reads};
 use model::random::{self, Rng};
@@ -197,7 +197,7 @@ fn set_cursor() {
 #[cfg(exported = "admit")]
 fn admit() {
     let mut met = Met::default();
-    many(4 * CASES, |rng| {
+    many(8 * CASES, |rng| {
         let lent = lent_queue(rng);
         let given = Given::new(rng, &lent.0);
         let (args, model_args) = (given.raw(), given.model());
@@ -312,7 +312,8 @@ struct Given {
     tip: Vec<u8>,
     flags: [u8; 4],
     numbers: [u64; 4],
-    heights: [u32; 3],
+    heights: [u32; 2],
+    priority: u64,
 }
 
 impl Given {
@@ -339,11 +340,8 @@ impl Given {
                 rng.u64(),
                 rng.u64(),
             ],
-            heights: [
-                random::height(rng).0,
-                random::height(rng).0,
-                random::priority(rng) as u32,
-            ],
+            heights: [random::height(rng).0, random::height(rng).0],
+            priority: lent_priority(rng),
         }
     }
 
@@ -370,7 +368,7 @@ impl Given {
             time: self.numbers[1],
             height_flag: self.flags[1],
             height: self.heights[0],
-            priority: self.heights[2],
+            priority: self.priority,
             label_flag: self.flags[2],
             label: &self.label,
             fee: self.numbers[2],
@@ -635,6 +633,79 @@ fn image_limits() {
         }
     });
     met.expect(&[4, 16, 100]);
+}
+
+/// Images of kind 06 that kind 01 can say, and such that it cannot; older ones, and damaged ones.
+#[test]
+#[cfg(exported = "convert")]
+fn convert() {
+    let mut met = Met::default();
+    many(4 * CASES, |rng| {
+        let queue = match rng.once_in(4) {
+            true => sound_queue(rng),
+            false => nearly_old_queue(rng),
+        };
+        let mut text = image::encode(&queue);
+        let length = text.len();
+        match rng.below(8) {
+            0 => random::damage(rng, &mut text, length),
+            1 => text = image::encode(&random::altered(rng, &queue)),
+            2 => text = image::encode_as(rng.pick(&HeaderKind::ALL), &queue),
+            _ => {}
+        }
+        same_convert(&mut met, rng, &text);
+        // What it gives opens as what it was given does.
+        let (mut older, mut length) = (vec![0; text.len()], 0);
+        if raw::convert(&text, &mut older, &mut length).is_ok() {
+            older.truncate(length as usize);
+            let queue = image::decode(&text).expect("an image");
+            let mut opened = [0, 1].map(|_| vec![0; queue.limits.need()]);
+            assert_eq!(raw::open(&text, &mut opened[0]), Ok(()));
+            assert_eq!(raw::open(&older, &mut opened[1]), Ok(()));
+            assert!(opened[0] == opened[1]);
+            let refused = raw::convert(&older, &mut text.clone(), &mut length);
+            assert_eq!(refused, Err(pokerbox::Error::NotAnImage));
+        }
+    });
+    met.expect(&[4, 16, 22, 100]);
+}
+
+/// Each end of 32 bits and of 64, of every record: 22 beyond 32.
+#[test]
+#[cfg(exported = "convert")]
+fn convert_at_the_ends_of_the_priorities() {
+    const END: i64 = 1 << 31;
+    let mut met = Met::default();
+    many(300, |rng| {
+        let mut queue = nearly_old_queue(rng);
+        let holds = HeaderKind::K01.can_hold(&queue);
+        for n in 0..queue.records.len() {
+            let kept = queue.records[n].priority;
+            for (priority, narrow) in [
+                (END - 1, true),
+                (END, false),
+                (-END, true),
+                (-END - 1, false),
+                (2 * END, false),
+                (-2 * END, false),
+                (2 * END - 1, false),
+                (i64::MAX, false),
+                (i64::MIN, false),
+                (-1, true),
+            ] {
+                queue.records[n].priority = priority;
+                let text = image::encode(&queue);
+                same_convert(&mut met, rng, &text);
+                let (mut older, mut length) = (vec![0; text.len()], 0);
+                let given = raw::convert(&text, &mut older, &mut length);
+                if holds {
+                    assert_eq!(given.is_ok(), narrow, "{priority}");
+                }
+            }
+            queue.records[n].priority = kept;
+        }
+    });
+    met.expect(&[4, 22, 100]);
 }
 
 #[test]
@@ -1269,6 +1340,7 @@ value_readings! {
     exported = "expire",
     exported = "image",
     exported = "open",
+    exported = "convert",
     exported = "selection_entries_at",
     exported = "selection_parents_first"
 ))]
@@ -1315,6 +1387,16 @@ fn many_records() {
         let mut length = 0;
         assert_eq!(raw::image(&lent, &mut written, &mut length), Ok(()));
         assert!(written == text && length == text.len() as u64);
+        let mut old = queue.clone();
+        for record in &mut old.records {
+            if record.withdrawn == model::Withdrawn::RolledBackAfterRelease {
+                record.withdrawn = model::Withdrawn::Expired;
+            }
+        }
+        let older = image::encode_as(HeaderKind::K01, &old);
+        let given = raw::convert(&image::encode(&old), &mut written, &mut length);
+        assert_eq!(given, Ok(()));
+        assert!(written[..length as usize] == older);
         same(
             &mut met,
             &next,

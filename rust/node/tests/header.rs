@@ -65,7 +65,7 @@ fn the_header_declares_what_rust_declares() {
     let header = text("include/pokerbox.h");
     let declarations = c_declarations(&header);
     assert_eq!(declarations, rust_declarations());
-    assert_eq!(declarations.len(), 32);
+    assert_eq!(declarations.len(), 33);
 }
 
 #[test]
@@ -98,9 +98,9 @@ fn constants(header: &str) -> BTreeMap<String, u64> {
 /// What the header says of refusals is what there is: a list, never a range.
 #[test]
 fn the_header_names_the_refusals() {
-    let numbers: Vec<u64> = (1..=18).chain([20, 21]).collect();
+    let numbers: Vec<u64> = (1..=18).chain([20, 21, 22]).collect();
     assert_eq!(Error::ALL.map(Error::number), *numbers);
-    assert!(text("include/pokerbox.h").contains("\n *   1 to 18, 20, 21  a refusal;"));
+    assert!(text("include/pokerbox.h").contains("\n *   1 to 18, 20, 21, 22  a refusal;"));
 }
 
 /// A variant's name as a constant's: `QueueFull` is `QUEUE_FULL`.

@@ -3,7 +3,7 @@
 
 mod common;
 
-use std::collections::BTreeSet;
+use std::collections::{BTreeMap, BTreeSet};
 use std::fs;
 use std::path::Path;
 
@@ -100,6 +100,26 @@ fn with_callers(text: &[u8]) -> Vec<u8> {
     written.into_bytes()
 }
 
+/// The text of kind 05 with the digits of kind 06: before the four bytes of each priority four of its sign.
+fn with_wide(text: &[u8], queue: &Queue) -> Vec<u8> {
+    let text = std::str::from_utf8(text).expect("digits and line ends");
+    let mut lines = text.lines();
+    let header = lines.next().expect("a header");
+    let mut written = format!("06{}\n", &header[2..]);
+    for (line, record) in lines.zip(&queue.records) {
+        // Kind 1, id 32, caller 1, state 1, reason 1, created 8, then the deadlines.
+        let time = record.time_deadline.map_or(1, |_| 9);
+        let height = record.height_deadline.map_or(1, |_| 5);
+        let (front, end) = line.split_at(2 * (44 + time + height));
+        let sign = match end.as_bytes()[0] {
+            b'0'..=b'7' => "00000000",
+            _ => "ffffffff",
+        };
+        written += &format!("{front}{sign}{end}\n");
+    }
+    written.into_bytes()
+}
+
 /// The text of kind 04 with the digits of kind 05: in each holder a read count of 0 before its byte count.
 fn with_reads(text: &[u8], queue: &Queue) -> Vec<u8> {
     let text = std::str::from_utf8(text).expect("digits and line ends");
@@ -121,16 +141,94 @@ fn with_reads(text: &[u8], queue: &Queue) -> Vec<u8> {
 fn kept_images_are_written_again_in_the_newest_kind() {
     for kept in kept() {
         let opened = pokerbox::Queue::open(&kept.text).expect("an image");
-        assert_eq!(opened.area()[4], 5, "{}: the area", kept.what());
+        assert_eq!(opened.area()[4], 6, "{}: the area", kept.what());
         let written = opened.image().expect("an image");
-        let expected = match kept.kind {
-            HeaderKind::K01 | HeaderKind::K03 => {
-                with_reads(&with_callers(&kept.text), &kept.queue())
-            }
-            HeaderKind::K04 => with_reads(&kept.text, &kept.queue()),
-            HeaderKind::K05 => kept.text.clone(),
-        };
+        let queue = kept.queue();
+        let mut expected = kept.text.clone();
+        if kept.kind < HeaderKind::K04 {
+            expected = with_callers(&expected);
+        }
+        if kept.kind < HeaderKind::K05 {
+            expected = with_reads(&expected, &queue);
+        }
+        if kept.kind < HeaderKind::K06 {
+            expected = with_wide(&expected, &queue);
+        }
         assert!(written == expected, "{}", kept.what());
+    }
+}
+
+/// The way back: an image of kind 01, opened, written in the newest kind and converted, is the kept file
+/// again. So is one of another kind where kind 01 can say it all, but for the kind.
+#[test]
+fn kept_images_are_converted_back() {
+    let mut met = BTreeMap::new();
+    for kept in kept() {
+        let opened = pokerbox::Queue::open(&kept.text).expect("an image");
+        let written = opened.image().expect("an image");
+        let older = pokerbox::Queue::convert(&written);
+        let sayable = HeaderKind::K01.can_hold(&kept.queue());
+        match &older {
+            Ok(older) => {
+                assert!(sayable, "{}", kept.what());
+                if kept.kind < HeaderKind::K04 {
+                    assert!(*older == kept.with_kind("01"), "{}", kept.what());
+                }
+                let again = pokerbox::Queue::open(older).expect("an image");
+                assert!(again.image() == Ok(written), "{}", kept.what());
+            }
+            Err(error) => {
+                assert_eq!(*error, Error::NotConvertible, "{}", kept.what());
+                assert!(!sayable, "{}", kept.what());
+            }
+        }
+        *met.entry((kept.kind, older.is_ok())).or_insert(0) += 1;
+        // An older one itself is none to convert.
+        if kept.kind != HeaderKind::K06 {
+            let refused = pokerbox::Queue::convert(&kept.text);
+            assert_eq!(refused, Err(Error::NotAnImage), "{}", kept.what());
+        }
+    }
+    // All four of kind 01; of 03 all but that with mark 3; since 04 those without records.
+    let (yes, no) = (true, false);
+    let expected = [
+        ((HeaderKind::K01, yes), 4),
+        ((HeaderKind::K03, no), 1),
+        ((HeaderKind::K03, yes), 3),
+        ((HeaderKind::K04, no), 2),
+        ((HeaderKind::K04, yes), 2),
+        ((HeaderKind::K05, no), 2),
+        ((HeaderKind::K05, yes), 2),
+        ((HeaderKind::K06, no), 2),
+        ((HeaderKind::K06, yes), 2),
+    ];
+    assert_eq!(met, BTreeMap::from(expected));
+}
+
+/// The image `every` has priorities at both ends of 32 bits, and none beyond them in an older kind; since kind
+/// 06 such of 64, in holders and in tombstones.
+#[test]
+fn every_sort_of_priority_is_kept() {
+    const END: i64 = 1 << 31;
+    for kept in kept().filter(|kept| kept.name == "every") {
+        let queue = kept.queue();
+        let wide = kept.kind >= HeaderKind::K06;
+        let priorities = |holders: &[bool]| -> BTreeSet<i64> {
+            let records = queue.records.iter();
+            let records = records.filter(|of| holders.contains(&of.holder.is_some()));
+            records.map(|of| of.priority).collect()
+        };
+        let narrow = BTreeSet::from([0, -1, END - 1, -END]);
+        if !wide {
+            let with_1 = narrow.into_iter().chain([1]).collect();
+            assert_eq!(priorities(&[true, false]), with_1, "{}", kept.what());
+            continue;
+        }
+        let beyond = [END, -END - 1, 1 << 32, i64::MAX, i64::MIN];
+        let all: BTreeSet<i64> = narrow.into_iter().chain(beyond).collect();
+        for holder in [true, false] {
+            assert_eq!(priorities(&[holder]), all, "{}", kept.what());
+        }
     }
 }
 
@@ -193,7 +291,7 @@ fn every_sort_of_read_id_is_kept() {
 #[test]
 fn no_other_kind_is_an_image() {
     for kept in kept() {
-        for kind in ["00", "02", "06", "10", "15", "40", "50", "ff"] {
+        for kind in ["00", "02", "07", "10", "16", "40", "60", "ff"] {
             let refused = opened(&kept.with_kind(kind));
             assert_eq!(refused, Err(Error::NotAnImage), "{} as {kind}", kept.what());
         }

@@ -39,7 +39,7 @@ fn limits_have_ranges() {
 
 #[test]
 fn every_refusal_says_what_to_do() {
-    let numbers: Vec<u64> = (1..=18).chain([20, 21]).collect();
+    let numbers: Vec<u64> = (1..=18).chain([20, 21, 22]).collect();
     assert_eq!(Error::ALL.len(), numbers.len());
     for (number, error) in numbers.iter().zip(Error::ALL) {
         assert_eq!(error.number(), *number);
@@ -140,6 +140,51 @@ fn a_fresh_queue_refuses_what_is_absent() {
     assert_eq!(queue.entry(id), Err(Error::NotFound));
     assert_eq!(queue.signed_bytes(id), Err(Error::NotFound));
     assert_eq!(queue.selection_entries(), Ok(vec![]));
+}
+
+/// Times as priorities: admitted, shown, and selected by 64 signed bits.
+#[test]
+fn priorities_of_64_bits() {
+    let mut queue = Queue::fresh(Limits::new(6, 10, 2, 1).unwrap()).unwrap();
+    for (n, priority) in [
+        (1, i64::MIN),
+        (2, 1 << 32),
+        (3, -1),
+        (4, 1_700_000_000_000),
+        (5, i64::MAX),
+        (6, 0),
+    ] {
+        let given = Admission {
+            priority,
+            ..Admission::new(TxId([n; 32]), vec![], vec![], vec![], TimeMs(5), Height(6))
+        };
+        let entry = queue.admit(&given).unwrap().settle(Outcome::Kept).unwrap();
+        assert_eq!(entry.priority, priority);
+        assert_eq!(queue.entry(TxId([n; 32])).unwrap().priority, priority);
+    }
+    let selected = queue.selection_entries().unwrap();
+    let selected: Vec<u8> = selected.iter().map(|id| id.0[0]).collect();
+    assert_eq!(selected, [5, 4, 2, 6, 3, 1]);
+    let image = queue.image().unwrap();
+    let listed = Queue::open(&image).unwrap().list().unwrap();
+    let priorities: Vec<i64> = listed.iter().map(|entry| entry.priority).collect();
+    let wide = [i64::MIN, 1 << 32, -1, 1_700_000_000_000, i64::MAX, 0];
+    assert_eq!(priorities, wide);
+    assert_eq!(Queue::convert(&image), Err(Error::NotConvertible));
+    // As tombstones they are in the way, too, until they are forgotten: T is 2.
+    let mut cancel = |n| {
+        let change = queue.cancel(TxId([n; 32])).unwrap();
+        change.settle(Outcome::Kept).unwrap();
+        Queue::convert(&queue.image().unwrap())
+    };
+    for n in [1, 2, 4, 5, 3] {
+        assert_eq!(cancel(n), Err(Error::NotConvertible));
+    }
+    let older = cancel(6).unwrap();
+    assert!(older.starts_with(b"01"));
+    let opened = Queue::open(&older).unwrap();
+    assert_eq!(opened.image(), queue.image());
+    assert_eq!(opened.entry(TxId([3; 32])).unwrap().priority, -1);
 }
 
 #[test]
@@ -357,7 +402,7 @@ fn what_is_only_read() {
 /// The worked image of documents 01 and 02.
 #[test]
 fn the_worked_image_opens() {
-    let frame = "05 00000002 0000000a 00000001 00000001 \
+    let frame = "06 00000002 0000000a 00000001 00000001 \
                  00000002 00000000 00000000 00000000 00000000 00000000 00000000 00000000 \
                  00000000 00000000 00000000 00000000 00000000 00000000 00000000 00000000 \
                  0000000000000000 00000000 00 0000000000000000 00000000";
@@ -382,6 +427,7 @@ fn what_is_no_image_is_refused() {
         "04000000020000000a00000001000000010000000000000000000000000000000000000000000000000000\n",
         "05000000020000000a00000001000000010000000000000000000000000000000000000000000000000000\n",
         "06000000020000000a00000001000000010000000000000000000000000000000000000000000000000000\n",
+        "07000000020000000a00000001000000010000000000000000000000000000000000000000000000000000\n",
     ] {
         assert_eq!(Queue::open(text.as_bytes()).unwrap_err(), Error::NotAnImage);
     }

@@ -54,6 +54,8 @@ fn the_demonstration_shows_what_a_unit_lives_through() {
         "refusal 17: ",
         "refusal 18: ",
         "refusal 20: ",
+        "refusal 22: ",
+        "priority 1700000000005",
         "reads 1",
         "caller 0: ",
         "was killed",
@@ -61,10 +63,35 @@ fn the_demonstration_shows_what_a_unit_lives_through() {
     ] {
         assert!(shown.contains(part), "{part}: {shown}");
     }
+    // For an older unit: this queue is refused, and nothing is written.
+    let older = folder.path().join("older");
+    let older = older.to_str().expect("text");
+    let refused = run("unit", &[path, "--older", older]);
+    assert!(!refused.status.success());
+    assert!(String::from_utf8_lossy(&refused.stderr).contains("refusal 22: "));
+    assert!(!Path::new(older).exists());
     // It puts nothing into a queue that is already there.
     let stored = said(&run("unit", &[path]));
     let again = run("unit", &[path, "--demo"]);
     assert!(!again.status.success());
     assert!(String::from_utf8_lossy(&again.stderr).contains("a store stands at"));
     assert_eq!(said(&run("unit", &[path])), stored);
+}
+
+#[test]
+fn the_image_for_an_older_unit() {
+    let folder = Folder::new("older");
+    let path = folder.path().to_str().expect("text");
+    let limits = pokerbox::Limits::new(2, 10, 1, 1).expect("limits in range");
+    let queue = pokerbox::Queue::fresh(limits).expect("a queue");
+    let image = queue.image().expect("an image");
+    std::fs::write(folder.path().join("queue.image"), &image).expect("a file");
+    let file = folder.path().join("older");
+    let shown = said(&run(
+        "unit",
+        &[path, "--older", file.to_str().expect("text")],
+    ));
+    assert!(shown.contains("85 bytes of kind 01"), "{shown}");
+    let older = std::fs::read(&file).expect("a file");
+    assert_eq!(pokerbox::Queue::convert(&image), Ok(older));
 }

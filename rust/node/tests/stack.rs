@@ -12,7 +12,7 @@ mod every;
 use every::Args;
 use model::load::{self, Ids, Links, Load, Reads};
 use model::random::{self, Rng};
-use model::{area, calls, image, rules, Height, Limits, Queue, State, TimeMs};
+use model::{area, calls, image, rules, Height, Limits, Queue, State, TimeMs, Withdrawn};
 use pokerbox::raw;
 
 /// While the queue has at most [`FEW_INPUTS`] inputs and read ids together; parents first, while it also selects at most
@@ -39,6 +39,8 @@ struct Lent {
     queue: Queue,
     area: Vec<u8>,
     image: Vec<u8>,
+    /// Of what kind 01 can say of the queue.
+    old_image: Vec<u8>,
     args: Args,
     /// The same with an id that no record has, and as many read ids as there can be.
     new: Args,
@@ -62,6 +64,7 @@ impl Lent {
         let args = Args {
             id: id.to_vec(),
             caller: 0,
+            priority: u64::MAX,
             ids: ids.concat(),
             reads: Vec::new(),
             now: rng.pick(&[0, u64::MAX]),
@@ -84,6 +87,7 @@ impl Lent {
             next: vec![0; queue.limits.need()],
             // No answer is longer than the image.
             out: vec![0; image.len() + 16],
+            old_image: image::encode(&old(queue.clone())),
             image,
             queue,
         }
@@ -137,6 +141,8 @@ impl Lent {
         numbers.push(("need", self.need(library)));
         #[cfg(exported = "image_limits")]
         numbers.push(("image_limits", self.image_limits(library)));
+        #[cfg(exported = "convert")]
+        numbers.push(("convert", self.convert(library)));
         numbers
     }
 
@@ -183,6 +189,32 @@ impl Lent {
     }
 }
 
+#[cfg(exported = "convert")]
+impl Lent {
+    /// What kind 01 can say of the queue, so that it is converted.
+    fn convert(&mut self, library: bool) -> u64 {
+        let mut length = 0;
+        let (image, out) = (&self.old_image, &mut self.out);
+        match library {
+            true => common::Number::number(raw::convert(image, out, &mut length)),
+            false => calls::convert(image, out, &mut length),
+        }
+    }
+}
+
+/// The queue without what kind 01 cannot say: here read ids and mark 3.
+fn old(mut queue: Queue) -> Queue {
+    for record in &mut queue.records {
+        if record.withdrawn == Withdrawn::RolledBackAfterRelease {
+            record.withdrawn = Withdrawn::Expired;
+        }
+        if let Some(holder) = &mut record.holder {
+            holder.reads.clear();
+        }
+    }
+    queue
+}
+
 /// What `made` gives in a thread with so much stack, which is little or the most.
 fn in_thread<T: Send>(little: bool, made: impl FnOnce() -> T + Send) -> T {
     let bytes = match little {
@@ -204,6 +236,8 @@ fn in_stack(mut lent: Lent) {
     assert_eq!(given, expected);
     #[cfg(exported = "best_fees")]
     assert!(given.contains(&("best_fees", 100)), "{given:?}");
+    #[cfg(exported = "convert")]
+    assert!(given.contains(&("convert", 100)), "{given:?}");
     #[cfg(exported = "selection_parents_first")]
     {
         let little = little && lent.few_selected();

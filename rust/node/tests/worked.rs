@@ -8,7 +8,7 @@ const NEED: usize = 3_476;
 const SHARES: &str = "00000002 00000000 00000000 00000000 00000000 00000000 00000000 00000000 \
                       00000000 00000000 00000000 00000000 00000000 00000000 00000000 00000000";
 
-const HEADER: &str = "05 00000002 0000000a 00000001 00000001 \
+const HEADER: &str = "06 00000002 0000000a 00000001 00000001 \
      00000002 00000000 00000000 00000000 00000000 00000000 00000000 00000000 \
      00000000 00000000 00000000 00000000 00000000 00000000 00000000 00000000 \
      0000000000000000 00000000 00 0000000000000000 00000000";
@@ -18,7 +18,7 @@ const REST: &str =
     "00000002 0000000a 00000001 00000001 0000000000000000 00000000 00 0000000000000000 00000000";
 
 /// Callers 0 and 5 have a share of 1 each.
-const CANCELLED_HEADER: &str = "05 00000002 0000000a 00000001 00000001 \
+const CANCELLED_HEADER: &str = "06 00000002 0000000a 00000001 00000001 \
      00000001 00000000 00000000 00000000 00000000 00000001 00000000 00000000 \
      00000000 00000000 00000000 00000000 00000000 00000000 00000000 00000000 \
      0000000000000002 00000006 00 0000000000000001 00000001";
@@ -26,7 +26,7 @@ const CANCELLED_HEADER: &str = "05 00000002 0000000a 00000001 00000001 \
 /// From the id to the confirmation's flag: what the record's frame and its entry share.
 const CANCELLED_HEAD: &str =
     "1111111111111111111111111111111111111111111111111111111111111111 05 04 01 \
-     0000000000000005 00 00 ffffffff 00 0000000000000007 00000003 0000000000000009 00";
+     0000000000000005 00 00 ffffffffffffffff 00 0000000000000007 00000003 0000000000000009 00";
 
 /// The withdrawn mark, the finish number and the holder flag.
 const CANCELLED_END: &str = "00 0000000000000001 00";
@@ -86,10 +86,12 @@ fn the_fresh_image() {
     let mut lent = vec![0; NEED];
     assert_eq!(raw::open(text.as_bytes(), &mut lent), Ok(()));
     assert!(lent == area(&format!("00000000 {HEADER}")));
-    // That of kind 04 differs in its kind alone.
-    let (of_04, mut lent) = (format!("04{}", &text[2..]), vec![0; NEED]);
-    assert_eq!(raw::open(of_04.as_bytes(), &mut lent), Ok(()));
-    assert!(lent == area(&format!("00000000 {HEADER}")));
+    // Those of kinds 04 and 05 differ in their kind alone.
+    for kind in ["04", "05"] {
+        let (older, mut lent) = (format!("{kind}{}", &text[2..]), vec![0; NEED]);
+        assert_eq!(raw::open(older.as_bytes(), &mut lent), Ok(()));
+        assert!(lent == area(&format!("00000000 {HEADER}")));
+    }
     for kind in ["01", "03"] {
         let (older, mut lent) = (format!("{kind}{}\n", digits(REST)), vec![0; NEED]);
         assert_eq!(older.len(), 85);
@@ -97,6 +99,16 @@ fn the_fresh_image() {
         assert!(lent == area(&format!("00000000 {HEADER}")));
     }
     assert_eq!(raw::open(b"0A", &mut lent), Err(Error::NotAnImage));
+    // As document 01 has it, from that of kind 06.
+    let older = format!("01{}\n", digits(REST));
+    let (mut out, mut length) = ([0xee; 87], 7);
+    assert_eq!(raw::convert(text.as_bytes(), &mut out, &mut length), Ok(()));
+    assert_eq!((&out[..85], length), (older.as_bytes(), 85));
+    assert_eq!(out[85..], [0xee; 2]);
+    let short = raw::convert(text.as_bytes(), &mut out[..84], &mut length);
+    assert_eq!(short, Err(Error::OutputTooShort));
+    let other = raw::convert(older.as_bytes(), &mut out, &mut length);
+    assert_eq!(other, Err(Error::NotAnImage));
 }
 
 #[test]
@@ -119,17 +131,22 @@ fn the_cancelled_record() {
         String::new(),
     ];
     assert_eq!(image(&cancelled), lines.join("\n"));
+    // It is of caller 5.
+    let (mut out, mut length) = (vec![0xee; 1_000], 7);
+    let refused = raw::convert(image(&cancelled).as_bytes(), &mut out, &mut length);
+    assert_eq!((refused, length), (Err(Error::NotConvertible), 7));
+    assert!(out == vec![0xee; 1_000]);
 }
 
 /// A queue with one record that spends one id and reads another.
 #[test]
 fn the_reading_record() {
-    let header = "05 00000002 0000000a 00000001 00000001 \
+    let header = "06 00000002 0000000a 00000001 00000001 \
          00000002 00000000 00000000 00000000 00000000 00000000 00000000 00000000 \
          00000000 00000000 00000000 00000000 00000000 00000000 00000000 00000000 \
          0000000000000001 00000001 00 0000000000000000 00000001";
     let head = "2222222222222222222222222222222222222222222222222222222222222222 00 00 00 \
-         0000000000000005 00 00 00000000 00 0000000000000001 00000002 0000000000000001 00";
+         0000000000000005 00 00 0000000000000000 00 0000000000000001 00000002 0000000000000001 00";
     let input = "0001 3333333333333333333333333333333333333333333333333333333333333333";
     let read = "0001 4444444444444444444444444444444444444444444444444444444444444444";
     let record = format!("02 {head} 00 0000000000000000 01 {input} 0000 {read} 00000002 abcd");
@@ -202,7 +219,7 @@ fn the_reading_record() {
 /// Of the kinds that older images have.
 #[test]
 fn a_fresh_area_with_an_older_kind_byte() {
-    for kind in [1, 3, 4] {
+    for kind in [1, 3, 4, 5] {
         let mut lent = area(&format!("00000000 {HEADER}"));
         lent[4] = kind;
         assert_eq!(raw::sound(&lent), Err(Error::AreaNotSound));
@@ -218,7 +235,7 @@ fn one_wrong_byte_in_the_cancelled_record() {
     let used = 4 + unhex(CANCELLED_HEADER).len() + 1 + unhex(CANCELLED_HEAD).len() + 10;
     // Bytes that may have any value: the persisted height, the revision, the cursor, the id,
     // created, the priority, fee, size and cost.
-    let free = [0..4, 85..97, 111..143, 146..154, 156..160, 161..181];
+    let free = [0..4, 85..97, 111..143, 146..154, 156..164, 165..185];
     for at in 0..NEED {
         let mut damaged = cancelled.clone();
         damaged[at] ^= 0x40;

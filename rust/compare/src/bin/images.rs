@@ -96,7 +96,7 @@ fn every() -> Result<Vec<u8>, Error> {
 /// How often each sort of record is there, with other values each time.
 const VARIANTS: usize = 6;
 
-/// A queue with each state, reason, mark and caller, holder or not, and each sort of read id; with every two of: time deadline or not,
+/// A queue with each state, reason, mark and caller, holder or not, each sort of read id and of priority; with every two of: time deadline or not,
 /// height deadline or not, no label, an empty and the longest one.
 fn every_record() -> Queue {
     let mut sorts: Vec<(State, Reason, Option<Withdrawn>)> = vec![
@@ -137,6 +137,20 @@ fn every_record() -> Queue {
     queue
 }
 
+/// Of 32 bits and of 64: their ends, and one beyond each end of 32. Holders and tombstones have each, since
+/// the number of sorts is no multiple of theirs.
+const PRIORITIES: [i64; 9] = [
+    0,
+    -1,
+    i32::MAX as i64,
+    i32::MIN as i64,
+    i32::MAX as i64 + 1,
+    i32::MIN as i64 - 1,
+    1 << 32,
+    i64::MAX,
+    i64::MIN,
+];
+
 /// The `n`-th record, without state and reason; a tombstone has a mark.
 fn record(n: usize, variant: usize, mark: Option<Withdrawn>, mined: bool) -> Record {
     let holder = match mark {
@@ -156,7 +170,7 @@ fn record(n: usize, variant: usize, mark: Option<Withdrawn>, mined: bool) -> Rec
         created: TimeMs([0, 5, u64::MAX][n % 3]),
         time_deadline: time.then_some(TimeMs([0, 1 << 40, u64::MAX][n % 3])),
         height_deadline: height.then_some(Height([0, 900_000, u32::MAX][n % 3])),
-        priority: [0, 1, -1, i32::MAX, i32::MIN][n % 5],
+        priority: PRIORITIES[n % PRIORITIES.len()],
         label: [None, Some(Vec::new()), Some(vec![n as u8; 200])][variant % 3].clone(),
         fee: [0, 1_000_000, u64::MAX][n % 3],
         size,
@@ -257,7 +271,8 @@ fn admit(queue: &mut pokerbox::Queue, n: u8) -> Result<(), Error> {
         caller: pokerbox::Caller::new([1, 15][usize::from(n % 2)]).expect("a caller"),
         time_deadline: Some(pokerbox::TimeMs(1_000)),
         height_deadline: Some(pokerbox::Height(1_000)),
-        priority: i32::from(n),
+        // Of more than 32 bits.
+        priority: i64::from(n) << 32,
         label: Some(vec![b'a' + n; 200]),
         fee: u64::from(n),
         cost: 1,

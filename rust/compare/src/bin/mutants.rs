@@ -15,7 +15,7 @@ use compare::tables::{command, Tables};
 const USAGE: &str = "\
 usage: mutants [--seconds N] [--seed N] [--only N] [--jobs N] [--dir DIR] [--write]
 
-  --seconds  how long a comparison may take to notice (10)
+  --seconds  how long a comparison may take to notice (30)
   --seed     the first list's seed (1)
   --only     only the edit with this number, or those from N-M
   --jobs     for cargo (1)
@@ -90,7 +90,7 @@ fn main() -> ExitCode {
 
 fn settings(mut arguments: impl Iterator<Item = String>) -> Result<Settings, String> {
     let mut settings = Settings {
-        seconds: "10".into(),
+        seconds: "30".into(),
         seed: "1".into(),
         only: None,
         jobs: "1".into(),

@@ -124,7 +124,10 @@ fn admission(rng: &mut Rng, limits: &model::Limits) -> rules::Admission {
         now: model::TimeMs(0),
         time_deadline: rng.optional(random::time),
         height_deadline: None,
-        priority: random::priority(rng),
+        priority: match rng.once_in(2) {
+            true => random::wide_priority(rng),
+            false => random::priority(rng),
+        },
         label: rng.optional(random::label),
         fee: 7,
         cost: 9,

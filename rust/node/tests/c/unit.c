@@ -21,20 +21,19 @@ int main(void) {
     static uint8_t cur[POKERBOX_AREA_LEN(P, B, T, K)];
     static uint8_t next[POKERBOX_AREA_LEN(P, B, T, K)];
     static uint8_t image[POKERBOX_MAX_IMAGE_LEN(P, B, T, K)];
+    static uint8_t older[POKERBOX_MAX_IMAGE_LEN(P, B, T, K)];
     uint8_t id[32], other[32], input[32], output[32], read[32], out[400];
     const uint8_t signed_bytes[3] = {1, 2, 3};
     const uint8_t none[1] = {0};
     /* Caller 0 may have all, caller 15 one, and the others nothing. */
     uint8_t shares[POKERBOX_SHARES_LEN] = {0}, got[POKERBOX_SHARES_LEN];
-    uint64_t length, start, empty, p, b, t, k, need;
+    uint64_t length, older_length, start, empty, p, b, t, k, need;
 
     memset(id, 0x11, sizeof id);
     memset(input, 0x21, sizeof input);
     memset(output, 0x31, sizeof output);
     memset(read, 0x41, sizeof read);
     memset(other, 0x12, sizeof other);
-    shares[3] = P;
-    shares[63] = 1;
     expect("P 0", pokerbox_fresh(0, B, T, K, shares, sizeof shares, cur, sizeof cur),
            POKERBOX_LIMIT_OUT_OF_RANGE);
     expect("63 bytes of shares", pokerbox_fresh(P, B, T, K, shares, 63, cur, sizeof cur),
@@ -42,6 +41,22 @@ int main(void) {
     expect("need under P 0", pokerbox_need(0, B, T, K, &need), POKERBOX_LIMIT_OUT_OF_RANGE);
     expect("need", pokerbox_need(P, B, T, K, &need), POKERBOX_ANSWERED);
     expect("its bytes", need, sizeof cur);
+    /* All to caller 0: an image of kind 01 can hold that. */
+    shares[3] = P;
+    expect("fresh", pokerbox_fresh(P, B, T, K, shares, sizeof shares, cur, sizeof cur),
+           POKERBOX_ANSWERED);
+    expect("image", pokerbox_image(cur, sizeof cur, image, sizeof image, &length),
+           POKERBOX_ANSWERED);
+    expect("convert into 84 bytes", pokerbox_convert(image, length, older, 84, &older_length),
+           POKERBOX_OUTPUT_TOO_SHORT);
+    expect("convert", pokerbox_convert(image, length, older, sizeof older, &older_length),
+           POKERBOX_ANSWERED);
+    expect("its length", older_length, 85);
+    expect("its kind", (uint64_t)memcmp(older, "01", 2), 0);
+    expect("convert kind 01",
+           pokerbox_convert(older, older_length, image, sizeof image, &length),
+           POKERBOX_NOT_AN_IMAGE);
+    shares[63] = 1;
     expect("fresh", pokerbox_fresh(P, B, T, K, shares, sizeof shares, cur, sizeof cur),
            POKERBOX_ANSWERED);
     expect("cancel in empty",
@@ -55,14 +70,16 @@ int main(void) {
     expect("admit",
            pokerbox_admit(cur, sizeof cur, next, sizeof next, id, sizeof id, 15, input,
                           sizeof input, output, sizeof output, read, sizeof read, signed_bytes,
-                          sizeof signed_bytes, 5, 0, 0, 0, 0, 7, 0, none, 0, 1000, 9, 6, 0, none, 0,
-                          out, sizeof out),
+                          sizeof signed_bytes, 5, 0, 0, 0, 0, (1ULL << 32) + 7, 0, none, 0, 1000, 9,
+                          6, 0, none, 0, out, sizeof out),
            POKERBOX_ANSWERED_WHOLE);
     expect("caller", out[32], 15);
     expect("state", out[33], POKERBOX_STATE_QUEUED);
+    /* Its priority has eight bytes: 2^32 + 7. */
+    expect("priority", (uint64_t)out[48] * 256 + out[52], 256 + 7);
     /* The entry's end: one input, then one read id. */
-    expect("read count", (uint64_t)out[105] * 256 + out[106], 1);
-    expect("read id", (uint64_t)memcmp(out + 107, read, sizeof read), 0);
+    expect("read count", (uint64_t)out[109] * 256 + out[110], 1);
+    expect("read id", (uint64_t)memcmp(out + 111, read, sizeof read), 0);
 
     /* A write is due: the image of the next area would go to a file here. */
     expect("image", pokerbox_image(next, sizeof next, image, sizeof image, &length),
@@ -114,6 +131,9 @@ int main(void) {
     expect("its T", t, T);
     expect("its K", k, K);
     expect("its need", need, sizeof cur);
+    expect("convert what kind 01 cannot hold",
+           pokerbox_convert(image, length, older, sizeof older, &older_length),
+           POKERBOX_NOT_CONVERTIBLE);
     expect("open", pokerbox_open(image, length, cur, sizeof cur), POKERBOX_ANSWERED);
     expect("opened", (uint64_t)memcmp(cur, next, sizeof cur), 0);
     expect("signed bytes",

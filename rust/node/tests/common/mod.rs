@@ -66,6 +66,11 @@ impl Met {
         *self.0.entry(number).or_default() += 1;
     }
 
+    /// How many were counted.
+    pub fn total(&self) -> u64 {
+        self.0.values().sum()
+    }
+
     /// Exactly these numbers were met, each a few times.
     pub fn expect(&self, numbers: &[u64]) {
         let met: Vec<u64> = self.0.keys().copied().collect();
@@ -86,17 +91,59 @@ pub fn many(cases: u64, mut case: impl FnMut(&mut Rng)) {
 }
 
 /// A sound queue: of caller 0 alone under all to caller 0, or with other shares and callers; with read
-/// ids, or without.
+/// ids, or without; with priorities of 32 bits, or of more.
 pub fn sound_queue(rng: &mut Rng) -> Queue {
     let limits = random::small_limits(rng);
     let mut queue = random::queue(rng, limits);
     if !rng.once_in(3) {
         queue = random::with_callers(rng, queue);
     }
-    match rng.once_in(3) {
-        true => queue,
-        false => random::with_reads(rng, queue),
+    if !rng.once_in(3) {
+        queue = random::with_reads(rng, queue);
     }
+    match rng.once_in(2) {
+        true => queue,
+        false => random::with_wide(rng, queue),
+    }
+}
+
+/// A sound queue of which kind 01 can say all, or nearly all: one of four has wide priorities, callers, other
+/// shares or read ids, and half of those with marks may have mark 3.
+pub fn nearly_old_queue(rng: &mut Rng) -> Queue {
+    let limits = random::small_limits(rng);
+    let mut queue = random::queue(rng, limits);
+    let old = rng.once_in(2);
+    let tombstones = queue.records.iter_mut().filter(|of| of.holder.is_none());
+    for record in tombstones.filter(|_| old) {
+        if record.withdrawn == model::Withdrawn::RolledBackAfterRelease {
+            record.withdrawn = model::Withdrawn::Expired;
+        }
+    }
+    match rng.below(20) {
+        0 => random::with_callers(rng, queue),
+        1 => random::with_reads(rng, queue),
+        2 => random::with_wide(rng, queue),
+        3 => {
+            queue.limits.shares = random::shares(rng, &limits);
+            queue
+        }
+        4 if !queue.records.is_empty() => {
+            let n = rng.below(queue.records.len());
+            queue.records[n].caller = random::caller(rng);
+            queue
+        }
+        _ => queue,
+    }
+}
+
+/// A priority, of 32 bits or of more, in two's complement.
+pub fn lent_priority(rng: &mut Rng) -> u64 {
+    let priority = match rng.below(5) {
+        0 => rng.u64() as i64,
+        1 | 2 => random::wide_priority(rng),
+        _ => random::priority(rng),
+    };
+    priority as u64
 }
 
 /// A sound queue and bytes that mostly are its area: exact, with later bytes, or damaged.
@@ -299,6 +346,26 @@ pub fn same_image_limits(met: &mut Met, rng: &mut Rng, text: &[u8]) {
     assert_eq!(given_shares, expected_shares);
     if number < 100 {
         assert_eq!((values, given_shares), (before, shares), "a refusal wrote");
+    }
+    met.count(number);
+}
+
+/// Compares what is made of an image for a unit of kind 01 with the model's.
+#[cfg(exported = "convert")]
+pub fn same_convert(met: &mut Met, rng: &mut Rng, text: &[u8]) {
+    let answer = model::image::decode(text).map_or(40, |queue| {
+        let older = model::image::encode_as(model::HeaderKind::K01, &queue);
+        older.len()
+    });
+    let (out, before) = (output(rng, answer), rng.u64());
+    let (mut expected, mut expected_length) = (out.clone(), before);
+    let number = model::calls::convert(text, &mut expected, &mut expected_length);
+    let (mut written, mut length) = (out.clone(), before);
+    let given = pokerbox::raw::convert(text, &mut written, &mut length);
+    assert_eq!(given.number(), number);
+    assert_eq!((&written, length), (&expected, expected_length));
+    if number < 100 {
+        assert_eq!((written, length), (out, before), "a refusal wrote");
     }
     met.count(number);
 }

@@ -12,6 +12,8 @@ use pokerbox::raw;
 pub struct Args {
     pub id: Vec<u8>,
     pub caller: u8,
+    /// In two's complement.
+    pub priority: u64,
     /// Rising.
     pub ids: Vec<u8>,
     /// Of an admission.
@@ -62,7 +64,7 @@ macro_rules! admit_args {
             time: 0,
             height_flag: 0,
             height: 0,
-            priority: 0,
+            priority: $args.priority,
             label_flag: 1,
             label: b"label",
             fee: 7,
@@ -116,8 +118,8 @@ macro_rules! readings {
     };
 }
 
-/// The exported calls that are lent a queue's area: all but `fresh`, `open`, `need` and
-/// `image_limits`.
+/// The exported calls that are lent a queue's area: all but `fresh`, `open`, `need`, `image_limits` and
+/// `convert`.
 pub fn calls() -> Vec<Call> {
     let mut list = Vec::new();
     call!(list, "admit", true, |m, a, cur, next, out| m::admit(
