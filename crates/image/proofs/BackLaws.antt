@@ -23,7 +23,7 @@ use Rattle.queue.specs.Codec.{beC, byteC, pairC, mapC, vecC, countedC, encs, ca
 use Rattle.queue.specs.Choice.{fixC, thenC}
 use Rattle.queue.specs.Frames.{Head, idC, low32, readsEnc, signedEnc, fourC, sixteenC, limitsK, headK, recK, sharesC}
 use Rattle.queue.specs.Reads.{whole, listAt}
-use Rattle.queue.specs.ReadLaws.{false-true, Turn, none-left, spans-id}
+use Rattle.queue.specs.ReadLaws.{false-true, Turn, none-left}
 use Rattle.queue.specs.View.{view}
 use Rattle.queue.specs.Hex.{digOf, textOf, text-append}
 use Rattle.queue.specs.Splice.{be, Put}
@@ -51,7 +51,7 @@ use Rattle.image.specs.declared.text.Text.{Text}
 use Rattle.image.specs.declared.back.Cut.{Cut}
 use Rattle.image.specs.Texts.{TextIs, priorityFrom, saidF, storeSaid, CutIn, CutAt, Told, SaidIs, OldRecRoom, OldRoom, OldPut, OldLen, OldRecPut}
 use Rattle.image.specs.paper.Image.{readNewest, convertOf}
-use Rattle.image.proofs.ImageLaws.{slice, slice-end, be-size, fore-size, empty-ids, tail-parts, Turning, turn-here, turn-room, turn-on, put-over}
+use Rattle.image.proofs.ImageLaws.{slice, slice-end, be-size, front-long, fore-long, empty-ids, tail-parts, Turning, turn-here, turn-room, turn-on, put-over}
 
 -- ---- what kind 01 can say of a record
 empty-length : {A : Type 0} (l : List A) → eqb (length l) 0 ≡ isEmpty? l
@@ -155,6 +155,9 @@ old-enc r = rec-enc oldest r ∙ join (2 ∷ idC .enc (r .id)) (recFore r) (recM
     join : (a b m z : Bytes) {p p′ d : Bytes} → p ≡ p′ → d ≡ [] → a ++ ([] ++ (b ++ (p ++ (m ++ (d ++ z))))) ≡ a ++ (b ++ ((p′ ++ m) ++ z))
     join a b m z {p} {p′} e g = rw (e, g) (ap (λ (y : Bytes). a ++ (b ++ y)) (sym (append-assoc p′ m z)))
 
+old-sizes : (a b l m z : Bytes) → length (a ++ (b ++ ((l ++ m) ++ z))) ≡ length a + length b + length l + length m + length z
+old-sizes a b l m z = simp length-append (omega arith)
+
 module _ {s : Bytes} {base : ℕ} {x : Seen} {r : Rec} (w : SeenUnder newest (view true s base) x r) (f : Framed (recK newest) true s base (x .ok) (x .size) r) (q : recSaid? oldest r ≡ true) where
   abbrev seen : Bytes
   seen = view true s base
@@ -171,17 +174,11 @@ module _ {s : Bytes} {base : ℕ} {x : Seen} {r : Rec} (w : SeenUnder newest (vi
   abbrev pr : ℕ
   pr = priorityFrom newest (x .facts)
 
-  front-long : length front ≡ 33
-  unfolding recK mapC pairC
-  front-long = let i = spans-id .size (r .id) (f .fine .1 .0) in omega arith
+  first-long : length front ≡ 33
+  first-long = front-long (textForm newest) w f
 
-  fore-long : 34 + length (recFore r) ≡ pr
-  unfolding factsOf
-  fore-long =
-      let a = ap (λ (y : Facts). y .timed) (w .facts) in
-      let b = ap (λ (y : Facts). y .heighted) (w .facts) in
-      let c : length (recFore r) ≡ 12 + cond (x .facts .timed) 8 0 + cond (x .facts .heighted) 4 0 = fore-size r ∙ rw (← a, ← b) refl in
-      omega arith
+  before-long : 34 + length (recFore r) ≡ pr
+  before-long = fore-long (textForm newest) w f
 
   signed-long : length (signedEnc (r .body)) ≡ cond (x .facts .holder) (4 + x .facts .bytes) 0
   unfolding factsOf
@@ -209,7 +206,7 @@ module _ {s : Bytes} {base : ℕ} {x : Seen} {r : Rec} (w : SeenUnder newest (vi
   total =
       sym (length-take-le (x .size) seen (f .within)) ∙ ap length parts
       ∙ sizes front caller (recFore r) (high (r .terms .priority)) low (recMid r) (readsEnc newest (r .body)) (signedEnc (r .body))
-      ∙ omega (arith, front-long, be-size 1 (r .caller), fore-long, high-long, codec.be-length 4 (low32 (r .terms .priority)))
+      ∙ omega (arith, first-long, be-size 1 (r .caller), before-long, high-long, codec.be-length 4 (low32 (r .terms .priority)))
     where
       sizes : (a b c h l m d z : Bytes) → length (a ++ (b ++ (c ++ (h ++ ((l ++ m) ++ (d ++ z)))))) ≡ length a + length b + length c + length h + length l + length m + length d + length z
       sizes a b c h l m d z = simp length-append (omega arith)
@@ -219,7 +216,7 @@ module _ {s : Bytes} {base : ℕ} {x : Seen} {r : Rec} (w : SeenUnder newest (vi
   cut-in = record { room = omega (arith, total, signed-long, unread-long); small = w .small .bytes }
 
   piece-1 : take 33 (drop 0 seen) ≡ front
-  piece-1 = slice seen [] front (caller ++ (recFore r ++ (high (r .terms .priority) ++ behind-priority))) (x .size) 0 33 parts refl front-long (f .within) .0
+  piece-1 = slice seen [] front (caller ++ (recFore r ++ (high (r .terms .priority) ++ behind-priority))) (x .size) 0 33 parts refl first-long (f .within) .0
 
   abbrev ahead : Bytes
   ahead = ((front ++ caller) ++ recFore r) ++ high (r .terms .priority)
@@ -227,7 +224,7 @@ module _ {s : Bytes} {base : ℕ} {x : Seen} {r : Rec} (w : SeenUnder newest (vi
   ahead-long : length ahead ≡ pr + 4
   ahead-long =
       length-append ((front ++ caller) ++ recFore r) (high (r .terms .priority))
-      ∙ omega (arith, length-append (front ++ caller) (recFore r), length-append front caller, front-long, be-size 1 (r .caller), fore-long, high-long)
+      ∙ omega (arith, length-append (front ++ caller) (recFore r), length-append front caller, first-long, be-size 1 (r .caller), before-long, high-long)
 
   join-ahead : (a b c h z : Bytes) → a ++ (b ++ (c ++ (h ++ z))) ≡ (((a ++ b) ++ c) ++ h) ++ z
   join-ahead a b c h z = sym (simp append-assoc)
@@ -242,7 +239,7 @@ module _ {s : Bytes} {base : ℕ} {x : Seen} {r : Rec} (w : SeenUnder newest (vi
     piece-2 : take (c .low - 38) (drop 34 seen) ≡ recFore r
     piece-2 =
         slice seen (front ++ caller) (recFore r) (high (r .terms .priority) ++ behind-priority) (x .size) 34 (c .low - 38) (parts ∙ sym (append-assoc front caller _))
-        (length-append front caller ∙ omega (arith, front-long, be-size 1 (r .caller))) (omega (arith, fore-long, k .low)) (f .within) .0
+        (length-append front caller ∙ omega (arith, first-long, be-size 1 (r .caller))) (omega (arith, before-long, k .low)) (f .within) .0
 
     piece-3 : take (c .reads - c .low) (drop (c .low) seen) ≡ low ++ recMid r
     piece-3 =
@@ -261,7 +258,7 @@ module _ {s : Bytes} {base : ℕ} {x : Seen} {r : Rec} (w : SeenUnder newest (vi
 
     -- where the pieces stand
     pub old-in : (38 ≤ c .low) × (c .low ≤ c .reads) × (c .reads ≤ c .signed) × (c .signed ≤ x .size) × (x .size ≤ length seen)
-    old-in = (omega (arith, fore-long, k .low), omega (arith, reads-at, k .low), omega (arith, k .reads), omega (arith, k .signed), f .within)
+    old-in = (omega (arith, before-long, k .low), omega (arith, reads-at, k .low), omega (arith, k .reads), omega (arith, k .signed), f .within)
 
     pub old-line : recIn (textForm oldest) .enc r
         ≡ (((textOf (take 33 (drop 0 seen)) ++ textOf (take (c .low - 38) (drop 34 seen))) ++ textOf (take (c .reads - c .low) (drop (c .low) seen))) ++ textOf (take (x .size - c .signed) (drop (c .signed) seen))) ++ (10 ∷ [])
@@ -284,10 +281,7 @@ module _ {s : Bytes} {base : ℕ} {x : Seen} {r : Rec} (w : SeenUnder newest (vi
     unfolding formC
     old-size =
         line-length (recK oldest) r
-        ∙ omega (arith, ap length (old-enc r), sizes front (recFore r) low (recMid r) (signedEnc (r .body)), front-long, fore-long, k .low, reads-at, signed-at, total, codec.be-length 4 (low32 (r .terms .priority)))
-      where
-        sizes : (a b l m z : Bytes) → length (a ++ (b ++ ((l ++ m) ++ z))) ≡ length a + length b + length l + length m + length z
-        sizes a b l m z = simp length-append (omega arith)
+        ∙ omega (arith, ap length (old-enc r), old-sizes front (recFore r) low (recMid r) (signedEnc (r .body)), first-long, before-long, k .low, reads-at, signed-at, total, codec.be-length 4 (low32 (r .terms .priority)))
 
 -- ---- how long the image is
 -- a record's frame is longer under the newest kind by its caller, half of its priority and its count of read ids
@@ -296,13 +290,10 @@ unfolding beC
 old-shorter r q =
     ap length (rec-enc newest r)
     ∙ long (2 ∷ idC .enc (r .id)) (beC 1 .enc (r .caller)) (recFore r) (beC 8 .enc (r .terms .priority)) (recMid r) (readsEnc newest (r .body)) (signedEnc (r .body))
-    ∙ omega (arith, be-size 1 (r .caller), be-size 8 (r .terms .priority), unread-size (r .body) (said-reads r q), two (isSome (r .body)), ap length (old-enc r), short (2 ∷ idC .enc (r .id)) (recFore r) (codec.be 4 (low32 (r .terms .priority))) (recMid r) (signedEnc (r .body)), codec.be-length 4 (low32 (r .terms .priority)))
+    ∙ omega (arith, be-size 1 (r .caller), be-size 8 (r .terms .priority), unread-size (r .body) (said-reads r q), two (isSome (r .body)), ap length (old-enc r), old-sizes (2 ∷ idC .enc (r .id)) (recFore r) (codec.be 4 (low32 (r .terms .priority))) (recMid r) (signedEnc (r .body)), codec.be-length 4 (low32 (r .terms .priority)))
   where
     long : (a b c p m d z : Bytes) → length (a ++ (b ++ (c ++ (p ++ (m ++ (d ++ z)))))) ≡ length a + length b + length c + length p + length m + length d + length z
     long a b c p m d z = simp length-append (omega arith)
-
-    short : (a b l m z : Bytes) → length (a ++ (b ++ ((l ++ m) ++ z))) ≡ length a + length b + length l + length m + length z
-    short a b l m z = simp length-append (omega arith)
 
     two : (b : Bool) → cond b 2 0 ≡ 2 * one b
     two true = refl

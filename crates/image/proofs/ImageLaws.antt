@@ -163,7 +163,7 @@ unfolding optC optEnc beC
 opt-size n none = refl
 opt-size n (some v) = let k = codec.be-length n v in omega arith
 
-pub fore-size : (r : Rec) → length (recFore r) ≡ 12 + cond (isSome (r .terms .due)) 8 0 + cond (isSome (r .terms .dueHeight)) 4 0
+fore-size : (r : Rec) → length (recFore r) ≡ 12 + cond (isSome (r .terms .due)) 8 0 + cond (isSome (r .terms .dueHeight)) 4 0
 unfolding recFore
 fore-size r =
     let a = be-size 1 (r .state) in
@@ -209,7 +209,7 @@ module _ (form : Form) {s : Bytes} {base : ℕ} {x : Seen} {r : Rec} (w : SeenUn
   abbrev pr : ℕ
   pr = priorityFrom (form .kind) (x .facts)
 
-  front-long : length front ≡ 33
+  pub front-long : length front ≡ 33
   unfolding recK mapC pairC
   front-long = let i = spans-id .size (r .id) (f .fine .1 .0) in omega arith
 
@@ -221,7 +221,7 @@ module _ (form : Form) {s : Bytes} {base : ℕ} {x : Seen} {r : Rec} (w : SeenUn
   lead-long true = let c = caller-long in let l = front-long in length-append front caller ∙ omega arith
   lead-long false = let l = front-long in length-append front [] ∙ omega arith
 
-  fore-long : ce + length (recFore r) ≡ pr
+  pub fore-long : ce + length (recFore r) ≡ pr
   unfolding factsOf
   fore-long =
       let a = ap (λ (y : Facts). y .timed) (w .facts) in

@@ -120,8 +120,8 @@ mod tests {
     use model::{Limits, Record};
 
     use super::*;
-    use crate::list::{Start, Write};
-    use crate::oracle::Oracle;
+    use crate::list::Start;
+    use crate::oracle::admitted;
 
     const ID: [u8; 32] = [1; 32];
 
@@ -131,18 +131,11 @@ mod tests {
 
     /// What the oracle, in a folder of its own, makes of the start and of an admission by this caller.
     fn given(name: &str, limits: Limits, start: Start, caller: u8) -> Result<u64, String> {
-        let name = format!("pokerbox-callers-{name}-{}", std::process::id());
-        let folder = std::env::temp_dir().join(name);
-        std::fs::create_dir_all(&folder).map_err(|error| error.to_string())?;
-        let done = Oracle::new(&folder, limits, &start).and_then(|mut oracle| {
-            let given = Admission {
-                caller: Caller(caller),
-                ..Admission::plain(ID)
-            };
-            oracle.call(&Call::Admit(given), Write::Kept)
-        });
-        std::fs::remove_dir_all(&folder).map_err(|error| error.to_string())?;
-        done.map(|done| done.number)
+        let given = Admission {
+            caller: Caller(caller),
+            ..Admission::plain(ID)
+        };
+        admitted(&format!("callers-{name}"), limits, &start, given)
     }
 
     #[test]

@@ -58,6 +58,31 @@ pub fn parents_list(rng: &mut Rng) -> List {
     }
 }
 
+fn without_events(rng: &mut Rng, limits: Limits, start: Start, look: Look) -> List {
+    List {
+        limits,
+        start,
+        events: Vec::new(),
+        probe: (random::time(rng), random::height(rng)),
+        fees: rng.u64(),
+        look,
+    }
+}
+
+/// With room for more pending records, so that they meet before 10 and have an order.
+fn roomy_limits(rng: &mut Rng) -> Limits {
+    let small = random::small_limits(rng).numbers();
+    let limits = Limits::checked(small[0] + 3, 10, small[2], small[3]);
+    limits.expect("limits in range")
+}
+
+/// Leaves 7, 8, 9 and 11 nothing to refuse.
+fn leave_in(given: &mut Admission) {
+    given.signed.clear();
+    given.label = None;
+    (given.time_deadline, given.height_deadline) = (None, None);
+}
+
 /// A list without events under limits with shares. Some begin with a queue that has records of other
 /// callers, and some with one of caller 0 alone, also in an older image.
 pub fn callers_list(rng: &mut Rng) -> List {
@@ -81,14 +106,7 @@ pub fn callers_list(rng: &mut Rng) -> List {
             (limits, Start::Queue(Box::new(queue), HeaderKind::NEWEST))
         }
     };
-    List {
-        limits,
-        start,
-        events: Vec::new(),
-        probe: (random::time(rng), random::height(rng)),
-        fees: rng.u64(),
-        look: Look::Callers,
-    }
+    without_events(rng, limits, start, Look::Callers)
 }
 
 /// The callers that admit most.
@@ -113,10 +131,8 @@ pub fn callers_event(rng: &mut Rng, queue: &Queue) -> Event {
             };
             // With nothing but the share to refuse.
             if !rng.once_in(3) {
-                given.signed.clear();
+                leave_in(given);
                 given.inputs.clear();
-                given.label = None;
-                (given.time_deadline, given.height_deadline) = (None, None);
             }
         }
     }
@@ -126,10 +142,7 @@ pub fn callers_event(rng: &mut Rng, queue: &Queue) -> Event {
 /// A list without events whose records read. Some begin with a queue that has read ids, and some with one
 /// that has none, also in an older image.
 pub fn reads_list(rng: &mut Rng) -> List {
-    let small = random::small_limits(rng).numbers();
-    // Room for more pending records, so that they meet before 10.
-    let limits = Limits::checked(small[0] + 3, 10, small[2], small[3]);
-    let limits = limits.expect("limits in range");
+    let limits = roomy_limits(rng);
     let start = match rng.below(4) {
         0 => any_queue(rng, limits),
         1 => Start::Fresh,
@@ -139,14 +152,7 @@ pub fn reads_list(rng: &mut Rng) -> List {
             Start::Queue(Box::new(queue), HeaderKind::NEWEST)
         }
     };
-    List {
-        limits,
-        start,
-        events: Vec::new(),
-        probe: (random::time(rng), random::height(rng)),
-        fees: rng.u64(),
-        look: Look::Reads,
-    }
+    without_events(rng, limits, start, Look::Reads)
 }
 
 /// An event of such a list: an admission reads, and mostly nothing but 20 is there to refuse it.
@@ -192,9 +198,7 @@ fn read_by(rng: &mut Rng, queue: &Queue, given: &mut Admission) {
     let (spent, read) = (all(Record::inputs), all(Record::reads));
     let made = all(Record::outputs);
     if !rng.once_in(4) {
-        given.signed.clear();
-        given.label = None;
-        (given.time_deadline, given.height_deadline) = (None, None);
+        leave_in(given);
         given
             .inputs
             .retain(|id| !spent.contains(id) && !read.contains(id));
@@ -234,10 +238,7 @@ fn read_by(rng: &mut Rng, queue: &Queue, given: &mut Admission) {
 /// A list without events whose records have priorities of 64 bits. Some begin with a queue that has them, and
 /// some with one of 32 bits, also in an older image.
 pub fn wide_list(rng: &mut Rng) -> List {
-    let small = random::small_limits(rng).numbers();
-    // Room for more pending records, so that there is an order to see.
-    let limits = Limits::checked(small[0] + 3, 10, small[2], small[3]);
-    let limits = limits.expect("limits in range");
+    let limits = roomy_limits(rng);
     let start = match rng.below(4) {
         0 | 1 => any_queue(rng, limits),
         2 => Start::Fresh,
@@ -247,14 +248,7 @@ pub fn wide_list(rng: &mut Rng) -> List {
             Start::Queue(Box::new(queue), HeaderKind::NEWEST)
         }
     };
-    List {
-        limits,
-        start,
-        events: Vec::new(),
-        probe: (random::time(rng), random::height(rng)),
-        fees: rng.u64(),
-        look: Look::Wide,
-    }
+    without_events(rng, limits, start, Look::Wide)
 }
 
 /// An event of such a list: an admission has a priority of 64 bits mostly, and mostly nothing to refuse it.
@@ -266,10 +260,8 @@ pub fn wide_event(rng: &mut Rng, queue: &Queue) -> Event {
                 given.priority = random::wide_priority(rng);
             }
             if !rng.once_in(4) {
-                given.signed.clear();
+                leave_in(given);
                 given.inputs.clear();
-                given.label = None;
-                (given.time_deadline, given.height_deadline) = (None, None);
             }
         }
     }

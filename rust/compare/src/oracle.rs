@@ -621,3 +621,20 @@ pub fn whole_store(queue: &Queue) -> WholeStore {
         next_deadline: (None, None),
     }
 }
+
+/// For tests: what the oracle, in a folder of its own, gives back of this admission after the start.
+#[cfg(test)]
+pub(crate) fn admitted(
+    name: &str,
+    limits: Limits,
+    start: &Start,
+    given: Admission,
+) -> Result<u64, String> {
+    let name = format!("pokerbox-{name}-{}", std::process::id());
+    let folder = std::env::temp_dir().join(name);
+    fs::create_dir_all(&folder).map_err(|error| error.to_string())?;
+    let done = Oracle::new(&folder, limits, start)
+        .and_then(|mut oracle| oracle.call(&Call::Admit(given), Write::Kept));
+    fs::remove_dir_all(&folder).map_err(|error| error.to_string())?;
+    done.map(|done| done.number)
+}

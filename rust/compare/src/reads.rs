@@ -178,27 +178,20 @@ mod tests {
     use model::Limits;
 
     use super::*;
-    use crate::list::{Start, Write};
-    use crate::oracle::Oracle;
+    use crate::list::Start;
+    use crate::oracle::admitted;
 
     const ID: [u8; 32] = [1; 32];
 
     /// What the oracle, in a folder of its own, makes of the start and of an admission with these read
     /// ids.
     fn given(name: &str, start: Start, reads: &[Id]) -> Result<u64, String> {
-        let name = format!("pokerbox-reads-{name}-{}", std::process::id());
-        let folder = std::env::temp_dir().join(name);
-        std::fs::create_dir_all(&folder).map_err(|error| error.to_string())?;
         let limits = Limits::checked(2, 10, 1, 1).expect("limits in range");
-        let done = Oracle::new(&folder, limits, &start).and_then(|mut oracle| {
-            let given = Admission {
-                reads: reads.to_vec(),
-                ..Admission::plain([2; 32])
-            };
-            oracle.call(&Call::Admit(given), Write::Kept)
-        });
-        std::fs::remove_dir_all(&folder).map_err(|error| error.to_string())?;
-        done.map(|done| done.number)
+        let given = Admission {
+            reads: reads.to_vec(),
+            ..Admission::plain([2; 32])
+        };
+        admitted(&format!("reads-{name}"), limits, &start, given)
     }
 
     #[test]

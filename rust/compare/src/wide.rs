@@ -239,8 +239,8 @@ mod tests {
     use model::{Limits, Reason, State};
 
     use super::*;
-    use crate::list::{Start, Write};
-    use crate::oracle::Oracle;
+    use crate::list::Start;
+    use crate::oracle::admitted;
 
     fn limits() -> Limits {
         Limits::checked(2, 10, 1, 1).expect("limits in range")
@@ -248,18 +248,11 @@ mod tests {
 
     /// What the oracle, in a folder of its own, makes of the start and of an admission with this priority.
     fn given(name: &str, start: Start, priority: i64) -> Result<u64, String> {
-        let name = format!("pokerbox-wide-{name}-{}", std::process::id());
-        let folder = std::env::temp_dir().join(name);
-        std::fs::create_dir_all(&folder).map_err(|error| error.to_string())?;
-        let done = Oracle::new(&folder, limits(), &start).and_then(|mut oracle| {
-            let given = Admission {
-                priority,
-                ..Admission::plain([2; 32])
-            };
-            oracle.call(&Call::Admit(given), Write::Kept)
-        });
-        std::fs::remove_dir_all(&folder).map_err(|error| error.to_string())?;
-        done.map(|done| done.number)
+        let given = Admission {
+            priority,
+            ..Admission::plain([2; 32])
+        };
+        admitted(&format!("wide-{name}"), limits(), &start, given)
     }
 
     #[test]
