@@ -1,12 +1,12 @@
 -- Admission, exit by exit. Assumes nothing.
 use mathlib.Core.Path.{_≡_, refl, ap, sym, _∙_}
-use mathlib.Core.Bool.{Bool, true, false, cond, not, _&&_, _||_}
+use mathlib.Core.Bool.{Bool, true, false, cond, _&&_, _||_}
 use mathlib.Core.Option.{Option, none, some}
-use mathlib.Core.List.{List, [], _∷_, _++_}
-use Prim.Native.Nat.{ℕ, zero, suc, _+_, _-_, _*_, _/_, _%_, _^_, _≤_, _<_}
+use mathlib.Core.List.{List, [], _∷_}
+use Prim.Native.Nat.{ℕ, _+_, _/_, _%_, _^_, _≤_, _<_}
 use native.Mathlib.Omega.{arith}
 use lib.Dec.{ltb, leb, eqb}
-use lib.ListN.{length, drop, take}
+use lib.ListN.{length}
 use borrow.Author.Tests.{lt-ltb, le-ltb, ltb-false, leb-true, eq-eqb, ne-eqb, eqb-true}
 use Rattle.queue.specs.Codec.{cases, optC}
 use Rattle.queue.specs.Splice.{Put, splice}
@@ -25,37 +25,40 @@ use Rattle.queue.specs.Sounds.{Fit, fit-sound, fit-ok}
 use Rattle.queue.specs.Keeps.{leaves-kept}
 use Rattle.queue.specs.Admits.{Admissible, new-leaves}
 use Rattle.queue.specs.Arguments.{Small, AdmitLent, admission-ok}
-use Rattle.queue.specs.Opens.{AreaAs, AreaIs}
+use Rattle.queue.specs.Opens.{AreaIs}
 use Rattle.queue.specs.Fronts.{tipOf}
 use Rattle.queue.specs.Writes.{TipIs}
-use Rattle.queue.specs.CallsAs.{AreaIn, FoundIn}
-use Rattle.queue.specs.ReadingAs.{FoundAs, EntryIn, entryAt, entryLen}
+use Rattle.queue.specs.CallsAs.{AreaIn}
+use Rattle.queue.specs.ReadingAs.{Here, EntryIn, entryAt, entryLen}
+use Rattle.queue.specs.Spots.{SpotIn}
 use Rattle.queue.specs.Reopens.{IdsIn, idsAt}
 use Rattle.queue.specs.Sums.{unread?}
 use Rattle.queue.specs.Clash.{clashes}
-use Rattle.queue.specs.Admitting.{argsOf, newOf, TermsFit, HeldFit, withR, WithFrom, WithTo, roomOf, RoomIs, entryNewLen, NumbersFit, AskedIn, FreeOf, LentIds, ReadIs, CrossIs, TipFor, NewTold, FoundTold, AdmitTold, ListsAre, FlagsAre, LentIn}
+use Rattle.queue.specs.Admitting.{argsOf, newOf, TermsFit, HeldFit, withR, WithFrom, WithTo, roomOf, RoomIs, freeOf, FreeIs, entryNewLen, NumbersFit, askedOf, AskedIs, AskedIn, LentIds, ReadIs, CrossIs, TipFor, KnownAt, OldTold, NewTold, FoundTold, ListsAre, FlagsAre}
 use Rattle.queue.specs.paper.Records.{Bytes, Id, Rec, Queue}
 use Rattle.queue.specs.paper.Lists.{find, isEmpty?, any?, all?}
 use Rattle.queue.specs.paper.Sound as sound
-use Rattle.queue.specs.paper.Sound.{need, pending?, mined?, labelLen, among?, used?, clash?, read?, crossed?, callerRight?}
+use Rattle.queue.specs.paper.Sound.{need, pending?, mined?, labelLen, used?, clash?, read?, crossed?, callerRight?}
 use Rattle.queue.specs.paper.Area.{areaBytes, over}
 use Rattle.queue.specs.paper.Changing.{Out, refused, done, named?, reached?, Admission, newRec, committed, pendings, pendingBytes, pendingsOf, shareOf, admitNew, admit}
 use Rattle.queue.specs.Checked.{Outcome, outcome, told, admitShape?, admitOf}
 use Rattle.queue.specs.paper.Calls.{id?, whole?, items, flag?, given, givenId?, AdmitArgs, admission, overK?, entryBytes}
 use Rattle.queue.specs.declared.Kind.the-variants.{Nothing, Whole}
+use Rattle.queue.specs.declared.Answer.{Answer}
 use Rattle.queue.specs.declared.Answer.the-variants.{Refused, Done}
 use Rattle.queue.specs.declared.admit.Asked.{Asked}
 use Rattle.queue.specs.declared.admit.Tip.{Tip}
 use Rattle.queue.specs.declared.frame.HeadR.{HeadR}
 use Rattle.queue.specs.declared.frame.Seen.{Seen}
 use Rattle.queue.specs.declared.area.Area.{Area}
-use Rattle.queue.specs.declared.reading.Found.{Found}
-use Rattle.queue.proofs.Turns.{SeenIn, ReadsRec}
+use Rattle.queue.specs.declared.reading.Spot.{Spot}
+use Rattle.queue.proofs.Turns.{ReadsRec}
 use Rattle.queue.proofs.PutLaws.{over-splice}
 use Rattle.queue.proofs.WriteLaws.{fit, one-queue}
 use Rattle.queue.proofs.ReadingLaws.{key, met, entry-in, entry-is, entry-size}
 use Rattle.queue.proofs.ReopenLaws.{ids-in, ids-are}
 use Rattle.queue.proofs.CallLaws.{small-all}
+use Rattle.queue.proofs.SpotLaws.{spot-none}
 use Rattle.queue.proofs.AdmitLaws.{entry-long}
 
 -- ---- the cursor of the next queue
@@ -91,11 +94,28 @@ room-split false true c e = absurd (let y : ⊥ = omega arith in y)
 room-split false false true e = absurd (let y : ⊥ = omega arith in y)
 room-split false false false e = (refl, refl, refl)
 
-room-full : {A : Type 0} (b d c : Bool) (n : ℕ) (o : Out A) → n ≡ cond b 10 (cond d 18 (cond c 11 0)) → (n ≡ 0 → ⊥) → cond b (refused 10) (cond d (refused 18) (cond c (refused 11) o)) ≡ refused n
-room-full true d c n o e h = ap refused (sym e)
-room-full false true c n o e h = ap refused (sym e)
-room-full false false true n o e h = ap refused (sym e)
-room-full false false false n o e h = absurd (h e)
+room-more : (b d c : Bool) (n m : ℕ) → n ≡ cond b 10 (cond d 18 (cond c 11 0)) → (n ≡ 0 → ⊥) → n ≡ cond b 10 (cond d 18 (cond c 11 m))
+room-more true d c n m e h = e
+room-more false true c n m e h = e
+room-more false false true n m e h = e
+room-more false false false n m e h = absurd (h e)
+
+free-split : (b d c f g : Bool) → _≡_ {A = ℕ} (cond b 10 (cond d 18 (cond c 11 (cond f 12 (cond g 20 0))))) 0 → ((b ≡ false) × (d ≡ false) × (c ≡ false)) × (f ≡ false) × (g ≡ false)
+free-split true d c f g e = absurd (let y : ⊥ = omega arith in y)
+free-split false true c f g e = absurd (let y : ⊥ = omega arith in y)
+free-split false false true f g e = absurd (let y : ⊥ = omega arith in y)
+free-split false false false true g e = absurd (let y : ⊥ = omega arith in y)
+free-split false false false false true e = absurd (let y : ⊥ = omega arith in y)
+free-split false false false false false e = ((refl, refl, refl), refl, refl)
+
+free-full : {A : Type 0} (b d c f g : Bool) (n : ℕ) (o : Out A) → n ≡ cond b 10 (cond d 18 (cond c 11 (cond f 12 (cond g 20 0)))) → (n ≡ 0 → ⊥)
+    → cond b (refused 10) (cond d (refused 18) (cond c (refused 11) (cond f (refused 12) (cond g (refused 20) o)))) ≡ refused n
+free-full true d c f g n o e h = ap refused (sym e)
+free-full false true c f g n o e h = ap refused (sym e)
+free-full false false true f g n o e h = ap refused (sym e)
+free-full false false false true g n o e h = ap refused (sym e)
+free-full false false false false true n o e h = ap refused (sym e)
+free-full false false false false false n o e h = absurd (h e)
 
 -- ---- lent ids, and the ids of the records
 pub ids-lent : {ids : Bytes} → LentIds ids → IdsIn ids (length ids / 32) × (length ids < 4294967296)
@@ -144,29 +164,60 @@ module _ (s ins reads : Bytes) {b : Bool} (u : ReadIs s ins b) where
   unfolding crossed? clash? used? clashes
   cross-by w d t c q e = rw (← (u q e), t, ← (one-queue s (w .is) e)) (met-is w d false c)
 
+-- ---- 10, 18, 11, 12 or 20, or none of them
+pub free-room : (s ins reads : Bytes) (c n : ℕ) {r : ℕ} → RoomIs s c n r → (r ≡ 0 → ⊥) → FreeIs s c n ins reads r
+unfolding roomOf freeOf
+free-room s ins reads c n {r} m z q e = room-more (leb (q .limits .P) (pendings (q .recs))) (leb (shareOf c (q .limits)) (pendingsOf c (q .recs))) (ltb (q .limits .B) (pendingBytes (q .recs) + n)) r _ (m q e) z
+
+module _ {s : Bytes} {a : Area} (w : AreaIn s a) {ins : Bytes} (i : LentIds ins) (reads : Bytes) (c n : ℕ) {r : ℕ} (m : RoomIs s c n r) (z : r ≡ 0)
+    {b : Bool} (k : b ≡ clashes false (idsAt ins (length ins / 32)) (listAt (formC false recC) (a .open .head .count) s (a .open .start))) where
+  rooms : (leb (w .q .limits .P) (pendings (w .q .recs)) ≡ false) × (leb (shareOf c (w .q .limits)) (pendingsOf c (w .q .recs)) ≡ false) × (ltb (w .q .limits .B) (pendingBytes (w .q .recs) + n) ≡ false)
+  unfolding roomOf
+  rooms = room-split (leb (w .q .limits .P) (pendings (w .q .recs))) (leb (shareOf c (w .q .limits)) (pendingsOf c (w .q .recs))) (ltb (w .q .limits .B) (pendingBytes (w .q .recs) + n)) (sym (m (w .q) (w .is)) ∙ z)
+
+  clash-is : clash? (items 32 ins) (w .q .recs) ≡ b
+  unfolding clash? used? clashes
+  clash-is = sym (met-is w i false k)
+
+  pub free-12 : b ≡ true → FreeIs s c n ins reads 12
+  unfolding freeOf
+  free-12 t q e = rw (← (one-queue s (w .is) e), rooms .0, rooms .1, rooms .2, clash-is ∙ t)
+
+  module _ (t : b ≡ false) {d : Bool} (x : CrossIs s ins reads d) where
+    cross-is : crossed? (items 32 ins) (items 32 reads) (w .q .recs) ≡ d
+    cross-is = sym (x (w .q) (w .is))
+
+    pub free-20 : d ≡ true → FreeIs s c n ins reads 20
+    unfolding freeOf
+    free-20 u q e = rw (← (one-queue s (w .is) e), rooms .0, rooms .1, rooms .2, clash-is ∙ t, cross-is ∙ u)
+
+    pub free-0 : d ≡ false → FreeIs s c n ins reads 0
+    unfolding freeOf
+    free-0 u q e = rw (← (one-queue s (w .is) e), rooms .0, rooms .1, rooms .2, clash-is ∙ t, cross-is ∙ u)
+
 -- ---- what is lent, and the area
-module _ {s : Bytes} {a : Area} (w : AreaIn s a) {x : Asked} {id ins outs reads bytes label tip : Bytes} (i : AskedIn x id ins outs reads bytes label tip (a .open .head .limits .k)) where
+module _ {s : Bytes} {a : Area} (w : AreaIn s a) {x : Asked} {ins outs reads bytes label tip : Bytes} (i : AskedIn x (x .id) ins outs reads bytes label tip (a .open .head .limits .k)) where
   abbrev G : AdmitArgs
-  G = argsOf x id ins outs reads bytes label tip
+  G = argsOf x (x .id) ins outs reads bytes label tip
 
   abbrev R : Rec
-  R = newOf x id ins outs reads bytes label
+  R = newOf x (x .id) ins outs reads bytes label
 
   admissible : Admissible (w .q .limits .K) (admission G)
   admissible = let k : w .q .limits .K ≡ a .open .head .limits .k = head-K (w .read .store .head) in rw k (admission-ok (a .open .head .limits .k) G (i .lent) (i .shape) (i .few))
 
-  parts : ((id? id ≡ true) × (x .caller ≤ 15)) × (whole? 32 ins ≡ true) × ((whole? 32 outs ≡ true) × (whole? 32 reads ≡ true)) × (givenId? (x .tipflag) tip ≡ true)
+  parts : ((id? (x .id) ≡ true) × (x .caller ≤ 15)) × (whole? 32 ins ≡ true) × ((whole? 32 outs ≡ true) × (whole? 32 reads ≡ true)) × (givenId? (x .tipflag) tip ≡ true)
   parts =
-      let u = and-true ((id? id && callerRight? (x .caller)) && (whole? 32 ins && (whole? 32 outs && whole? 32 reads))) ((flag? (x .timeflag) && flag? (x .heightflag)) && (flag? (x .labelflag) && givenId? (x .tipflag) tip)) (i .shape) in
-      let v = and-true (id? id && callerRight? (x .caller)) (whole? 32 ins && (whole? 32 outs && whole? 32 reads)) (u .0) in
-      let c = and-true (id? id) (callerRight? (x .caller)) (v .0) in
+      let u = and-true ((id? (x .id) && callerRight? (x .caller)) && (whole? 32 ins && (whole? 32 outs && whole? 32 reads))) ((flag? (x .timeflag) && flag? (x .heightflag)) && (flag? (x .labelflag) && givenId? (x .tipflag) tip)) (i .shape) in
+      let v = and-true (id? (x .id) && callerRight? (x .caller)) (whole? 32 ins && (whole? 32 outs && whole? 32 reads)) (u .0) in
+      let c = and-true (id? (x .id)) (callerRight? (x .caller)) (v .0) in
       let y = and-true (whole? 32 ins) (whole? 32 outs && whole? 32 reads) (v .1) in
       let d = and-true (whole? 32 outs) (whole? 32 reads) (y .1) in
       let z = and-true (flag? (x .timeflag) && flag? (x .heightflag)) (flag? (x .labelflag) && givenId? (x .tipflag) tip) (u .1) in
       ((c .0, leb-true (x .caller) 15 (c .1)), y .0, (d .0, d .1), and-true (flag? (x .labelflag)) (givenId? (x .tipflag) tip) (z .1) .1)
 
-  id-32 : length id ≡ 32
-  id-32 = eqb-true (length id) 32 (parts .0 .0)
+  pub id-32 : length (x .id) ≡ 32
+  id-32 = eqb-true (length (x .id)) 32 (parts .0 .0)
 
   pub few-callers : x .caller ≤ 15
   few-callers = parts .0 .1
@@ -196,34 +247,19 @@ module _ {s : Bytes} {a : Area} (w : AreaIn s a) {x : Asked} {id ins outs reads 
   pub reads-lent : LentIds reads
   reads-lent = record { small = i .lent .reads; whole = eqb-true (length reads % 32) 0 (parts .2 .1); few = few-ids .2 }
 
-  -- 10, 18 and 11
-  pub new-room : (next out : Bytes) {r : ℕ} → RoomIs s (x .caller) (length bytes) r → (r ≡ 0 → ⊥) → NewTold s G (outcome (Refused r) next out) next out
-  unfolding roomOf
-  new-room next out {r} m n q e = rw (← (one-queue s (w .is) e), room-full (leb (w .q .limits .P) (pendings (w .q .recs))) (leb (shareOf (x .caller) (w .q .limits)) (pendingsOf (x .caller) (w .q .recs))) (ltb (w .q .limits .B) (pendingBytes (w .q .recs) + length bytes)) r _ (m (w .q) (w .is)) n)
+  -- 10, 18, 11, 12 and 20
+  pub new-refused : (next out : Bytes) {r : ℕ} → FreeIs s (x .caller) (length bytes) ins reads r → (r ≡ 0 → ⊥) → NewTold s G (outcome (Refused r) next out) next out
+  unfolding freeOf
+  new-refused next out {r} m n q e = rw (← (one-queue s (w .is) e), free-full (leb (w .q .limits .P) (pendings (w .q .recs))) (leb (shareOf (x .caller) (w .q .limits)) (pendingsOf (x .caller) (w .q .recs))) (ltb (w .q .limits .B) (pendingBytes (w .q .recs) + length bytes)) (clash? (items 32 ins) (w .q .recs)) (crossed? (items 32 ins) (items 32 reads) (w .q .recs)) r _ (m (w .q) (w .is)) n)
 
-  clash-is : {r : Bool} → r ≡ clashes false (idsAt ins (length ins / 32)) (listAt (formC false recC) (a .open .head .count) s (a .open .start)) → clash? (items 32 ins) (w .q .recs) ≡ r
-  unfolding clash? used? clashes
-  clash-is {r} c = sym (met-is w ins-lent false c)
-
-  pub free-of : {r b : Bool} → r ≡ clashes false (idsAt ins (length ins / 32)) (listAt (formC false recC) (a .open .head .count) s (a .open .start)) → r ≡ false → CrossIs s ins reads b → b ≡ false → FreeOf s ins reads
-  free-of c t d u q e = (rw (← (one-queue s (w .is) e)) (clash-is c ∙ t), sym (d q e) ∙ u)
-
-  module _ (m : RoomIs s (x .caller) (length bytes) 0) where
-    rooms : (leb (w .q .limits .P) (pendings (w .q .recs)) ≡ false) × (leb (shareOf (x .caller) (w .q .limits)) (pendingsOf (x .caller) (w .q .recs)) ≡ false) × (ltb (w .q .limits .B) (pendingBytes (w .q .recs) + length bytes) ≡ false)
-    unfolding roomOf
-    rooms = room-split (leb (w .q .limits .P) (pendings (w .q .recs))) (leb (shareOf (x .caller) (w .q .limits)) (pendingsOf (x .caller) (w .q .recs))) (ltb (w .q .limits .B) (pendingBytes (w .q .recs) + length bytes)) (sym (m (w .q) (w .is)))
-
-    -- 12
-    module _ (next out : Bytes) {r : Bool} (c : r ≡ clashes false (idsAt ins (length ins / 32)) (listAt (formC false recC) (a .open .head .count) s (a .open .start))) where
-      pub new-12 : r ≡ true → NewTold s G (outcome (Refused 12) next out) next out
-      new-12 t q e = rw (← (one-queue s (w .is) e), rooms .0, rooms .1, rooms .2, clash-is c ∙ t)
-
-      -- 20
-      pub new-20 : {b : Bool} → r ≡ false → CrossIs s ins reads b → b ≡ true → NewTold s G (outcome (Refused 20) next out) next out
-      new-20 t d u q e = let z : crossed? (items 32 ins) (items 32 reads) (w .q .recs) ≡ true = sym (d (w .q) (w .is)) ∙ u in rw (← (one-queue s (w .is) e), rooms .0, rooms .1, rooms .2, clash-is c ∙ t, z)
+  module _ (m : FreeIs s (x .caller) (length bytes) ins reads 0) where
+    frees : ((leb (w .q .limits .P) (pendings (w .q .recs)) ≡ false) × (leb (shareOf (x .caller) (w .q .limits)) (pendingsOf (x .caller) (w .q .recs)) ≡ false) × (ltb (w .q .limits .B) (pendingBytes (w .q .recs) + length bytes) ≡ false))
+        × (clash? (items 32 ins) (w .q .recs) ≡ false) × (crossed? (items 32 ins) (items 32 reads) (w .q .recs) ≡ false)
+    unfolding freeOf
+    frees = free-split (leb (w .q .limits .P) (pendings (w .q .recs))) (leb (shareOf (x .caller) (w .q .limits)) (pendingsOf (x .caller) (w .q .recs))) (ltb (w .q .limits .B) (pendingBytes (w .q .recs) + length bytes)) (clash? (items 32 ins) (w .q .recs)) (crossed? (items 32 ins) (items 32 reads) (w .q .recs)) (sym (m (w .q) (w .is)))
 
     bytes-few : length bytes ≤ 16777216
-    bytes-few = let u = ltb-false (w .q .limits .B) (pendingBytes (w .q .recs) + length bytes) (rooms .2) in let v = fit (w .read) .sound .range .B-high in omega arith
+    bytes-few = let u = ltb-false (w .q .limits .B) (pendingBytes (w .q .recs) + length bytes) (frees .0 .2) in let v = fit (w .read) .sound .range .B-high in omega arith
 
     pub held-fit : HeldFit ins outs reads bytes
     held-fit = let f = few-ids in let b = bytes-few in record {
@@ -238,6 +274,7 @@ module _ {s : Bytes} {a : Area} (w : AreaIn s a) {x : Asked} {id ins outs reads 
 
     pub terms-fit : TermsFit x label (length bytes)
     terms-fit = let b = bytes-few in let c = few-callers in record {
+      id = id-32;
       caller = omega arith;
       now = i .lent .now;
       time = i .lent .time;
@@ -250,137 +287,100 @@ module _ {s : Bytes} {a : Area} (w : AreaIn s a) {x : Asked} {id ins outs reads 
     }
 
     long : length (entryBytes R) ≡ entryNewLen x ins reads label
-    long = entry-long x id ins outs reads bytes label id-32 held-fit
+    long = entry-long x (x .id) ins outs reads bytes label id-32 held-fit
 
-    module _ (f : FreeOf s ins reads) where
-      abbrev Next : Queue
-      Next = withR (cursorAfter (admission G) (w .q) (w .q .recs)) (tipAfter (admission G) (w .q) (w .q .recs)) R (w .q)
+    abbrev Next : Queue
+    Next = withR (cursorAfter (admission G) (w .q) (w .q .recs)) (tipAfter (admission G) (w .q) (w .q .recs)) R (w .q)
 
-      new-is : admitNew (admission G) (w .q) ≡ done Whole Next R
-      unfolding withR newOf newRec
-      new-is = rw (rooms .0, rooms .1, rooms .2, f (w .q) (w .is) .0, f (w .q) (w .is) .1)
+    new-is : admitNew (admission G) (w .q) ≡ done Whole Next R
+    unfolding withR newOf newRec
+    new-is = rw (frees .0 .0, frees .0 .1, frees .0 .2, frees .1, frees .2)
 
-      next-fit : Fit Next
-      next-fit = leaves-kept (w .q) Next (admitNew (admission G) (w .q)) Whole R (new-leaves (admission G) (w .q) (fit (w .read)) admissible (i .short)) new-is .fit
+    next-fit : Fit Next
+    next-fit = leaves-kept (w .q) Next (admitNew (admission G) (w .q)) Whole R (new-leaves (admission G) (w .q) (fit (w .read)) admissible (i .short)) new-is .fit
 
-      module _ (t : Tip) (T : TipFor s (a .open .head) x tip t) where
-        at-tip : (t .height .0 ≡ cursorAfter (admission G) (w .q) (w .q .recs)) × (tipOf (t .has) (t .id) ≡ tipAfter (admission G) (w .q) (w .q .recs))
-        at-tip =
-            let u = T (headFor (storeOf (w .q))) (w .read .store .head) (fit (w .read) .tip) in
-            let n : a .open .head .count ≡ length (w .q .recs) = sym (w .read .store .count) in (
-              u .0 ∙ ap (λ k. cond (ltb 0 k) (w .q .cursor) (x .tipheight .0)) n ∙ sym (cursor-is (admission G) (w .q) (w .q .recs)),
-              u .1 ∙ ap (λ k. cond (ltb 0 k) (w .q .tip) (given (x .tipflag) tip)) n ∙ sym (tip-is (admission G) (w .q) (w .q .recs)),
-            )
+    module _ (t : Tip) (T : TipFor s (a .open .head) x tip t) where
+      at-tip : (t .height .0 ≡ cursorAfter (admission G) (w .q) (w .q .recs)) × (tipOf (t .has) (t .id) ≡ tipAfter (admission G) (w .q) (w .q .recs))
+      at-tip =
+          let u = T (headFor (storeOf (w .q))) (w .read .store .head) (fit (w .read) .tip) in
+          let n : a .open .head .count ≡ length (w .q .recs) = sym (w .read .store .count) in (
+            u .0 ∙ ap (λ k. cond (ltb 0 k) (w .q .cursor) (x .tipheight .0)) n ∙ sym (cursor-is (admission G) (w .q) (w .q .recs)),
+            u .1 ∙ ap (λ k. cond (ltb 0 k) (w .q .tip) (given (x .tipflag) tip)) n ∙ sym (tip-is (admission G) (w .q) (w .q .recs)),
+          )
 
-        next-is : withR (t .height .0) (tipOf (t .has) (t .id)) R (w .q) ≡ Next
-        next-is = two (at-tip .0) (at-tip .1)
-          where
-            two : {h h′ : ℕ} {o o′ : Option Id} → h ≡ h′ → o ≡ o′ → withR h o R (w .q) ≡ withR h′ o′ R (w .q)
-            two e f = cc
+      next-is : withR (t .height .0) (tipOf (t .has) (t .id)) R (w .q) ≡ Next
+      next-is = two (at-tip .0) (at-tip .1)
+        where
+          two : {h h′ : ℕ} {o o′ : Option Id} → h ≡ h′ → o ≡ o′ → withR h o R (w .q) ≡ withR h′ o′ R (w .q)
+          two e f = cc
 
-        next-room : length (queueC .enc Next) ≤ need (w .q .limits)
-        unfolding withR committed
-        next-room = fits-need Next (fit-sound _ next-fit) (fit-ok _ next-fit)
+      next-room : length (queueC .enc Next) ≤ need (w .q .limits)
+      unfolding withR committed
+      next-room = fits-need Next (fit-sound _ next-fit) (fit-ok _ next-fit)
 
-        next-low : cursorAfter (admission G) (w .q) (w .q .recs) < 256 ^ 4
-        unfolding withR committed
-        next-low = next-fit .cursor
+      next-low : cursorAfter (admission G) (w .q) (w .q .recs) < 256 ^ 4
+      unfolding withR committed
+      next-low = next-fit .cursor
 
-        pub with-from : WithFrom s a (t .height .0) (tipOf (t .has) (t .id)) R
-        with-from = record {
-          q = w .q;
-          is = w .is;
-          read = w .read;
-          fits = let u = ap (λ v. length (queueC .enc v)) next-is in let v = next-room in omega arith;
-          small = let u = at-tip .0 in let v = next-low in omega arith;
-        }
+      pub with-from : WithFrom s a (t .height .0) (tipOf (t .has) (t .id)) R
+      with-from = record {
+        q = w .q;
+        is = w .is;
+        read = w .read;
+        fits = let u = ap (λ v. length (queueC .enc v)) next-is in let v = next-room in omega arith;
+        small = let u = at-tip .0 in let v = next-low in omega arith;
+      }
 
-        pub new-102 : (next out : Bytes) {next′ out′ : Bytes} {r : ℕ} → entryNewLen x ins reads label ≤ length out → WithTo s (t .height .0) (tipOf (t .has) (t .id)) R next next′ → Put out 0 (entryBytes R) (entryNewLen x ins reads label) r out′
-            → NewTold s G (outcome (Done Whole) next′ out′) next out
-        new-102 next out {next′} {out′} h y p q e =
-            let z : out′ ≡ over (entryBytes R) out = p .is ∙ sym (over-splice out (entryBytes R) (omega (arith, long))) in
-            let v : next′ ≡ over (areaBytes Next) next = y (w .q) (w .is) ∙ ap (λ u. over (areaBytes u) next) next-is in
-            rw (← (one-queue s (w .is) e), new-is, le-ltb (length out) (length (entryBytes R)) (omega (arith, long)), z, v)
+      pub new-102 : (next out : Bytes) {next′ out′ : Bytes} {r : ℕ} → entryNewLen x ins reads label ≤ length out → WithTo s (t .height .0) (tipOf (t .has) (t .id)) R next next′ → Put out 0 (entryBytes R) (entryNewLen x ins reads label) r out′
+          → NewTold s G (outcome (Done Whole) next′ out′) next out
+      new-102 next out {next′} {out′} h y p q e =
+          let z : out′ ≡ over (entryBytes R) out = p .is ∙ sym (over-splice out (entryBytes R) (omega (arith, long))) in
+          let v : next′ ≡ over (areaBytes Next) next = y (w .q) (w .is) ∙ ap (λ u. over (areaBytes u) next) next-is in
+          rw (← (one-queue s (w .is) e), new-is, le-ltb (length out) (length (entryBytes R)) (omega (arith, long)), z, v)
 
-      -- 4
-      pub new-4 : (next out : Bytes) → length out < entryNewLen x ins reads label → NewTold s G (outcome (Refused 4) next out) next out
-      new-4 next out h q e = rw (← (one-queue s (w .is) e), new-is, lt-ltb (length out) (length (entryBytes R)) (omega (arith, long)))
+    -- 4
+    pub new-4 : (next out : Bytes) → length out < entryNewLen x ins reads label → NewTold s G (outcome (Refused 4) next out) next out
+    new-4 next out h q e = rw (← (one-queue s (w .is) e), new-is, lt-ltb (length out) (length (entryBytes R)) (omega (arith, long)))
+
+-- ---- the old record
+module _ (s : Bytes) (at : ℕ) {ok : Bool} {y : Seen} (x : ReadsRec false s at ok (y .size) y) where
+  pub known-state : {b : Bool} (r : Rec) → Here s at r → b ≡ (pending? (y .facts .state) || eqb (y .facts .state) 2) → b ≡ (pending? (r .state) || mined? r)
+  unfolding factsOf
+  known-state {b} r h e = e ∙ ap (λ k. pending? (k .state) || eqb (k .state) 2) (met h x .0 .facts)
+
+  pub known-entry : {r : Rec} → Here s at r → EntryIn s at y
+  known-entry h = entry-in (h .0) (met h x)
+
+  pub known-4 : {n : ℕ} (out : Bytes) → n ≡ entryLen y → length out < n → OldTold s at (Refused 4) out out
+  known-4 {n} out l k r h next q = rw (lt-ltb (length out) (length (entryBytes r)) (omega (arith, entry-size (h .0) (met h x))))
+
+  pub known-100 : {n e : ℕ} (out : Bytes) {out′ : Bytes} → n ≡ entryLen y → n ≤ length out → Put out 0 (entryAt s at y) (entryLen y) e out′ → OldTold s at (Done Nothing) out out′
+  known-100 out {out′} l k p r h next q =
+      let u : out′ ≡ over (entryBytes r) out = p .is ∙ ap (splice out 0) (entry-is (h .0) (met h x)) ∙ sym (over-splice out (entryBytes r) (omega (arith, entry-size (h .0) (met h x)))) in
+      rw (le-ltb (length out) (length (entryBytes r)) (omega (arith, entry-size (h .0) (met h x))), u)
 
 -- ---- from the id on
-pub area-of : {s : Bytes} {a : Area} {id : Id} {at : ℕ} → FoundIn s a id at → AreaIn s a
-area-of w = record { q = w .q; is = w .is; read = w .read }
+module _ {s : Bytes} {a : Area} (w : AreaIn s a) (g : AdmitArgs) {x : Spot} (p : SpotIn s a (g .id) x) {b : Bool} (k : KnownAt s x b) (next out : Bytes) where
+  old-found : (t : x .found ≡ true) → find (named? (g .id)) (w .q .recs) ≡ some (p .here t .0)
+  old-found t = ap (find (named? (g .id))) (sym (w .read .store .list)) ∙ p .here t .1
 
-module _ {s : Bytes} {a : Area} {id : Id} {at : ℕ} (w : FoundIn s a id at) {ok : Bool} {y : Seen} (x : ReadsRec false s at ok (y .size) y) (g : AdmitArgs) (same : g .id ≡ id) where
-  it : SeenIn false s at ok (y .size) y (w .r)
-  it = met (w .here) x
+  pub told-old : {r : Answer} {out′ : Bytes} → b ≡ true → OldTold s (x .at) r out out′ → FoundTold s g (outcome r next out′) next out
+  told-old {r} {out′} t h q e =
+      let f = k .0 t in let y = p .here f in
+      rw (← (one-queue s (w .is) e), old-found f, sym (k .1 (y .0) f (y .2)) ∙ t) (h (y .0) (y .2) next (w .q))
 
-  found-is : find (named? (g .id)) (w .q .recs) ≡ some (w .r)
-  found-is = ap (λ k. find (named? k) (w .q .recs)) same ∙ w .found
+  pub told-new : {o : Outcome} → b ≡ false → NewTold s g o next out → FoundTold s g o next out
+  told-new {o} t h q e = cases (x .found)
+      (λ f. let y = p .here f in rw (← (one-queue s (w .is) e), old-found f, sym (k .1 (y .0) f (y .2)) ∙ t) (h (w .q) (w .is)))
+      (λ f. rw (← (one-queue s (w .is) e), spot-none w p f) (h (w .q) (w .is)))
 
-  known-is : {b : Bool} → b ≡ (pending? (y .facts .state) || eqb (y .facts .state) 2) → (pending? (w .r .state) || mined? (w .r)) ≡ b
-  unfolding factsOf
-  known-is {b} e = sym (e ∙ ap (λ k. pending? (k .state) || eqb (k .state) 2) (it .0 .facts))
-
-  module _ {b : Bool} (e : b ≡ (pending? (y .facts .state) || eqb (y .facts .state) 2)) (next out : Bytes) where
-    pub known-4 : {n : ℕ} → b ≡ true → n ≡ entryLen y → length out < n → FoundTold s g (outcome (Refused 4) next out) next out
-    known-4 {n} t l k q f = rw (← (one-queue s (w .is) f), found-is, known-is e ∙ t, lt-ltb (length out) (length (entryBytes (w .r))) (omega (arith, entry-size (w .here .0) it)))
-
-    pub known-100 : {out′ : Bytes} {r n : ℕ} → b ≡ true → n ≡ entryLen y → n ≤ length out → Put out 0 (entryAt s at y) (entryLen y) r out′ → FoundTold s g (outcome (Done Nothing) next out′) next out
-    known-100 {out′} t l k p q f =
-        let z : out′ ≡ over (entryBytes (w .r)) out = p .is ∙ ap (splice out 0) (entry-is (w .here .0) it) ∙ sym (over-splice out (entryBytes (w .r)) (omega (arith, entry-size (w .here .0) it))) in
-        rw (← (one-queue s (w .is) f), found-is, known-is e ∙ t, le-ltb (length out) (length (entryBytes (w .r))) (omega (arith, entry-size (w .here .0) it)), z)
-
-    pub known-not : {o : Outcome} → b ≡ false → NewTold s g o next out → FoundTold s g o next out
-    known-not t h q f = rw (← (one-queue s (w .is) f), found-is, known-is e ∙ t) (h (w .q) (w .is))
-
-module _ {s : Bytes} {a : Area} {id : Id} (w : AreaIn s a) {f : Found} (x : FoundAs s f (find (named? id) (listAt (formC false recC) (a .open .head .count) s (a .open .start)))) where
-  pub id-found : f .found ≡ true → FoundIn s a id (f .at)
-  id-found n = let y = x .good n in record { q = w .q; is = w .is; read = w .read; r = y .0; found = ap (find (named? id)) (sym (w .read .store .list)) ∙ y .1; here = y .2 }
-
-  pub id-new : (g : AdmitArgs) (next out : Bytes) {o : Outcome} → g .id ≡ id → f .found ≡ false → NewTold s g o next out → FoundTold s g o next out
-  id-new g next out e n h q k =
-      let z : find (named? (g .id)) (w .q .recs) ≡ none = ap (λ y. find (named? y) (w .q .recs)) e ∙ ap (find (named? id)) (sym (w .read .store .list)) ∙ x .bad n in
-      rw (← (one-queue s (w .is) k), z) (h (w .q) (w .is))
-
--- ---- 7, 8 and 9
+-- ---- 5, 6, 7, 8 and 9
 reached-is : (flag d n : ℕ) → reached? (given flag d) n ≡ (eqb flag 1 && leb d n)
 reached-is flag d n = cases (eqb flag 1) (λ t. rw t) (λ t. rw t)
 
 pub label-is : (flag : ℕ) (label : Bytes) {b : Bool} → b ≡ (eqb flag 1 && ltb 200 (length label)) → b ≡ ltb 200 (labelLen (given flag label))
 label-is flag label {b} e = e ∙ cases (eqb flag 1) (λ t. rw t) (λ t. rw t)
 
-pub asked-in : {x : Asked} {id ins outs reads bytes label tip : Bytes} {K : ℕ} {b : Bool} → LentIn x id ins outs reads bytes label tip K → b ≡ ltb 200 (labelLen (given (x .labelflag) label)) → b ≡ false → AskedIn x id ins outs reads bytes label tip K
-asked-in l e t = record { lent = l .lent; shape = l .shape; few = l .few; short = sym e ∙ t }
-
-module _ (s : Bytes) (x : Asked) (id ins outs reads bytes label tip : Bytes) (next out : Bytes) {b7 : Bool} (e7 : b7 ≡ (eqb (x .timeflag) 1 && leb (x .time .0) (x .now .0))) where
-  abbrev Args : AdmitArgs
-  Args = argsOf x id ins outs reads bytes label tip
-
-  is-7 : reached? (given (x .timeflag) (x .time .0)) (x .now .0) ≡ b7
-  is-7 = reached-is (x .timeflag) (x .time .0) (x .now .0) ∙ sym e7
-
-  pub timely-7 : b7 ≡ true → AdmitTold s Args (outcome (Refused 7) next out) next out
-  unfolding admit
-  timely-7 t q e = rw (is-7 ∙ t)
-
-  module _ (f7 : b7 ≡ false) {b8 : Bool} (e8 : b8 ≡ (eqb (x .heightflag) 1 && leb (x .height .0) (x .tipheight .0))) where
-    is-8 : reached? (given (x .heightflag) (x .height .0)) (x .tipheight .0) ≡ b8
-    is-8 = reached-is (x .heightflag) (x .height .0) (x .tipheight .0) ∙ sym e8
-
-    pub timely-8 : b8 ≡ true → AdmitTold s Args (outcome (Refused 8) next out) next out
-    unfolding admit
-    timely-8 t q e = rw (is-7 ∙ f7, is-8 ∙ t)
-
-    module _ (f8 : b8 ≡ false) {b9 : Bool} (e9 : b9 ≡ ltb 200 (labelLen (given (x .labelflag) label))) where
-      pub timely-9 : b9 ≡ true → AdmitTold s Args (outcome (Refused 9) next out) next out
-      unfolding admit
-      timely-9 t q e = rw (is-7 ∙ f7, is-8 ∙ f8, sym e9 ∙ t)
-
-      pub timely : {o : Outcome} → b9 ≡ false → FoundTold s Args o next out → AdmitTold s Args o next out
-      unfolding admit
-      timely t h q e = rw (is-7 ∙ f7, is-8 ∙ f8, sym e9 ∙ t) (h q e)
-
--- ---- 5 and 6
 pub mod-is : (s : Bytes) {n : ℕ} → n ≡ length (view false s 0) → eqb (n % 32) 0 ≡ whole? 32 s
 unfolding view
 mod-is s e = ap (λ (m : ℕ). eqb (m % 32) 0) e
@@ -425,50 +425,122 @@ lent-of n l f = record {
   tip = f .1 .2;
 }
 
+module _ (K : ℕ) (x : Asked) (id ins outs reads bytes label tip : Bytes) (N : NumbersFit x) {l f r : Bool} (L : ListsAre id (x .caller) ins outs reads l) (F : FlagsAre x bytes label tip f) (e : r ≡ (l && f)) where
+  abbrev Given : AdmitArgs
+  Given = argsOf x id ins outs reads bytes label tip
+
+  shape-is : admitShape? Given ≡ r
+  shape-is = sym (e ∙ and-of (L .0) (F .0))
+
+  pub asked-5 : r ≡ false → AskedIs K Given 5
+  unfolding askedOf
+  asked-5 n = (rw (shape-is ∙ n), lent-of N L F)
+
+  module _ (n : r ≡ true) {b : Bool} (k : b ≡ (ltb K (length ins / 32) || (ltb K (length outs / 32) || ltb K (length reads / 32)))) where
+    pub asked-6 : b ≡ true → AskedIs K Given 6
+    unfolding askedOf
+    asked-6 y = (rw (shape-is ∙ n, sym k ∙ y), lent-of N L F)
+
+    module _ (y : b ≡ false) {b7 : Bool} (e7 : b7 ≡ (eqb (x .timeflag) 1 && leb (x .time .0) (x .now .0))) where
+      is-7 : reached? (given (x .timeflag) (x .time .0)) (x .now .0) ≡ b7
+      is-7 = reached-is (x .timeflag) (x .time .0) (x .now .0) ∙ sym e7
+
+      pub asked-7 : b7 ≡ true → AskedIs K Given 7
+      unfolding askedOf
+      asked-7 t = (rw (shape-is ∙ n, sym k ∙ y, is-7 ∙ t), lent-of N L F)
+
+      module _ (f7 : b7 ≡ false) {b8 : Bool} (e8 : b8 ≡ (eqb (x .heightflag) 1 && leb (x .height .0) (x .tipheight .0))) where
+        is-8 : reached? (given (x .heightflag) (x .height .0)) (x .tipheight .0) ≡ b8
+        is-8 = reached-is (x .heightflag) (x .height .0) (x .tipheight .0) ∙ sym e8
+
+        pub asked-8 : b8 ≡ true → AskedIs K Given 8
+        unfolding askedOf
+        asked-8 t = (rw (shape-is ∙ n, sym k ∙ y, is-7 ∙ f7, is-8 ∙ t), lent-of N L F)
+
+        module _ (f8 : b8 ≡ false) {b9 : Bool} (e9 : b9 ≡ ltb 200 (labelLen (given (x .labelflag) label))) where
+          pub asked-9 : b9 ≡ true → AskedIs K Given 9
+          unfolding askedOf
+          asked-9 t = (rw (shape-is ∙ n, sym k ∙ y, is-7 ∙ f7, is-8 ∙ f8, sym e9 ∙ t), lent-of N L F)
+
+          pub asked-0 : b9 ≡ false → AskedIs K Given 0
+          unfolding askedOf
+          asked-0 t = (rw (shape-is ∙ n, sym k ∙ y, is-7 ∙ f7, is-8 ∙ f8, sym e9 ∙ t), lent-of N L F)
+
+-- ---- what they come to
+asked-full : (u v b7 b8 b9 : Bool) (r : ℕ) (next out : Bytes) (o : Out Rec) → r ≡ cond u (cond v 6 (cond b7 7 (cond b8 8 (cond b9 9 0)))) 5 → (r ≡ 0 → ⊥)
+    → outcome (Refused r) next out ≡ cond u (cond v (outcome (Refused 6) next out) (told entryBytes next out (cond b7 (refused 7) (cond b8 (refused 8) (cond b9 (refused 9) o))))) (outcome (Refused 5) next out)
+asked-full false v b7 b8 b9 r next out o e h = ap (λ k. outcome (Refused k) next out) e
+asked-full true true b7 b8 b9 r next out o e h = ap (λ k. outcome (Refused k) next out) e
+asked-full true false true b8 b9 r next out o e h = ap (λ k. outcome (Refused k) next out) e
+asked-full true false false true b9 r next out o e h = ap (λ k. outcome (Refused k) next out) e
+asked-full true false false false true r next out o e h = ap (λ k. outcome (Refused k) next out) e
+asked-full true false false false false r next out o e h = absurd (h e)
+
+asked-split : (u v b7 b8 b9 : Bool) → _≡_ {A = ℕ} (cond u (cond v 6 (cond b7 7 (cond b8 8 (cond b9 9 0)))) 5) 0 → ((u ≡ true) × (v ≡ false)) × (b7 ≡ false) × (b8 ≡ false) × (b9 ≡ false)
+asked-split false v b7 b8 b9 e = absurd (let y : ⊥ = omega arith in y)
+asked-split true true b7 b8 b9 e = absurd (let y : ⊥ = omega arith in y)
+asked-split true false true b8 b9 e = absurd (let y : ⊥ = omega arith in y)
+asked-split true false false true b9 e = absurd (let y : ⊥ = omega arith in y)
+asked-split true false false false true e = absurd (let y : ⊥ = omega arith in y)
+asked-split true false false false false e = ((refl, refl), refl, refl, refl)
+
 pub admit-3 : (cur next out : Bytes) (g : AdmitArgs) → readArea cur ≡ none → outcome (Refused 3) next out ≡ admitOf cur next out g
 unfolding admitOf
 admit-3 cur next out g e = rw e
 
-module _ (cur next out : Bytes) {a : Area} (i : AreaIs cur a) (t : a .ok ≡ true) (x : Asked) (id ins outs reads bytes label tip : Bytes) where
-  abbrev Given : AdmitArgs
-  Given = argsOf x id ins outs reads bytes label tip
-
-  pub admit-2 : length next < a .need → outcome (Refused 2) next out ≡ admitOf cur next out Given
+module _ (cur next out : Bytes) {a : Area} (i : AreaIs cur a) (t : a .ok ≡ true) where
+  pub admit-2 : (g : AdmitArgs) → length next < a .need → outcome (Refused 2) next out ≡ admitOf cur next out g
   unfolding admitOf
-  admit-2 h = let g = i .good t in rw (g .1, lt-ltb (length next) (need (g .0 .limits)) (omega (arith, g .2 .need)))
+  admit-2 g h = let y = i .good t in rw (y .1, lt-ltb (length next) (need (y .0 .limits)) (omega (arith, y .2 .need)))
 
-  module _ (h : a .need ≤ length next) {l f r : Bool} (L : ListsAre id (x .caller) ins outs reads l) (F : FlagsAre x bytes label tip f) (e : r ≡ (l && f)) where
+  module _ (h : a .need ≤ length next) (x : Asked) {id ins outs reads bytes label tip : Bytes} {r : ℕ} (A : AskedIs (a .open .head .limits .k) (argsOf x id ins outs reads bytes label tip) r) where
+    abbrev Args : AdmitArgs
+    Args = argsOf x id ins outs reads bytes label tip
+
     enough : ltb (length next) (need (i .good t .0 .limits)) ≡ false
     enough = le-ltb (length next) (need (i .good t .0 .limits)) (omega (arith, i .good t .2 .need))
 
-    shape-is : admitShape? Given ≡ r
-    shape-is = sym (e ∙ and-of (L .0) (F .0))
+    same-K : i .good t .0 .limits .K ≡ a .open .head .limits .k
+    same-K = head-K (i .good t .2 .store .head)
 
-    pub admit-5 : r ≡ false → outcome (Refused 5) next out ≡ admitOf cur next out Given
-    unfolding admitOf
-    admit-5 n = let g = i .good t in rw (g .1, enough, shape-is ∙ n)
+    pub admit-refused : (r ≡ 0 → ⊥) → outcome (Refused r) next out ≡ admitOf cur next out Args
+    unfolding admitOf admit askedOf
+    admit-refused n =
+        let y = i .good t in
+        let u = asked-full (admitShape? Args) (overK? (a .open .head .limits .k) Args) (reached? (given (x .timeflag) (x .time .0)) (x .now .0)) (reached? (given (x .heightflag) (x .height .0)) (x .tipheight .0)) (ltb 200 (labelLen (given (x .labelflag) label))) r next out _ (A .0) n in
+        rw (y .1, enough, same-K) u
 
-    module _ (n : r ≡ true) {b : Bool} (k : b ≡ (ltb (a .open .head .limits .k) (length ins / 32) || (ltb (a .open .head .limits .k) (length outs / 32) || ltb (a .open .head .limits .k) (length reads / 32)))) where
-      over-is : overK? (i .good t .0 .limits .K) Given ≡ b
-      over-is = let u : i .good t .0 .limits .K ≡ a .open .head .limits .k = head-K (i .good t .2 .store .head) in ap (λ v. overK? v Given) u ∙ sym k
+    module _ (z : r ≡ 0) where
+      passes : ((admitShape? Args ≡ true) × (overK? (a .open .head .limits .k) Args ≡ false)) × (reached? (given (x .timeflag) (x .time .0)) (x .now .0) ≡ false) × (reached? (given (x .heightflag) (x .height .0)) (x .tipheight .0) ≡ false) × (ltb 200 (labelLen (given (x .labelflag) label)) ≡ false)
+      unfolding askedOf
+      passes = asked-split (admitShape? Args) (overK? (a .open .head .limits .k) Args) (reached? (given (x .timeflag) (x .time .0)) (x .now .0)) (reached? (given (x .heightflag) (x .height .0)) (x .tipheight .0)) (ltb 200 (labelLen (given (x .labelflag) label))) (sym (A .0) ∙ z)
 
-      pub admit-6 : b ≡ true → outcome (Refused 6) next out ≡ admitOf cur next out Given
-      unfolding admitOf
-      admit-6 y = let g = i .good t in rw (g .1, enough, shape-is ∙ n, over-is ∙ y)
+      id-whole : length id ≡ 32
+      id-whole =
+          let u = and-true ((id? id && callerRight? (x .caller)) && (whole? 32 ins && (whole? 32 outs && whole? 32 reads))) ((flag? (x .timeflag) && flag? (x .heightflag)) && (flag? (x .labelflag) && givenId? (x .tipflag) tip)) (passes .0 .0) in
+          let v = and-true (id? id && callerRight? (x .caller)) (whole? 32 ins && (whole? 32 outs && whole? 32 reads)) (u .0) in
+          eqb-true (length id) 32 (and-true (id? id) (callerRight? (x .caller)) (v .0) .0)
 
-      pub id-whole : length id ≡ 32
-      id-whole = eqb-true (length id) 32 (and-true (id? id) (callerRight? (x .caller)) (and-true (id? id && callerRight? (x .caller)) (whole? 32 ins && (whole? 32 outs && whole? 32 reads)) (sym (L .0) ∙ and-true l f (sym e ∙ n) .0) .0) .0)
+      -- the id as it was read
+      asked-at : {j : Id} → j ≡ id → AskedIn x j ins outs reads bytes label tip (a .open .head .limits .k)
+      asked-at e = rw e (record { lent = A .1; shape = passes .0 .0; few = passes .0 .1; short = passes .3 })
 
-      module _ (y : b ≡ false) {j : Id} (z : j ≡ part 32 (view false id 0) 0) where
-        pub lent-in : NumbersFit x → LentIn x j ins outs reads bytes label tip (a .open .head .limits .k)
-        lent-in m = rw (key id-whole z) (record { lent = lent-of m L F; shape = shape-is ∙ n; few = sym k ∙ y })
+      pub asked-in : (length id ≡ 32 → x .id ≡ id) → AskedIn x (x .id) ins outs reads bytes label tip (a .open .head .limits .k)
+      asked-in k = asked-at (k id-whole)
 
-        pub admit-rest : {o : Outcome} → AdmitTold cur (argsOf x j ins outs reads bytes label tip) o next out → o ≡ admitOf cur next out Given
-        unfolding admitOf
-        admit-rest {o} c =
-            let g = i .good t in
-            let v = c (g .0) (g .1) ∙ ap (λ (u : Id). told entryBytes next out (admit (admission (argsOf x u ins outs reads bytes label tip)) (g .0))) (key id-whole z) in
-            rw (g .1, enough, shape-is ∙ n, over-is ∙ y) v
+      rest-at : {j : Id} {o : Outcome} → j ≡ id → FoundTold cur (argsOf x j ins outs reads bytes label tip) o next out → o ≡ admitOf cur next out Args
+      unfolding admitOf admit
+      rest-at {j} {o} e c =
+          let y = i .good t in
+          let v : FoundTold cur (argsOf x id ins outs reads bytes label tip) o next out = rw e at c in
+          let w : overK? (i .good t .0 .limits .K) Args ≡ false = ap (λ k. overK? k Args) same-K ∙ passes .0 .1 in
+          rw (y .1, enough, passes .0 .0, w, passes .1, passes .2, passes .3) (v (y .0) (y .1))
 
-pub no-refusal : (s : Bytes) (c n : ℕ) {r : ℕ} → RoomIs s c n r → r ≡ 0 → RoomIs s c n 0
-no-refusal s c n m e q f = sym e ∙ m q f
+      pub admit-rest : {o : Outcome} → (length id ≡ 32 → x .id ≡ id) → FoundTold cur (argsOf x (x .id) ins outs reads bytes label tip) o next out → o ≡ admitOf cur next out Args
+      admit-rest k c = rest-at (k id-whole) c
+
+pub id-lent : (id : Bytes) {k : Id} → length id ≡ 32 → k ≡ part 32 (view false id 0) 0 → length id ≡ 32 → k ≡ id
+id-lent id h e _ = key h e
+
+pub none-refused : (s ins reads : Bytes) (c n : ℕ) {r : ℕ} → FreeIs s c n ins reads r → r ≡ 0 → FreeIs s c n ins reads 0
+none-refused s ins reads c n m e q f = sym e ∙ m q f

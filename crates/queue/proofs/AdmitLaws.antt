@@ -1,56 +1,48 @@
--- Admission: a new record's bytes, and the walk that puts it in its place. Assumes nothing.
+-- Admission: a new record's bytes, room for it, and the area with it. Assumes nothing.
 use mathlib.Core.Path.{_≡_, refl, ap, sym, _∙_}
-use mathlib.Core.Bool.{Bool, true, false, cond, not, _&&_, _||_}
-use mathlib.Core.Option.{Option, none, some}
-use mathlib.Core.List.{List, [], _∷_, _++_, append-assoc, append-nil}
-use Prim.Native.Nat.{ℕ, zero, suc, _+_, _-_, _*_, _/_, _%_, _^_, _≤_, _<_}
+use mathlib.Core.Bool.{Bool, true, false, cond, _&&_}
+use mathlib.Core.Option.{some}
+use mathlib.Core.List.{List, [], _∷_, _++_, append-assoc}
+use Prim.Native.Nat.{ℕ, suc, _+_, _-_, _/_, _%_, _^_, _≤_, _<_}
 use native.Mathlib.Omega.{arith}
 use native.Mathlib.Nat.{div-add-mod'}
-use lib.Dec.{ltb, leb, eqb}
-use lib.ListN.{length, drop, take, replicate, length-append, length-drop, getD}
-use lib.Seq.{take-all, length-take-le}
+use lib.Dec.{leb, eqb}
+use lib.ListN.{length, drop, take, replicate, length-append, getD}
+use lib.Seq.{take-all}
 use borrow.Author.Tests.{lt-ltb, le-ltb, le-leb, lt-leb, eq-eqb, ne-eqb}
 use Rattle.queue.specs.Facts.{termsAt, factsOf, limitsIn, head-P, head-B}
 use Rattle.queue.specs.Codec as codec
-use Rattle.queue.specs.Codec.{Codec, cases, encs, be-length}
+use Rattle.queue.specs.Codec.{cases, encs, be-length}
 use Rattle.queue.specs.Splice.{Put, be}
 use Rattle.queue.specs.Frames.{recC}
-use Rattle.queue.specs.View.{view}
-use Rattle.queue.specs.Reads.{Reads, whole, listAt}
-use Rattle.queue.specs.ReadLaws.{Turn, none-left}
-use Rattle.queue.specs.Forms.{formC, queueC, turn-in}
+use Rattle.queue.specs.Reads.{whole, listAt}
+use Rattle.queue.specs.Forms.{formC, queueC}
 use Rattle.queue.specs.Areas.{readArea}
 use Rattle.queue.specs.Lists.{all-map, total-split}
-use Rattle.queue.specs.Sounds.{Fit}
 use Rattle.queue.specs.Admits.{held-split, weight-split}
 use Rattle.queue.specs.CallsAs.{AreaIn}
 use Rattle.queue.specs.Rules.{weight, sum}
 use Rattle.queue.specs.ListLaws.{one-le}
-use Rattle.queue.specs.Opens.{AreaAs, AreaIs}
 use Rattle.queue.specs.Fronts.{frontLen, tipOf, tipSize, frontBytes, queueOf}
-use Rattle.queue.specs.Finishing.{picked}
+use Rattle.queue.specs.Spots.{recsIn, SpotIn}
 use Rattle.queue.specs.Plain.{rec-plain}
 use Rattle.queue.specs.Reopens.{leadBytes}
-use Rattle.queue.specs.Admitting.{argsOf, newOf, optLen, labelSize, termsLen, heldLen, newLen, newTerms, heldOf, TermsFit, HeldFit, putF, recIf, keepBytes, withR, WithFrom, WithTo, roomOf, PendingsAre, FullIs, RoomIs, entryNewLen}
-use Rattle.queue.specs.paper.Records.{Bytes, Id, Limits, Terms, Held, Rec, Queue}
-use Rattle.queue.specs.paper.Lists.{one, filter, insert, concat, count}
-use Rattle.queue.specs.paper.Ids.{cmpL, below?}
-use Rattle.queue.specs.paper.Sound.{need, holder?, pending?, mined?, content, holders, minedHolders, minedBytes}
+use Rattle.queue.specs.Admitting.{newOf, optLen, labelSize, termsLen, heldLen, newLen, newTerms, heldOf, TermsFit, HeldFit, withR, WithFrom, roomOf, PendingsAre, FullIs, RoomIs, entryNewLen}
+use Rattle.queue.specs.paper.Records.{Bytes, Id, Limits, Rec, Queue}
+use Rattle.queue.specs.paper.Lists.{one, concat}
+use Rattle.queue.specs.paper.Sound.{need, holder?, pending?, mined?, content}
 use Rattle.queue.specs.paper.Area.{flagged, idListBytes, termsUnder, termsBytes, placeBytes, heldUnder, heldBytes, recUnder, recBytes, areaBytes, over}
-use Rattle.queue.specs.paper.Changing.{named?, put, newRec, committed, pendings, pendingBytes, pendingsOf, shareOf}
-use Rattle.queue.specs.paper.Calls.{items, pieces, numbers, given, admission, entryBytes}
+use Rattle.queue.specs.paper.Changing.{put, newRec, committed, pendings, pendingBytes, pendingsOf, shareOf}
+use Rattle.queue.specs.paper.Calls.{items, numbers, given, entryBytes}
 use Rattle.queue.specs.declared.admit.Asked.{Asked}
-use Rattle.queue.specs.declared.frame.Seen.{Seen}
-use Rattle.queue.specs.declared.frame.Height.{Height}
+use Rattle.queue.specs.declared.admit.Tip.{Tip}
+use Rattle.queue.specs.declared.reading.Spot.{Spot}
 use Rattle.queue.specs.declared.area.Area.{Area}
 use Rattle.queue.specs.declared.head.Marks.{Marks}
-use Rattle.queue.specs.declared.finish.Change.the-variants.{Named}
 use Rattle.queue.specs.declared.rules.Query.the-variants.{Holders, HeldBytes, MinedHolders, MinedBytes, PendingOf}
-use Rattle.queue.proofs.Turns.{SeenIn, ReadsRec}
-use Rattle.queue.proofs.PutLaws as puts
-use Rattle.queue.proofs.PutLaws.{then, recast, kept, Left, begun, onward, nothing}
+use Rattle.queue.proofs.PutLaws.{then, recast}
 use Rattle.queue.proofs.ByteLaws.{be-same}
-use Rattle.queue.proofs.FinishLaws.{encs-append, raw-after, raw-within}
+use Rattle.queue.proofs.SpotLaws.{among-many}
 use Rattle.queue.proofs.FrontLaws.{area-done}
 use Rattle.queue.proofs.OpenLaws.{holders-sum, bytes-sum, mined-sum, minedBytes-sum}
 use Rattle.queue.proofs.WriteLaws.{fit, one-queue, same-queue, the-limits, shares-sixteen, queue-long}
@@ -173,37 +165,6 @@ new-put {b = b} x id ins outs reads bytes label l p q s t =
     ∙ new-shape x id ins outs reads bytes label ∙ sym (rec-plain (newOf x id ins outs reads bytes label)))
     (omega arith) refl
 
--- ---- the paper's put, one record at a time
-module _ (r x : Rec) (l : List Rec) where
-  keeps : named? (r .id) x ≡ false → filter (λ y. not (named? (r .id) y)) (x ∷ l) ≡ x ∷ filter (λ y. not (named? (r .id) y)) l
-  keeps h = rw h
-
-  skips : named? (r .id) x ≡ true → filter (λ y. not (named? (r .id) y)) (x ∷ l) ≡ filter (λ y. not (named? (r .id) y)) l
-  skips h = rw h
-
-  first : below? (r .id) (x .id) ≡ true → insert (λ y z. below? (y .id) (z .id)) r (x ∷ l) ≡ r ∷ x ∷ l
-  first h = rw h
-
-  later : below? (r .id) (x .id) ≡ false → insert (λ y z. below? (y .id) (z .id)) r (x ∷ l) ≡ x ∷ insert (λ y z. below? (y .id) (z .id)) r l
-  later h = rw h
-
-pub put-turn : (r x : Rec) (l : List Rec) (c : ℕ) → c ≡ cmpL (r .id) (x .id) → (placed : Bool) → putF r placed (x ∷ l) ≡ recIf (not placed && eqb c 0) r ++ (recIf (not (eqb c 1)) x ++ putF r (placed || eqb c 0) l)
-unfolding putF
-put-turn r x l zero e true = keeps r x l (ne-eqb (cmpL (r .id) (x .id)) 1 (λ h. let z : _≡_ {A = ℕ} 0 1 = e ∙ h in absurd (let y : ⊥ = omega arith in y)))
-put-turn r x l (suc zero) e true = skips r x l (eq-eqb (cmpL (r .id) (x .id)) 1 (sym e))
-put-turn r x l (suc (suc c)) e true =
-    let m : eqb (suc (suc c)) 1 ≡ false = ne-eqb (suc (suc c)) 1 (λ h. absurd (let y : ⊥ = omega arith in y)) in
-    rw m (keeps r x l (ne-eqb (cmpL (r .id) (x .id)) 1 (λ h. let z : suc (suc c) ≡ 1 = e ∙ h in absurd (let y : ⊥ = omega arith in y))))
-put-turn r x l zero e false =
-    ap (insert (λ y z. below? (y .id) (z .id)) r) (keeps r x l (ne-eqb (cmpL (r .id) (x .id)) 1 (λ h. let z : _≡_ {A = ℕ} 0 1 = e ∙ h in absurd (let y : ⊥ = omega arith in y))))
-    ∙ first r x (filter (λ y. not (named? (r .id) y)) l) (eq-eqb (cmpL (r .id) (x .id)) 0 (sym e))
-put-turn r x l (suc zero) e false = ap (insert (λ y z. below? (y .id) (z .id)) r) (skips r x l (eq-eqb (cmpL (r .id) (x .id)) 1 (sym e)))
-put-turn r x l (suc (suc c)) e false =
-    let n : eqb (suc (suc c)) 0 ≡ false = ne-eqb (suc (suc c)) 0 (λ h. absurd (let y : ⊥ = omega arith in y)) in
-    let m : eqb (suc (suc c)) 1 ≡ false = ne-eqb (suc (suc c)) 1 (λ h. absurd (let y : ⊥ = omega arith in y)) in
-    rw (n, m) (ap (insert (λ y z. below? (y .id) (z .id)) r) (keeps r x l (ne-eqb (cmpL (r .id) (x .id)) 1 (λ h. let z : suc (suc c) ≡ 1 = e ∙ h in absurd (let y : ⊥ = omega arith in y))))
-    ∙ later r x (filter (λ y. not (named? (r .id) y)) l) (ne-eqb (cmpL (r .id) (x .id)) 0 (λ h. let z : suc (suc c) ≡ 0 = e ∙ h in absurd (let y : ⊥ = omega arith in y))))
-
 -- ---- how long a new record is
 opt-size : (flag w v : ℕ) → length (flagged (codec.be w) (given flag v)) ≡ optLen flag w
 opt-size flag w v = let e = be-length w v in cases (eqb flag 1) (λ t. rw t (omega arith)) (λ t. rw t (omega arith))
@@ -242,103 +203,6 @@ new-long x id ins outs reads bytes label l f =
 pub new-id : (x : Asked) (id ins outs reads bytes label : Bytes) → newOf x id ins outs reads bytes label .id ≡ id
 unfolding newOf newRec
 new-id x id ins outs reads bytes label = refl
-
--- ---- the new record, where it is due
-pub due-yes : (r : Rec) {due : Bool} → due ≡ true → encs recC (recIf due r) ≡ recC .enc r
-unfolding encs
-due-yes r e = rw e (append-nil (recC .enc r))
-
-pub due-no : (r : Rec) {due : Bool} → due ≡ false → encs recC (recIf due r) ≡ []
-unfolding encs
-due-no r e = rw e
-
-pub due-room : (r : Rec) {due : Bool} (o k n : ℕ) → due ≡ true → length (recC .enc r) ≡ n → o + length (encs recC (recIf due r)) ≤ k → o + n ≤ k
-due-room r o k n e l h = let a = ap length (due-yes r e) in omega arith
-
-pub due-none : (r : Rec) {due : Bool} (d : Bytes) (at : ℕ) → due ≡ false → Put d at (encs recC (recIf due r)) (length (encs recC (recIf due r))) at d
-due-none r d at e = rw (due-no r e) (nothing d at)
-
--- ---- a record that stays
-pub keep-yes : (s : Bytes) (base n : ℕ) {keep : Bool} → keep ≡ true → keepBytes keep s base n ≡ take n (drop base s)
-unfolding keepBytes
-keep-yes s base n e = rw e
-
-pub keep-room : (s : Bytes) (base n : ℕ) {keep : Bool} (o k : ℕ) → keep ≡ true → base + n ≤ length s → o + length (keepBytes keep s base n) ≤ k → o + n ≤ k
-keep-room s base n o k e l h = let a = ap length (keep-yes s base n e) in let b = length-take-le n (drop base s) (omega (arith, length-drop base s)) in omega arith
-
-pub keep-none : (s : Bytes) (base n : ℕ) {keep : Bool} (d : Bytes) (at : ℕ) → keep ≡ false → Put d at (keepBytes keep s base n) (length (keepBytes keep s base n)) at d
-unfolding keepBytes
-keep-none s base n d at e = rw e (nothing d at)
-
-keep-is : (s : Bytes) (i : ℕ) {ok : Bool} {x : Seen} {r : Rec} (keep : Bool) → SeenIn false s i ok (x .size) x r → encs recC (recIf keep r) ≡ keepBytes keep s i (x .size)
-unfolding keepBytes encs view
-keep-is s i {r = r} true w = append-nil (recC .enc r) ∙ sym (w .1 .bytes)
-keep-is s i false w = refl
-
--- ---- the walk that writes
-module _ (s : Bytes) (at n : ℕ) (r : Rec) (to : ℕ) (d₀ : Bytes) where
-  pub record Placing (dst : Bytes) (i left o : ℕ) (placed : Bool) : Type 0 where
-    pub within : i ≤ length s
-    pub all : whole (formC false recC) left s i ≡ true
-    pub long : length dst ≡ length d₀
-    pub rest : Left d₀ to (encs recC (putF r false (listAt (formC false recC) n s at))) dst o (encs recC (putF r placed (listAt (formC false recC) left s i)))
-
-  pub placing : at ≤ length s → whole (formC false recC) n s at ≡ true → Placing d₀ at n to false
-  placing h w = record { within = h; all = w; long = refl; rest = begun _ _ _ }
-
-  module _ {dst : Bytes} {i left o : ℕ} {placed : Bool} (g : Placing dst i left o placed) where
-    place-turn : {ok : Bool} {x : Seen} → 0 < left → ReadsRec false s i ok (x .size) x → Turn (formC false recC) s left i (i + x .size) (SeenIn false s i ok (x .size) x)
-    place-turn {ok} {x} p y = rw (raw-after s i (x .size)) (turn-in false left (g .within) (g .all) p y)
-
-    pub place-in : {ok : Bool} {x : Seen} → 0 < left → ReadsRec false s i ok (x .size) x → i + x .size ≤ length s
-    place-in p y = raw-within (place-turn p y .is)
-
-    module _ {ok due : Bool} {x : Seen} {c : ℕ} (p : 0 < left) (y : ReadsRec false s i ok (x .size) x) (e : c ≡ cmpL (r .id) (x .id)) (f : due ≡ (not placed && eqb c 0)) where
-      split : encs recC (putF r placed (listAt (formC false recC) left s i)) ≡ encs recC (recIf due r) ++ (keepBytes (not (eqb c 1)) s i (x .size) ++ encs recC (putF r (placed || eqb c 0) (listAt (formC false recC) (left - 1) s (i + x .size))))
-      split =
-          let t = place-turn p y in
-          let R = listAt (formC false recC) (left - 1) s (i + x .size) in
-          let k : c ≡ cmpL (r .id) (t .item .id) = e ∙ ap (cmpL (r .id)) (t .is .0 .id) in
-          ap (λ l. encs recC (putF r placed l)) (t .list)
-          ∙ ap (encs recC) (put-turn r (t .item) (listAt (formC false recC) (left - 1) s (i + x .size)) c k placed)
-          ∙ encs-append (recIf (not placed && eqb c 0) r) (recIf (not (eqb c 1)) (t .item) ++ putF r (placed || eqb c 0) (listAt (formC false recC) (left - 1) s (i + x .size)))
-          ∙ two (ap (λ (b : Bool). encs recC (recIf b r)) (sym f))
-          (encs-append (recIf (not (eqb c 1)) (t .item)) (putF r (placed || eqb c 0) (listAt (formC false recC) (left - 1) s (i + x .size)))
-          ∙ ap (λ (b : Bytes). b ++ encs recC (putF r (placed || eqb c 0) (listAt (formC false recC) (left - 1) s (i + x .size)))) (keep-is s i (not (eqb c 1)) (t .is)))
-        where
-          two : {x x′ y y′ : Bytes} → x ≡ x′ → y ≡ y′ → x ++ y ≡ x′ ++ y′
-          two e f = cc
-
-      abbrev others : Bytes
-      others = encs recC (putF r (placed || eqb c 0) (listAt (formC false recC) (left - 1) s (i + x .size)))
-
-      fits-both : to + length (encs recC (putF r false (listAt (formC false recC) n s at))) ≤ length d₀ → o + (length (encs recC (recIf due r)) + length (keepBytes (not (eqb c 1)) s i (x .size))) ≤ length dst
-      fits-both h = omega (arith, g .rest .pos, g .long, ap length split, length-append (encs recC (recIf due r)) (keepBytes (not (eqb c 1)) s i (x .size) ++ others), length-append (keepBytes (not (eqb c 1)) s i (x .size)) others)
-
-      pub place-room : to + length (encs recC (putF r false (listAt (formC false recC) n s at))) ≤ length d₀ → o + length (encs recC (recIf due r)) ≤ length dst
-      place-room h = let k = fits-both h in omega arith
-
-      module _ {dst₁ : Bytes} {q : ℕ} (u : Put dst o (encs recC (recIf due r)) (length (encs recC (recIf due r))) q dst₁) where
-        pub place-room-2 : to + length (encs recC (putF r false (listAt (formC false recC) n s at))) ≤ length d₀ → q + length (keepBytes (not (eqb c 1)) s i (x .size)) ≤ length dst₁
-        place-room-2 h = let k = fits-both h in omega (arith, u .next, kept u)
-
-        pub place-go : {dst₂ : Bytes} {m z : ℕ} {b : Bool} → Put dst₁ q (keepBytes (not (eqb c 1)) s i (x .size)) m z dst₂ → b ≡ (placed || eqb c 0) → Placing dst₂ (i + x .size) (left - 1) z b
-        place-go w v = let t = place-turn p y in rw v (record { within = t .within; all = t .rest; long = kept w ∙ kept u ∙ g .long; rest = onward (onward (rw split at (g .rest)) u) w })
-
-    -- at the end the new record is due unless it stands
-    last : left ≡ 0 → encs recC (putF r placed (listAt (formC false recC) left s i)) ≡ encs recC (recIf (not placed) r)
-    unfolding putF
-    last z = ap (λ l. encs recC (putF r placed l)) (none-left (formC false recC) s left i z .0) ∙ go placed
-      where
-        go : (b : Bool) → encs recC (putF r b []) ≡ encs recC (recIf (not b) r)
-        go true = refl
-        go false = refl
-
-    pub last-room : left ≡ 0 → to + length (encs recC (putF r false (listAt (formC false recC) n s at))) ≤ length d₀ → o + length (encs recC (recIf (not placed) r)) ≤ length dst
-    last-room z h = omega (arith, g .rest .pos, g .long, ap length (last z))
-
-    pub place-end : {dst′ : Bytes} {m q : ℕ} → left ≡ 0 → Put dst o (encs recC (recIf (not placed) r)) m q dst′ → Put d₀ to (encs recC (putF r false (listAt (formC false recC) n s at))) (length (encs recC (putF r false (listAt (formC false recC) n s at)))) q dst′
-    place-end z u = puts.done (onward (rw (last z ∙ sym (append-nil (encs recC (recIf (not placed) r)))) at (g .rest)) u)
 
 -- ---- room for one more
 module _ {s : Bytes} {a : Area} (w : AreaIn s a) where
@@ -444,65 +308,42 @@ entry-put x id ins outs reads bytes label l f a w b c e g h =
     inner : (i z t y n c : Bytes) → ((((i ++ z) ++ t) ++ y) ++ n) ++ c ≡ i ++ (z ++ (t ++ (y ++ (n ++ c))))
     inner i z t y n c = simp append-assoc
 
--- ---- how many records there are then
-insert-long : (lt : Rec → Rec → Bool) (r : Rec) (l : List Rec) → length (insert lt r l) ≡ suc (length l)
-insert-long lt r [] = refl
-insert-long lt r (x ∷ l) = let i = insert-long lt r l in cases (lt r x) (λ t. rw t) (λ t. rw t (ap suc i))
-
-filter-long : (p : Rec → Bool) (l : List Rec) → length (filter (λ x. not (p x)) l) + count p l ≡ length l
-filter-long p [] = refl
-filter-long p (x ∷ l) = let i = filter-long p l in cases (p x) (λ t. rw t (omega arith)) (λ t. rw t (omega arith))
-
-pub put-long : (r : Rec) (l : List Rec) → length (putF r false l) + count (named? (r .id)) l ≡ length l + 1
-unfolding putF
-put-long r l =
-    let a = insert-long (λ x y. below? (x .id) (y .id)) r (filter (λ x. not (named? (r .id) x)) l) in
-    let b = filter-long (named? (r .id)) l in omega arith
-
 -- ---- the whole area
-module _ {s : Bytes} {a : Area} (cursor : Height) (has : Bool) (tip : Id) {r : Rec} (w : WithFrom s a (cursor .0) (tipOf has tip) r) where
+module _ {s : Bytes} {a : Area} (t : Tip) {r : Rec} (w : WithFrom s a (t .height .0) (tipOf (t .has) (t .id)) r) where
   abbrev pub Limz : Limits
   Limz = limitsIn (a .open .head .limits)
 
-  abbrev pub recsWith : List Rec
-  recsWith = putF r false (listAt (formC false recC) (a .open .head .count) s (a .open .start))
+  pub with-area : AreaIn s a
+  with-area = record { q = w .q; is = w .is; read = w .read }
 
-  pub with-asks : (a .open .start ≤ length s) × (whole (formC false recC) (a .open .head .count) s (a .open .start) ≡ true)
-  with-asks = let g = w .read .store in (omega (arith, g .up, g .ends), g .all)
-
-  module _ {id : Id} {m : ℕ} (ri : r .id ≡ id) (c : m ≡ count (picked Named id) (listAt (formC false recC) (a .open .head .count) s (a .open .start))) where
-    with-many : a .open .head .count + 1 - m ≡ length recsWith
-    unfolding picked
-    with-many =
-        let L = w .read .store .list in
-        let k : m ≡ count (named? (r .id)) (listAt (formC false recC) (a .open .head .count) s (a .open .start)) = c ∙ ap (λ i. count (named? i) (listAt (formC false recC) (a .open .head .count) s (a .open .start))) (sym ri) in
-        let p = put-long r (listAt (formC false recC) (a .open .head .count) s (a .open .start)) in
-        let z = ap length L ∙ w .read .store .count in omega arith
+  module _ {z : Id} (ri : r .id ≡ z) {p : Spot} (y : SpotIn s a z p) {m : ℕ} (c : m ≡ cond (p .found) 1 0) where
+    with-many : a .open .head .count + 1 - m ≡ length (put r (recsIn s a))
+    with-many = among-many with-area r ri y c
 
     pub with-few : a .open .head .count + 1 - m < 4294967296
     with-few = let f = fit (w .read) .sound in omega (arith, f .few, f .range .P-high, f .range .T-high, w .read .store .count)
 
-    module _ {revision : ℕ} (e : revision ≡ (a .open .head .revision + 1) % 2 ^ 64) (l : length tip ≡ 32) where
+    module _ {revision : ℕ} (e : revision ≡ (a .open .head .revision + 1) % 2 ^ 64) (l : length (t .id) ≡ 32) where
       abbrev pub marksWith : Marks
-      marksWith = record { persisted = cursor; revision = revision; cursor = cursor; tip = has; counter = a .open .head .counter; count = a .open .head .count + 1 - m }
+      marksWith = record { persisted = t .height; revision = revision; cursor = t .height; tip = t .has; counter = a .open .head .counter; count = a .open .head .count + 1 - m }
 
-      with-is : queueOf Limz marksWith tip recsWith ≡ withR (cursor .0) (tipOf has tip) r (w .q)
-      unfolding withR committed putF
+      with-is : queueOf Limz marksWith (t .id) (put r (recsIn s a)) ≡ withR (t .height .0) (tipOf (t .has) (t .id)) r (w .q)
+      unfolding withR committed
       with-is =
           let st = w .read .store in
           same-queue refl (sym (the-limits (w .read))) (e ∙ ap (λ v. (v + 1) % 2 ^ 64) (sym (st .head .revision))) refl refl (sym (st .head .counter)) (ap (put r) (st .list))
 
-      with-fits : length (queueC .enc (queueOf Limz marksWith tip recsWith)) ≤ need Limz
-      with-fits = let u = ap (λ v. length (queueC .enc v)) with-is in let v = ap need (the-limits (w .read)) in let y = w .fits in omega arith
+      with-fits : length (queueC .enc (queueOf Limz marksWith (t .id) (put r (recsIn s a)))) ≤ need Limz
+      with-fits = let u = ap (λ v. length (queueC .enc v)) with-is in let v = ap need (the-limits (w .read)) in let k = w .fits in omega arith
 
-      pub with-room : frontLen + tipSize has + length (encs recC recsWith) ≤ a .need
+      pub with-room : frontLen + tipSize (t .has) + length (encs recC (put r (recsIn s a))) ≤ a .need
       with-room =
-          let q = queue-long Limz marksWith tip recsWith (shares-sixteen (w .read)) with-many l in
-          let v = ap need (the-limits (w .read)) in let y = with-fits in omega (arith, w .read .need)
+          let q = queue-long Limz marksWith (t .id) (put r (recsIn s a)) (shares-sixteen (w .read)) with-many l in
+          let v = ap need (the-limits (w .read)) in let k = with-fits in omega (arith, w .read .need)
 
-      pub with-done : {d d₁ d₂ d₃ : Bytes} {o y y′ to : ℕ} {q′ : Queue} → readArea s ≡ some q′ → a .need ≤ length d → to ≡ frontLen + tipSize has
-          → Put d to (encs recC recsWith) (length (encs recC recsWith)) o d₁ → Put d₁ 0 (frontBytes Limz marksWith tip) (frontLen + tipSize has) y d₂ → Put d₂ o (replicate (a .need - o) 0) (a .need - o) y′ d₃
-          → d₃ ≡ over (areaBytes (withR (cursor .0) (tipOf has tip) r q′)) d
+      pub with-done : {d d₁ d₂ d₃ : Bytes} {o j j′ to : ℕ} {q′ : Queue} → readArea s ≡ some q′ → a .need ≤ length d → to ≡ frontLen + tipSize (t .has)
+          → Put d to (encs recC (put r (recsIn s a))) (length (encs recC (put r (recsIn s a)))) o d₁ → Put d₁ 0 (frontBytes Limz marksWith (t .id)) (frontLen + tipSize (t .has)) j d₂ → Put d₂ o (replicate (a .need - o) 0) (a .need - o) j′ d₃
+          → d₃ ≡ over (areaBytes (withR (t .height .0) (tipOf (t .has) (t .id)) r q′)) d
       with-done {d} f g h p1 p2 p3 =
-          area-done Limz marksWith tip recsWith with-many with-fits (w .read .need ∙ ap need (the-limits (w .read))) g p1 (recast p2 refl (sym h) refl) p3
-          ∙ ap (λ v. over (areaBytes v) d) (with-is ∙ ap (withR (cursor .0) (tipOf has tip) r) (one-queue s (w .is) f))
+          area-done Limz marksWith (t .id) (put r (recsIn s a)) with-many with-fits (w .read .need ∙ ap need (the-limits (w .read))) g p1 (recast p2 refl (sym h) refl) p3
+          ∙ ap (λ v. over (areaBytes v) d) (with-is ∙ ap (withR (t .height .0) (tipOf (t .has) (t .id)) r) (one-queue s (w .is) f))

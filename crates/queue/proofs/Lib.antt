@@ -27,6 +27,7 @@ pub mod ExpireLaws
 pub mod PieceLaws
 pub mod FindLaws
 pub mod ReopenLaws
+pub mod SpotLaws
 pub mod AdmissionLaws
 pub mod AdmitLaws
 pub mod ReserveLaws

@@ -1,12 +1,12 @@
 -- Admission as the code goes, and what its parts ask and say.
 use mathlib.Core.Path.{_≡_}
-use mathlib.Core.Bool.{Bool, true, false, cond, not, _&&_, _||_}
-use mathlib.Core.Option.{Option, none, some}
-use mathlib.Core.List.{List, [], _∷_, _++_}
-use Prim.Native.Nat.{ℕ, _+_, _-_, _/_, _%_, _^_, _≤_, _<_}
+use mathlib.Core.Bool.{Bool, true, false, cond, _&&_, _||_}
+use mathlib.Core.Option.{Option, some}
+use mathlib.Core.List.{List, []}
+use Prim.Native.Nat.{ℕ, _+_, _/_, _%_, _^_, _≤_, _<_}
 use lib.Dec.{ltb, leb, eqb}
-use lib.ListN.{length, take, drop}
-use Rattle.queue.specs.Codec.{be, optC}
+use lib.ListN.{length}
+use Rattle.queue.specs.Codec.{optC}
 use Rattle.queue.specs.Frames.{Head, idC}
 use Rattle.queue.specs.View.{view}
 use Rattle.queue.specs.Facts.{HeadAs}
@@ -15,16 +15,19 @@ use Rattle.queue.specs.Arguments.{Small, AdmitLent}
 use Rattle.queue.specs.Forms.{queueC}
 use Rattle.queue.specs.Areas.{readArea}
 use Rattle.queue.specs.Opens.{AreaAs}
+use Rattle.queue.specs.ReadingAs.{Here}
 use Rattle.queue.specs.declared.Kind.the-variants.{Nothing}
+use Rattle.queue.specs.declared.Answer.{Answer}
 use Rattle.queue.specs.paper.Records.{Bytes, Id, Terms, Held, Rec, Queue}
-use Rattle.queue.specs.paper.Lists.{any?, filter, find, maybe}
+use Rattle.queue.specs.paper.Lists.{any?, find, maybe}
 use Rattle.queue.specs.paper.Sound.{need, labelLen, clash?, read?, crossed?, pending?, mined?, callerRight?}
-use Rattle.queue.specs.paper.Area.{flagged, areaBytes, over}
-use Rattle.queue.specs.paper.Changing.{named?, put, newRec, committed, pendings, pendingBytes, pendingsOf, shareOf, admitNew, admit, done}
-use Rattle.queue.specs.Checked.{admitShape?, Outcome, told}
+use Rattle.queue.specs.paper.Area.{areaBytes, over}
+use Rattle.queue.specs.paper.Changing.{named?, reached?, put, newRec, committed, pendings, pendingBytes, pendingsOf, shareOf, admitNew, done}
+use Rattle.queue.specs.Checked.{admitShape?, Outcome, outcome, told}
 use Rattle.queue.specs.paper.Calls.{items, given, AdmitArgs, admission, id?, whole?, flag?, givenId?, overK?, entryBytes}
 use Rattle.queue.specs.declared.admit.Asked.{Asked}
 use Rattle.queue.specs.declared.admit.Tip.{Tip}
+use Rattle.queue.specs.declared.reading.Spot.{Spot}
 use Rattle.queue.specs.declared.frame.HeadR.{HeadR}
 use Rattle.queue.specs.declared.area.Area.{Area}
 
@@ -88,6 +91,7 @@ heldOf ins outs reads bytes = record { ins = items 32 ins; outs = items 32 outs;
 
 -- they fit their fields
 pub record TermsFit (x : Asked) (label : Bytes) (n : ℕ) : Type 0 where
+  pub id : length (x .id) ≡ 32
   pub caller : x .caller < 256
   pub now : x .now .0 < 256 ^ 8
   pub time : x .time .0 < 256 ^ 8
@@ -106,18 +110,6 @@ pub record HeldFit (ins outs reads bytes : Bytes) : Type 0 where
   pub fewOuts : length outs / 32 < 65536
   pub fewReads : length reads / 32 < 65536
   pub fewBytes : length bytes < 256 ^ 4
-
--- the paper's put, one record at a time: placed says that the new record stands already
-unfoldable pub putF : Rec → Bool → List Rec → List Rec
-putF r true l = filter (λ x. not (named? (r .id) x)) l
-putF r false l = put r l
-
-abbrev pub recIf : Bool → Rec → List Rec
-recIf b r = cond b (r ∷ []) []
-
--- a record as it stands, or nothing
-unfoldable pub keepBytes : Bool → Bytes → ℕ → ℕ → Bytes
-keepBytes keep s base n = cond keep (take n (drop base s)) []
 
 -- the queue with r in it, under that cursor
 unfoldable pub withR : ℕ → Option Id → Rec → Queue → Queue
@@ -143,6 +135,16 @@ roomOf q caller n =
 abbrev pub RoomIs : Bytes → ℕ → ℕ → ℕ → Type 0
 RoomIs s caller n r = (q : Queue) → readArea s ≡ some q → r ≡ roomOf q caller n
 
+-- 10, 18, 11, 12 or 20 for a new record, or 0
+unfoldable pub freeOf : Queue → ℕ → ℕ → List Id → List Id → ℕ
+freeOf q caller n ins reads =
+    cond (leb (q .limits .P) (pendings (q .recs))) 10
+    (cond (leb (shareOf caller (q .limits)) (pendingsOf caller (q .recs))) 18
+    (cond (ltb (q .limits .B) (pendingBytes (q .recs) + n)) 11 (cond (clash? ins (q .recs)) 12 (cond (crossed? ins reads (q .recs)) 20 0))))
+
+abbrev pub FreeIs : Bytes → ℕ → ℕ → Bytes → Bytes → ℕ → Type 0
+FreeIs s caller n ins reads r = (q : Queue) → readArea s ≡ some q → r ≡ freeOf q caller n (items 32 ins) (items 32 reads)
+
 abbrev pub PendingsAre : Bytes → ℕ → Type 0
 PendingsAre s n = (q : Queue) → readArea s ≡ some q → n ≡ pendings (q .recs)
 
@@ -163,13 +165,18 @@ pub record NumbersFit (x : Asked) : Type 0 where
   pub cost : x .cost < 256 ^ 8
   pub tipheight : x .tipheight .0 < 256 ^ 4
 
--- what is lent has passed the checks 5 and 6
-pub record LentIn (x : Asked) (id ins outs reads bytes label tip : Bytes) (K : ℕ) : Type 0 where
-  pub lent : AdmitLent (argsOf x id ins outs reads bytes label tip)
-  pub shape : admitShape? (argsOf x id ins outs reads bytes label tip) ≡ true
-  pub few : overK? K (argsOf x id ins outs reads bytes label tip) ≡ false
+-- 5, 6, 7, 8 or 9 for what is asked, or 0
+unfoldable pub askedOf : ℕ → AdmitArgs → ℕ
+askedOf K g =
+    cond (admitShape? g)
+    (cond (overK? K g) 6
+    (cond (reached? (given (g .timeFlag) (g .time)) (g .now)) 7
+    (cond (reached? (given (g .heightFlag) (g .height)) (g .tipHeight)) 8 (cond (ltb 200 (labelLen (given (g .labelFlag) (g .label)))) 9 0)))) 5
 
--- and 9
+abbrev pub AskedIs : ℕ → AdmitArgs → ℕ → Type 0
+AskedIs K g r = (r ≡ askedOf K g) × AdmitLent g
+
+-- what is lent has passed the checks 5, 6 and 9
 pub record AskedIn (x : Asked) (id ins outs reads bytes label tip : Bytes) (K : ℕ) : Type 0 where
   pub lent : AdmitLent (argsOf x id ins outs reads bytes label tip)
   pub shape : admitShape? (argsOf x id ins outs reads bytes label tip) ≡ true
@@ -188,10 +195,6 @@ ReadIs s ins r = (q : Queue) → readArea s ≡ some q → r ≡ any? (λ i. rea
 abbrev pub CrossIs : Bytes → Bytes → Bytes → Bool → Type 0
 CrossIs s ins reads r = (q : Queue) → readArea s ≡ some q → r ≡ crossed? (items 32 ins) (items 32 reads) (q .recs)
 
--- and 12 and 20
-abbrev pub FreeOf : Bytes → Bytes → Bytes → Type 0
-FreeOf s ins reads = (q : Queue) → readArea s ≡ some q → (clash? (items 32 ins) (q .recs) ≡ false) × (crossed? (items 32 ins) (items 32 reads) (q .recs) ≡ false)
-
 -- the cursor of the next queue, where h was read from s
 abbrev pub TipFor : Bytes → HeadR → Asked → Bytes → Tip → Type 0
 TipFor s h x tip r =
@@ -205,8 +208,13 @@ NewTold s g o next out = (q : Queue) → readArea s ≡ some q → o ≡ told en
 abbrev pub FoundTold : Bytes → AdmitArgs → Outcome → Bytes → Bytes → Type 0
 FoundTold s g o next out = (q : Queue) → readArea s ≡ some q → o ≡ told entryBytes next out (maybe (admitNew (admission g) q) (λ r. cond (pending? (r .state) || mined? r) (done Nothing q r) (admitNew (admission g) q)) (find (named? (g .id)) (q .recs)))
 
-abbrev pub AdmitTold : Bytes → AdmitArgs → Outcome → Bytes → Bytes → Type 0
-AdmitTold s g o next out = (q : Queue) → readArea s ≡ some q → o ≡ told entryBytes next out (admit (admission g) q)
+-- whether the record at a spot is pending or Mined; no record stands where none was found
+abbrev pub KnownAt : Bytes → Spot → Bool → Type 0
+KnownAt s x r = (r ≡ true → x .found ≡ true) × ((y : Rec) → x .found ≡ true → Here s (x .at) y → r ≡ (pending? (y .state) || mined? y))
+
+-- the record at `at` is the answer
+abbrev pub OldTold : Bytes → ℕ → Answer → Bytes → Bytes → Type 0
+OldTold s at r out out′ = (y : Rec) → Here s at y → (next : Bytes) (q : Queue) → outcome r next out′ ≡ told entryBytes next out (done Nothing q y)
 
 -- check 5 in two parts, and what is known of bytes that are lent
 abbrev pub ListsAre : Bytes → ℕ → Bytes → Bytes → Bytes → Bool → Type 0

@@ -46,6 +46,7 @@ pub mod parents
 pub mod Signed
 pub mod CallsAs
 pub mod PiecesAs
+pub mod Spots
 pub mod Reopens
 pub mod Admitting
 pub mod Clash

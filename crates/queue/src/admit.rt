@@ -4,8 +4,6 @@ use super::Kind;
 use super::area::Area;
 use super::area::area_at;
 use super::clash::ids_clash;
-use super::finish::Change;
-use super::finish::hits;
 use super::frame::HeadR;
 use super::frame::Height;
 use super::frame::Time;
@@ -17,13 +15,15 @@ use super::head::tip_len;
 use super::limits::Limits;
 use super::logic::both;
 use super::logic::either;
+use super::logic::one_if;
 use super::put::copy_part;
 use super::put::fill_zero;
 use super::put::put_be;
 use super::put::put_id;
 use super::put::put_u8;
+use super::reading::Spot;
 use super::reading::entry_len;
-use super::reading::find_id;
+use super::reading::find_spot;
 use super::reading::put_entry;
 use super::reopen::put_lead;
 use super::rules::Query;
@@ -31,7 +31,6 @@ use super::rules::height_reached;
 use super::rules::pending;
 use super::rules::time_reached;
 use super::scan::tally;
-use super::view::cmp_id;
 use super::view::id_at;
 use super::view::size;
 use super::write::tip_at;
@@ -39,25 +38,28 @@ ghost use mathlib.Core.Path.{_≡_};
 ghost use mathlib.Core.Bool.{true, false, _&&_, _||_};
 ghost use mathlib.Core.Option.{some};
 ghost use mathlib.Core.List.{_++_};
-ghost use Prim.Native.Nat.{_+_, _*_, _/_, _%_, _^_, _≤_, _<_};
+ghost use Prim.Native.Nat.{_+_, _/_, _%_, _^_, _≤_, _<_};
 ghost use lib.Dec.{ltb, leb, eqb};
 ghost use lib.ListN.{length};
 ghost use Rattle.queue.specs.Codec.{be, encs};
 ghost use Rattle.queue.specs.Splice.{Put};
 ghost use Rattle.queue.specs.Frames.{recC};
-ghost use Rattle.queue.specs.Reads.{whole, listAt};
-ghost use Rattle.queue.specs.Forms.{formC};
 ghost use Rattle.queue.specs.Fronts.{tipOf};
-ghost use Rattle.queue.specs.Admitting.{newOf, optLen, labelSize, termsLen, heldLen, newLen, newTerms, heldOf, TermsFit, HeldFit, putF, recIf, keepBytes, WithFrom, WithTo, PendingsAre, FullIs, RoomIs, entryNewLen, argsOf, NumbersFit, LentIn, AskedIn, FreeOf, LentIds, ReadIs, CrossIs, TipFor, NewTold, FoundTold, AdmitTold, ListsAre, FlagsAre};
-ghost use Rattle.queue.specs.CallsAs.{AreaIn, FoundIn};
+ghost use Rattle.queue.specs.Admitting.{newOf, optLen, labelSize, termsLen, heldLen, newLen, newTerms, heldOf, TermsFit, HeldFit, WithFrom, WithTo, PendingsAre, FullIs, RoomIs, FreeIs, entryNewLen, argsOf, NumbersFit, AskedIn, AskedIs, LentIds, ReadIs, CrossIs, TipFor, KnownAt, OldTold, NewTold, FoundTold, ListsAre, FlagsAre};
+ghost use Rattle.queue.specs.CallsAs.{AreaIn};
+ghost use Rattle.queue.specs.ReadingAs.{Here};
+ghost use Rattle.queue.specs.Spots.{recsIn, SpotIn};
 ghost use Rattle.queue.specs.Writes.{HeadIn};
+ghost use Rattle.queue.specs.paper.Records.{Rec};
 ghost use Rattle.queue.specs.paper.Sound.{labelLen};
 ghost use Rattle.queue.specs.paper.Area.{flagged, idListBytes, termsBytes, heldBytes};
 ghost use Rattle.queue.specs.Checked.{outcome, admitOf};
-ghost use Rattle.queue.specs.paper.Calls.{items, given, entryBytes, givenId?, admitArgs};
+ghost use Rattle.queue.specs.paper.Changing.{put};
+ghost use Rattle.queue.specs.paper.Calls.{items, given, entryBytes, admitArgs};
 
-// The numbers that an admission is asked with.
+// What an admission is asked with, but for the lent lists: id and numbers.
 pub struct Asked {
+    pub id: [u8; 32],
     pub caller: u64,
     pub now: Time,
     pub timeflag: u64,
@@ -149,7 +151,6 @@ fn put_held(
 // The new record: Queued, reason 0, with no place, mark and finish number.
 fn put_new(
     x: Asked,
-    id: [u8; 32],
     inputs: &[u8],
     outputs: &[u8],
     reads: &[u8],
@@ -159,53 +160,22 @@ fn put_new(
     at: usize,
 ) -> usize
     requires { ⌜ TermsFit x (now label) (length (now bytes)) × HeldFit (now inputs) (now outputs) (now reads) (now bytes) × (at + newLen x (now inputs) (now outputs) (now reads) (now bytes) (now label) ≤ length (now dst)) ⌝ }
-    ensures { λ r. ⌜ Put (now (dst .entry)) at (recC .enc (newOf x id (now (inputs .entry)) (now (outputs .entry)) (now (reads .entry)) (now (bytes .entry)) (now (label .entry)))) (newLen x (now (inputs .entry)) (now (outputs .entry)) (now (reads .entry)) (now (bytes .entry)) (now (label .entry))) r (now (dst .exit)) ⌝ }
+    ensures { λ r. ⌜ Put (now (dst .entry)) at (recC .enc (newOf x (x .id) (now (inputs .entry)) (now (outputs .entry)) (now (reads .entry)) (now (bytes .entry)) (now (label .entry)))) (newLen x (now (inputs .entry)) (now (outputs .entry)) (now (reads .entry)) (now (bytes .entry)) (now (label .entry))) r (now (dst .exit)) ⌝ }
 {
+    let id = x.id;
     let a = put_lead(id, x.caller, 0, 0, dst, at);
     let b = put_terms(x, label, bytes.len() as u64, dst, a);
     let c = fill_zero(dst, b, b + 10);
     put_held(inputs, outputs, reads, bytes, dst, c)
 }
 
-// The new record where it is due, or nothing.
-fn put_due(
-    due: bool,
-    x: Asked,
-    id: [u8; 32],
-    inputs: &[u8],
-    outputs: &[u8],
-    reads: &[u8],
-    bytes: &[u8],
-    label: &[u8],
-    dst: &mut [u8],
-    at: usize,
-) -> usize
-    requires { ⌜ TermsFit x (now label) (length (now bytes)) × HeldFit (now inputs) (now outputs) (now reads) (now bytes) × (at + length (encs recC (recIf due (newOf x id (now inputs) (now outputs) (now reads) (now bytes) (now label)))) ≤ length (now dst)) ⌝ }
-    ensures { λ r. ⌜ Put (now (dst .entry)) at (encs recC (recIf due (newOf x id (now (inputs .entry)) (now (outputs .entry)) (now (reads .entry)) (now (bytes .entry)) (now (label .entry))))) (length (encs recC (recIf due (newOf x id (now (inputs .entry)) (now (outputs .entry)) (now (reads .entry)) (now (bytes .entry)) (now (label .entry)))))) r (now (dst .exit)) ⌝ }
-{
-    if due {
-        return put_new(x, id, inputs, outputs, reads, bytes, label, dst, at);
-    }
-    at
-}
-
-fn put_keep(keep: bool, src: &[u8], base: usize, n: usize, dst: &mut [u8], at: usize) -> usize
-    requires { ⌜ (base + n ≤ length (now src)) × (at + length (keepBytes keep (now src) base n) ≤ length (now dst)) ⌝ }
-    ensures { λ r. ⌜ Put (now (dst .entry)) at (keepBytes keep (now (src .entry)) base n) (length (keepBytes keep (now (src .entry)) base n)) r (now (dst .exit)) ⌝ }
-{
-    if keep {
-        return copy_part(src, base, n, dst, at);
-    }
-    at
-}
-
-// n records from `at` of src with the new one in its place and no other of its id, to place `to` of dst.
+// The records of src with the new one in its place and no other of its id, to place `to` of dst: what stands before it and what stands
+// behind it are copied in one piece each.
 fn put_among(
     src: &[u8],
-    at: usize,
-    n: u64,
+    a: Area,
+    p: Spot,
     x: Asked,
-    id: [u8; 32],
     inputs: &[u8],
     outputs: &[u8],
     reads: &[u8],
@@ -214,36 +184,23 @@ fn put_among(
     dst: &mut [u8],
     to: usize,
 ) -> usize
-    requires { ⌜ (at ≤ length (now src)) × (whole (formC false recC) n (now src) at ≡ true) × (TermsFit x (now label) (length (now bytes)) × HeldFit (now inputs) (now outputs) (now reads) (now bytes)) × (to + length (encs recC (putF (newOf x id (now inputs) (now outputs) (now reads) (now bytes) (now label)) false (listAt (formC false recC) n (now src) at))) ≤ length (now dst)) ⌝ }
-    ensures { λ r. ⌜ Put (now (dst .entry)) to (encs recC (putF (newOf x id (now (inputs .entry)) (now (outputs .entry)) (now (reads .entry)) (now (bytes .entry)) (now (label .entry))) false (listAt (formC false recC) n (now (src .entry)) at))) (length (encs recC (putF (newOf x id (now (inputs .entry)) (now (outputs .entry)) (now (reads .entry)) (now (bytes .entry)) (now (label .entry))) false (listAt (formC false recC) n (now (src .entry)) at)))) r (now (dst .exit)) ⌝ }
+    requires { ⌜ AreaIn (now src) a × SpotIn (now src) a (x .id) p × (TermsFit x (now label) (length (now bytes)) × HeldFit (now inputs) (now outputs) (now reads) (now bytes)) × (to + length (encs recC (put (newOf x (x .id) (now inputs) (now outputs) (now reads) (now bytes) (now label)) (recsIn (now src) a))) ≤ length (now dst)) ⌝ }
+    ensures { λ r. ⌜ Put (now (dst .entry)) to (encs recC (put (newOf x (x .id) (now (inputs .entry)) (now (outputs .entry)) (now (reads .entry)) (now (bytes .entry)) (now (label .entry))) (recsIn (now (src .entry)) a))) (length (encs recC (put (newOf x (x .id) (now (inputs .entry)) (now (outputs .entry)) (now (reads .entry)) (now (bytes .entry)) (now (label .entry))) (recsIn (now (src .entry)) a)))) r (now (dst .exit)) ⌝ }
 {
-    let mut i = at;
-    let mut left = n;
-    let mut o = to;
-    let mut placed = false;
-    while 0 < left {
-        let y = rec_at(src, i);
-        let k = y.id;
-        let c = cmp_id(id, k);
-        let due = both(!placed, c == 0);
-        o = put_due(due, x, id, inputs, outputs, reads, bytes, label, dst, o);
-        o = put_keep(!(c == 1), src, i, y.size, dst, o);
-        placed = either(placed, c == 0);
-        i = i + y.size;
-        left = left - 1;
-    }
-    put_due(!placed, x, id, inputs, outputs, reads, bytes, label, dst, o)
+    let o = a.open;
+    let start = o.start;
+    let b = copy_part(src, start, p.at - start, dst, to);
+    let c = put_new(x, inputs, outputs, reads, bytes, label, dst, b);
+    copy_part(src, p.next, o.next - p.next, dst, c)
 }
 
 // The queue of src with the new record in it, under that cursor.
 fn put_with(
     src: &[u8],
     a: Area,
-    cursor: Height,
-    has: bool,
-    tip: [u8; 32],
+    p: Spot,
+    t: Tip,
     x: Asked,
-    id: [u8; 32],
     inputs: &[u8],
     outputs: &[u8],
     reads: &[u8],
@@ -251,38 +208,26 @@ fn put_with(
     label: &[u8],
     dst: &mut [u8],
 )
-    requires { ⌜ WithFrom (now src) a (cursor .0) (tipOf has tip) (newOf x id (now inputs) (now outputs) (now reads) (now bytes) (now label)) × (TermsFit x (now label) (length (now bytes)) × HeldFit (now inputs) (now outputs) (now reads) (now bytes)) × (a .need ≤ length (now dst)) ⌝ }
-    ensures { λ _. ⌜ WithTo (now (src .entry)) (cursor .0) (tipOf has tip) (newOf x id (now (inputs .entry)) (now (outputs .entry)) (now (reads .entry)) (now (bytes .entry)) (now (label .entry))) (now (dst .entry)) (now (dst .exit)) ⌝ }
+    requires { ⌜ (WithFrom (now src) a (t .height .0) (tipOf (t .has) (t .id)) (newOf x (x .id) (now inputs) (now outputs) (now reads) (now bytes) (now label)) × (length (t .id) ≡ 32)) × SpotIn (now src) a (x .id) p × (TermsFit x (now label) (length (now bytes)) × HeldFit (now inputs) (now outputs) (now reads) (now bytes)) × (a .need ≤ length (now dst)) ⌝ }
+    ensures { λ _. ⌜ WithTo (now (src .entry)) (t .height .0) (tipOf (t .has) (t .id)) (newOf x (x .id) (now (inputs .entry)) (now (outputs .entry)) (now (reads .entry)) (now (bytes .entry)) (now (label .entry))) (now (dst .entry)) (now (dst .exit)) ⌝ }
 {
     let o = a.open;
     let h = o.head;
     let n = h.counter;
-    let to = FRONT + tip_len(has);
-    let m = hits(src, o.start, h.count, Change::Named, id);
-    let e = put_among(
-        src,
-        o.start,
-        h.count,
-        x,
-        id,
-        inputs,
-        outputs,
-        reads,
-        bytes,
-        label,
-        dst,
-        to,
-    );
+    let c = t.height;
+    let i = t.id;
+    let to = FRONT + tip_len(t.has);
+    let e = put_among(src, a, p, x, inputs, outputs, reads, bytes, label, dst, to);
     let marks = Marks {
-        persisted: cursor,
+        persisted: c,
         revision: std::num::wrapping_add_u64(h.revision, 1),
-        cursor: cursor,
-        tip: has,
+        cursor: c,
+        tip: t.has,
         counter: n,
-        count: h.count + 1 - m,
+        count: h.count + 1 - one_if(p.found),
     };
     let l = h.limits;
-    put_front(l, marks, tip, dst);
+    put_front(l, marks, i, dst);
     fill_zero(dst, e, a.need);
 }
 
@@ -331,7 +276,6 @@ fn room_for(s: &[u8], a: Area, caller: u64, n: u64) -> u64
 // The entry of the new record.
 fn put_told(
     x: Asked,
-    id: [u8; 32],
     inputs: &[u8],
     outputs: &[u8],
     reads: &[u8],
@@ -340,8 +284,9 @@ fn put_told(
     dst: &mut [u8],
 ) -> usize
     requires { ⌜ TermsFit x (now label) (length (now bytes)) × HeldFit (now inputs) (now outputs) (now reads) (now bytes) × (entryNewLen x (now inputs) (now reads) (now label) ≤ length (now dst)) ⌝ }
-    ensures { λ r. ⌜ Put (now (dst .entry)) 0 (entryBytes (newOf x id (now (inputs .entry)) (now (outputs .entry)) (now (reads .entry)) (now (bytes .entry)) (now (label .entry)))) (entryNewLen x (now (inputs .entry)) (now (reads .entry)) (now (label .entry))) r (now (dst .exit)) ⌝ }
+    ensures { λ r. ⌜ Put (now (dst .entry)) 0 (entryBytes (newOf x (x .id) (now (inputs .entry)) (now (outputs .entry)) (now (reads .entry)) (now (bytes .entry)) (now (label .entry)))) (entryNewLen x (now (inputs .entry)) (now (reads .entry)) (now (label .entry))) r (now (dst .exit)) ⌝ }
 {
+    let id = x.id;
     let a = put_id(dst, 0, id);
     let w = put_be(dst, a, 1, x.caller);
     let b = put_be(dst, w, 2, 0);
@@ -392,7 +337,7 @@ pub struct Tip {
 // The cursor of the next queue: the one asked with if there are no records, else the queue's own.
 fn tip_for(s: &[u8], h: HeadR, x: Asked, tip: &[u8]) -> Tip
     requires { ⌜ HeadIn (now s) h × (x .tipflag ≡ 1 → length (now tip) ≡ 32) ⌝ }
-    ensures { λ r. ⌜ TipFor (now (s .entry)) h x (now (tip .entry)) r ⌝ }
+    ensures { λ r. ⌜ TipFor (now (s .entry)) h x (now (tip .entry)) r × (length (r .id) ≡ 32) ⌝ }
 {
     if 0 < h.count {
         let c = h.cursor;
@@ -419,13 +364,13 @@ fn tip_for(s: &[u8], h: HeadR, x: Asked, tip: &[u8]) -> Tip
     }
 }
 
-// There is room, no input is spent or read by another record, and no read id is spent by one: the record is put.
+// Nothing refuses the record but a short output: it is put at its spot.
 fn admit_free(
     cur: &[u8],
     next: &mut [u8],
     a: Area,
+    p: Spot,
     x: Asked,
-    id: [u8; 32],
     inputs: &[u8],
     outputs: &[u8],
     reads: &[u8],
@@ -434,8 +379,8 @@ fn admit_free(
     tip: &[u8],
     out: &mut [u8],
 ) -> Answer
-    requires { ⌜ AreaIn (now cur) a × AskedIn x id (now inputs) (now outputs) (now reads) (now bytes) (now label) (now tip) (a .open .head .limits .k) × (RoomIs (now cur) (x .caller) (length (now bytes)) 0 × FreeOf (now cur) (now inputs) (now reads)) × (a .need ≤ length (now next)) ⌝ }
-    ensures { λ r. ⌜ NewTold (now (cur .entry)) (argsOf x id (now (inputs .entry)) (now (outputs .entry)) (now (reads .entry)) (now (bytes .entry)) (now (label .entry)) (now (tip .entry))) (outcome r (now (next .exit)) (now (out .exit))) (now (next .entry)) (now (out .entry)) ⌝ }
+    requires { ⌜ (AreaIn (now cur) a × SpotIn (now cur) a (x .id) p) × AskedIn x (x .id) (now inputs) (now outputs) (now reads) (now bytes) (now label) (now tip) (a .open .head .limits .k) × FreeIs (now cur) (x .caller) (length (now bytes)) (now inputs) (now reads) 0 × (a .need ≤ length (now next)) ⌝ }
+    ensures { λ r. ⌜ NewTold (now (cur .entry)) (argsOf x (x .id) (now (inputs .entry)) (now (outputs .entry)) (now (reads .entry)) (now (bytes .entry)) (now (label .entry)) (now (tip .entry))) (outcome r (now (next .exit)) (now (out .exit))) (now (next .entry)) (now (out .entry)) ⌝ }
 {
     let n = entry_new_len(x, inputs, reads, label);
     if out.len() < n {
@@ -444,24 +389,8 @@ fn admit_free(
     let o = a.open;
     let h = o.head;
     let t = tip_for(cur, h, x, tip);
-    let c = t.height;
-    let i = t.id;
-    put_with(
-        cur,
-        a,
-        c,
-        t.has,
-        i,
-        x,
-        id,
-        inputs,
-        outputs,
-        reads,
-        bytes,
-        label,
-        next,
-    );
-    put_told(x, id, inputs, outputs, reads, bytes, label, out);
+    put_with(cur, a, p, t, x, inputs, outputs, reads, bytes, label, next);
+    put_told(x, inputs, outputs, reads, bytes, label, out);
     Answer::Done(Kind::Whole)
 }
 
@@ -497,104 +426,59 @@ fn reads_cross(s: &[u8], a: Area, inputs: &[u8], reads: &[u8]) -> bool
     ids_clash(reads, m, s, o.start, h.count, false)
 }
 
-// No pending or Mined record has this id. Refusals 10, 18, 11, 12, 20.
-fn admit_new(
-    cur: &[u8],
-    next: &mut [u8],
-    a: Area,
-    x: Asked,
-    id: [u8; 32],
-    inputs: &[u8],
-    outputs: &[u8],
-    reads: &[u8],
-    bytes: &[u8],
-    label: &[u8],
-    tip: &[u8],
-    out: &mut [u8],
-) -> Answer
-    requires { ⌜ AreaIn (now cur) a × AskedIn x id (now inputs) (now outputs) (now reads) (now bytes) (now label) (now tip) (a .open .head .limits .k) × (a .need ≤ length (now next)) ⌝ }
-    ensures { λ r. ⌜ NewTold (now (cur .entry)) (argsOf x id (now (inputs .entry)) (now (outputs .entry)) (now (reads .entry)) (now (bytes .entry)) (now (label .entry)) (now (tip .entry))) (outcome r (now (next .exit)) (now (out .exit))) (now (next .entry)) (now (out .entry)) ⌝ }
+// 10, 18, 11, 12 or 20 for a new record of that caller, of n bytes; else 0.
+fn new_refusal(s: &[u8], a: Area, caller: u64, n: u64, inputs: &[u8], reads: &[u8]) -> u64
+    requires { ⌜ AreaIn (now s) a × (caller ≤ 15) × LentIds (now inputs) × LentIds (now reads) ⌝ }
+    ensures { λ r. ⌜ FreeIs (now (s .entry)) caller n (now (inputs .entry)) (now (reads .entry)) r ⌝ }
 {
-    let r = room_for(cur, a, x.caller, bytes.len() as u64);
+    let r = room_for(s, a, caller, n);
     if r != 0 {
-        return Answer::Refused(r);
+        return r;
     }
     let o = a.open;
     let h = o.head;
     let m = (inputs.len() / 32) as u64;
-    if ids_clash(inputs, m, cur, o.start, h.count, false) {
-        return Answer::Refused(12);
+    if ids_clash(inputs, m, s, o.start, h.count, false) {
+        return 12;
     }
-    if reads_cross(cur, a, inputs, reads) {
-        return Answer::Refused(20);
+    if reads_cross(s, a, inputs, reads) {
+        return 20;
     }
-    admit_free(
-        cur,
-        next,
-        a,
-        x,
-        id,
-        inputs,
-        outputs,
-        reads,
-        bytes,
-        label,
-        tip,
-        out,
-    )
+    0
 }
 
-// The record of this id stands at `at`: pending or Mined, it is answered.
-fn admit_found(
-    cur: &[u8],
-    next: &mut [u8],
-    a: Area,
-    at: usize,
-    x: Asked,
-    id: [u8; 32],
-    inputs: &[u8],
-    outputs: &[u8],
-    reads: &[u8],
-    bytes: &[u8],
-    label: &[u8],
-    tip: &[u8],
-    out: &mut [u8],
-) -> Answer
-    requires { ⌜ FoundIn (now cur) a id at × AskedIn x id (now inputs) (now outputs) (now reads) (now bytes) (now label) (now tip) (a .open .head .limits .k) × (a .need ≤ length (now next)) ⌝ }
-    ensures { λ r. ⌜ FoundTold (now (cur .entry)) (argsOf x id (now (inputs .entry)) (now (outputs .entry)) (now (reads .entry)) (now (bytes .entry)) (now (label .entry)) (now (tip .entry))) (outcome r (now (next .exit)) (now (out .exit))) (now (next .entry)) (now (out .entry)) ⌝ }
+// Does a pending or Mined record stand at that spot?
+fn known(s: &[u8], p: Spot) -> bool
+    ensures { λ r. ⌜ KnownAt (now (s .entry)) p r ⌝ }
 {
-    let y = rec_at(cur, at);
-    let f = y.facts;
-    if either(pending(f.state), f.state == 2) {
-        let n = entry_len(y);
-        if out.len() < n {
-            return Answer::Refused(4);
-        }
-        put_entry(cur, at, y, out, 0);
-        return Answer::Done(Kind::Nothing);
+    if !p.found {
+        return false;
     }
-    admit_new(
-        cur,
-        next,
-        a,
-        x,
-        id,
-        inputs,
-        outputs,
-        reads,
-        bytes,
-        label,
-        tip,
-        out,
-    )
+    let y = rec_at(s, p.at);
+    let f = y.facts;
+    either(pending(f.state), f.state == 2)
 }
 
+// The old record at `at` is the answer. Refusal 4.
+fn tell_old(s: &[u8], at: usize, out: &mut [u8]) -> Answer
+    requires { ⌜ ((y : Rec) × Here (now s) at y) ⌝ }
+    ensures { λ r. ⌜ OldTold (now (s .entry)) at r (now (out .entry)) (now (out .exit)) ⌝ }
+{
+    let y = rec_at(s, at);
+    let n = entry_len(y);
+    if out.len() < n {
+        return Answer::Refused(4);
+    }
+    put_entry(s, at, y, out, 0);
+    Answer::Done(Kind::Nothing)
+}
+
+// From the id on: the old record, or a new one.
 fn admit_named(
     cur: &[u8],
     next: &mut [u8],
     a: Area,
     x: Asked,
-    id: [u8; 32],
     inputs: &[u8],
     outputs: &[u8],
     reads: &[u8],
@@ -603,35 +487,26 @@ fn admit_named(
     tip: &[u8],
     out: &mut [u8],
 ) -> Answer
-    requires { ⌜ AreaIn (now cur) a × AskedIn x id (now inputs) (now outputs) (now reads) (now bytes) (now label) (now tip) (a .open .head .limits .k) × (a .need ≤ length (now next)) ⌝ }
-    ensures { λ r. ⌜ FoundTold (now (cur .entry)) (argsOf x id (now (inputs .entry)) (now (outputs .entry)) (now (reads .entry)) (now (bytes .entry)) (now (label .entry)) (now (tip .entry))) (outcome r (now (next .exit)) (now (out .exit))) (now (next .entry)) (now (out .entry)) ⌝ }
+    requires { ⌜ AreaIn (now cur) a × AskedIn x (x .id) (now inputs) (now outputs) (now reads) (now bytes) (now label) (now tip) (a .open .head .limits .k) × (a .need ≤ length (now next)) ⌝ }
+    ensures { λ r. ⌜ FoundTold (now (cur .entry)) (argsOf x (x .id) (now (inputs .entry)) (now (outputs .entry)) (now (reads .entry)) (now (bytes .entry)) (now (label .entry)) (now (tip .entry))) (outcome r (now (next .exit)) (now (out .exit))) (now (next .entry)) (now (out .entry)) ⌝ }
 {
     let o = a.open;
     let h = o.head;
-    let f = find_id(cur, o.start, h.count, id);
-    if f.found {
-        return admit_found(
-            cur,
-            next,
-            a,
-            f.at,
-            x,
-            id,
-            inputs,
-            outputs,
-            reads,
-            bytes,
-            label,
-            tip,
-            out,
-        );
+    let id = x.id;
+    let p = find_spot(cur, o.start, h.count, id);
+    if known(cur, p) {
+        return tell_old(cur, p.at, out);
     }
-    admit_new(
+    let r = new_refusal(cur, a, x.caller, bytes.len() as u64, inputs, reads);
+    if r != 0 {
+        return Answer::Refused(r);
+    }
+    admit_free(
         cur,
         next,
         a,
+        p,
         x,
-        id,
         inputs,
         outputs,
         reads,
@@ -646,53 +521,6 @@ fn long_label(flag: u64, label: &[u8]) -> bool
     ensures { λ r. ⌜ r ≡ ltb 200 (labelLen (given flag (now (label .entry)))) ⌝ }
 {
     both(flag == 1, 200 < label.len())
-}
-
-// Refusals 7, 8, 9.
-fn admit_timely(
-    cur: &[u8],
-    next: &mut [u8],
-    a: Area,
-    x: Asked,
-    id: [u8; 32],
-    inputs: &[u8],
-    outputs: &[u8],
-    reads: &[u8],
-    bytes: &[u8],
-    label: &[u8],
-    tip: &[u8],
-    out: &mut [u8],
-) -> Answer
-    requires { ⌜ AreaIn (now cur) a × LentIn x id (now inputs) (now outputs) (now reads) (now bytes) (now label) (now tip) (a .open .head .limits .k) × (a .need ≤ length (now next)) ⌝ }
-    ensures { λ r. ⌜ AdmitTold (now (cur .entry)) (argsOf x id (now (inputs .entry)) (now (outputs .entry)) (now (reads .entry)) (now (bytes .entry)) (now (label .entry)) (now (tip .entry))) (outcome r (now (next .exit)) (now (out .exit))) (now (next .entry)) (now (out .entry)) ⌝ }
-{
-    let t = x.now;
-    let d = x.time;
-    if time_reached(x.timeflag == 1, d, t) {
-        return Answer::Refused(7);
-    }
-    let g = x.tipheight;
-    let h = x.height;
-    if height_reached(x.heightflag == 1, h, g) {
-        return Answer::Refused(8);
-    }
-    if long_label(x.labelflag, label) {
-        return Answer::Refused(9);
-    }
-    admit_named(
-        cur,
-        next,
-        a,
-        x,
-        id,
-        inputs,
-        outputs,
-        reads,
-        bytes,
-        label,
-        tip,
-        out,
-    )
 }
 
 fn given_id(flag: u64, n: usize) -> bool
@@ -735,7 +563,46 @@ fn over_k(k: u64, n: usize, m: usize, d: usize) -> bool
     )
 }
 
-// Refusals 3, 2, 5, 6.
+// 5, 6, 7, 8 or 9 for what is asked, under K; else 0.
+fn asked_refusal(
+    k: u64,
+    x: Asked,
+    id: &[u8],
+    inputs: &[u8],
+    outputs: &[u8],
+    reads: &[u8],
+    bytes: &[u8],
+    label: &[u8],
+    tip: &[u8],
+) -> u64
+    requires { ⌜ NumbersFit x ⌝ }
+    ensures { λ r. ⌜ AskedIs k (argsOf x (now (id .entry)) (now (inputs .entry)) (now (outputs .entry)) (now (reads .entry)) (now (bytes .entry)) (now (label .entry)) (now (tip .entry))) r ⌝ }
+{
+    let l = lists_whole(id, x.caller, inputs, outputs, reads);
+    let f = flags_listed(x, bytes, label, tip);
+    if !both(l, f) {
+        return 5;
+    }
+    if over_k(k, inputs.len(), outputs.len(), reads.len()) {
+        return 6;
+    }
+    let t = x.now;
+    let d = x.time;
+    if time_reached(x.timeflag == 1, d, t) {
+        return 7;
+    }
+    let g = x.tipheight;
+    let h = x.height;
+    if height_reached(x.heightflag == 1, h, g) {
+        return 8;
+    }
+    if long_label(x.labelflag, label) {
+        return 9;
+    }
+    0
+}
+
+// Refusals 3, 2, 5, 6, 7, 8, 9.
 fn admit_asked(
     cur: &[u8],
     next: &mut [u8],
@@ -749,7 +616,7 @@ fn admit_asked(
     tip: &[u8],
     out: &mut [u8],
 ) -> Answer
-    requires { ⌜ NumbersFit x ⌝ }
+    requires { ⌜ NumbersFit x × (length (now id) ≡ 32 → x .id ≡ now id) ⌝ }
     ensures { λ r. ⌜ outcome r (now (next .exit)) (now (out .exit)) ≡ admitOf (now (cur .entry)) (now (next .entry)) (now (out .entry)) (argsOf x (now (id .entry)) (now (inputs .entry)) (now (outputs .entry)) (now (reads .entry)) (now (bytes .entry)) (now (label .entry)) (now (tip .entry))) ⌝ }
 {
     let a = area_at(cur);
@@ -759,24 +626,18 @@ fn admit_asked(
     if next.len() < a.need {
         return Answer::Refused(2);
     }
-    let l = lists_whole(id, x.caller, inputs, outputs, reads);
-    let f = flags_listed(x, bytes, label, tip);
-    if !both(l, f) {
-        return Answer::Refused(5);
-    }
     let o = a.open;
     let h = o.head;
     let m = h.limits;
-    if over_k(m.k, inputs.len(), outputs.len(), reads.len()) {
-        return Answer::Refused(6);
+    let r = asked_refusal(m.k, x, id, inputs, outputs, reads, bytes, label, tip);
+    if r != 0 {
+        return Answer::Refused(r);
     }
-    let k = id_at(id, false, 0, 0);
-    admit_timely(
+    admit_named(
         cur,
         next,
         a,
         x,
-        k,
         inputs,
         outputs,
         reads,
@@ -785,6 +646,16 @@ fn admit_asked(
         tip,
         out,
     )
+}
+
+// The id that is lent; zeros where it is not whole.
+fn lent_id(id: &[u8]) -> [u8; 32]
+    ensures { λ r. ⌜ (length (now (id .entry)) ≡ 32 → r ≡ now (id .entry)) ⌝ }
+{
+    if id.len() == 32 {
+        return id_at(id, false, 0, 0);
+    }
+    [0u8; 32]
 }
 
 // Admission. Refusals 3, 2, 5, 6, 7, 8, 9, 10, 18, 11, 12, 20, 4.
@@ -814,7 +685,9 @@ pub fn admit(
 ) -> Answer
     ensures { λ r. ⌜ outcome r (now (next .exit)) (now (out .exit)) ≡ admitOf (now (cur .entry)) (now (next .entry)) (now (out .entry)) (admitArgs (now (id .entry)) caller (now (inputs .entry)) (now (outputs .entry)) (now (reads .entry)) (now (bytes .entry)) clock timeflag time heightflag height priority labelflag (now (label .entry)) fee cost tipheight tipflag (now (tip .entry))) ⌝ }
 {
+    let k = lent_id(id);
     let x = Asked {
+        id: k,
         caller: caller as u64,
         now: Time(clock),
         timeflag: timeflag as u64,

@@ -23,6 +23,7 @@ ghost use Rattle.queue.specs.Forms.{formC};
 ghost use Rattle.queue.specs.Splice.{Put};
 ghost use Rattle.queue.specs.Reads.{whole, listAt};
 ghost use Rattle.queue.specs.ReadingAs.{FoundAs, FoundEnd, LookAs, PlaceAs, partIn, EntryIn, entryAt, entryLen};
+ghost use Rattle.queue.specs.Spots.{SpotAs};
 ghost use Rattle.queue.specs.paper.Lists.{one, find, isEmpty?};
 ghost use Rattle.queue.specs.paper.Changing.{named?};
 ghost use Rattle.queue.specs.Checked.{written};
@@ -53,6 +54,49 @@ pub fn find_id(s: &[u8], at: usize, n: u64, id: [u8; 32]) -> Found
     Found {
         found: false,
         at: 0,
+    }
+}
+
+// Where the record of an id stands, and where the next one begins; or, not found, where it would stand: both places are the same then.
+pub struct Spot {
+    pub found: bool,
+    pub at: usize,
+    pub next: usize,
+}
+
+// The spot of this id among the n records at `at` of an area, whose ids rise.
+pub fn find_spot(s: &[u8], at: usize, n: u64, id: [u8; 32]) -> Spot
+    requires { ⌜ (at ≤ length (now s)) × (whole (formC false recC) n (now s) at ≡ true) ⌝ }
+    ensures { λ r. ⌜ SpotAs (now (s .entry)) id at (listAt (formC false recC) n (now (s .entry)) at) r ⌝ }
+{
+    let mut i = at;
+    let mut left = n;
+    while 0 < left {
+        let x = rec_at(s, i);
+        let y = x.id;
+        let next = after_in(s, false, i, x.size);
+        let c = cmp_id(id, y);
+        if c == 0 {
+            return Spot {
+                found: false,
+                at: i,
+                next: i,
+            };
+        }
+        if c == 1 {
+            return Spot {
+                found: true,
+                at: i,
+                next: next,
+            };
+        }
+        i = next;
+        left = left - 1;
+    }
+    Spot {
+        found: false,
+        at: i,
+        next: i,
     }
 }
 

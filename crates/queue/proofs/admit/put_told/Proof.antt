@@ -17,28 +17,28 @@ put-id-requires : tie.Need-put-id-requires
 put-id-requires c κs = search needs
 
 put-be-requires : tie.Need-put-be-requires
-put-be-requires c κs = omega (arith, c .before .before .before .before .before .before .before .before .before .before .before .pre .2, c .before .before .before .put-id .ensures .next, kept (c .before .before .before .put-id .ensures))
+put-be-requires c κs = omega (arith, c .before .before .before .before .before .before .before .before .before .before .before .before .pre .2, c .before .before .before .put-id .ensures .next, kept (c .before .before .before .put-id .ensures))
 
 put-be-requires-2 : tie.Need-put-be-requires-2
-put-be-requires-2 c κs = omega (arith, c .before .before .before .before .before .before .before .before .before .before .before .before .before .before .before .pre .2, c .before .before .before .before .before .before .before .put-id .ensures .next, kept (c .before .before .before .before .before .before .before .put-id .ensures), c .before .before .before .put-be .ensures .next, kept (c .before .before .before .put-be .ensures))
+put-be-requires-2 c κs = omega (arith, c .before .before .before .before .before .before .before .before .before .before .before .before .before .before .before .before .pre .2, c .before .before .before .before .before .before .before .put-id .ensures .next, kept (c .before .before .before .before .before .before .before .put-id .ensures), c .before .before .before .put-be .ensures .next, kept (c .before .before .before .put-be .ensures))
 
 put-terms-requires : tie.Need-put-terms-requires
-put-terms-requires c κs = (c .before .before .before .before .before .before .before .before .before .before .before .before .before .before .before .before .before .before .before .pre .0, omega (arith, c .before .before .before .before .before .before .before .before .before .before .before .before .before .before .before .before .before .before .before .pre .2, c .before .before .before .before .before .before .before .before .before .before .before .put-id .ensures .next, kept (c .before .before .before .before .before .before .before .before .before .before .before .put-id .ensures), c .before .before .before .before .before .before .before .put-be .ensures .next, kept (c .before .before .before .before .before .before .before .put-be .ensures), c .before .before .before .put-be2 .ensures .next, kept (c .before .before .before .put-be2 .ensures)))
+put-terms-requires c κs = (c .before .before .before .before .before .before .before .before .before .before .before .before .before .before .before .before .before .before .before .before .pre .0, omega (arith, c .before .before .before .before .before .before .before .before .before .before .before .before .before .before .before .before .before .before .before .before .pre .2, c .before .before .before .before .before .before .before .before .before .before .before .put-id .ensures .next, kept (c .before .before .before .before .before .before .before .before .before .before .before .put-id .ensures), c .before .before .before .before .before .before .before .put-be .ensures .next, kept (c .before .before .before .before .before .before .before .put-be .ensures), c .before .before .before .put-be2 .ensures .next, kept (c .before .before .before .put-be2 .ensures)))
 
 put-u8-requires : tie.Need-put-u8-requires
-put-u8-requires c κs = omega (arith, c .before .before .before .before .before .before .before .before .before .before .before .before .before .before .before .before .before .before .before .before .before .before .before .pre .2, c .before .before .before .before .before .before .before .before .before .before .before .before .before .before .before .put-id .ensures .next, kept (c .before .before .before .before .before .before .before .before .before .before .before .before .before .before .before .put-id .ensures), c .before .before .before .before .before .before .before .before .before .before .before .put-be .ensures .next, kept (c .before .before .before .before .before .before .before .before .before .before .before .put-be .ensures), c .before .before .before .before .before .before .before .put-be2 .ensures .next, kept (c .before .before .before .before .before .before .before .put-be2 .ensures), c .before .before .before .put-terms .ensures .next, kept (c .before .before .before .put-terms .ensures))
+put-u8-requires c κs = omega (arith, c .before .before .before .before .before .before .before .before .before .before .before .before .before .before .before .before .before .before .before .before .before .before .before .before .pre .2, c .before .before .before .before .before .before .before .before .before .before .before .before .before .before .before .put-id .ensures .next, kept (c .before .before .before .before .before .before .before .before .before .before .before .before .before .before .before .put-id .ensures), c .before .before .before .before .before .before .before .before .before .before .before .put-be .ensures .next, kept (c .before .before .before .before .before .before .before .before .before .before .before .put-be .ensures), c .before .before .before .before .before .before .before .put-be2 .ensures .next, kept (c .before .before .before .before .before .before .before .put-be2 .ensures), c .before .before .before .put-terms .ensures .next, kept (c .before .before .before .put-terms .ensures))
 
 put-ids-requires : tie.Need-put-ids-requires
-put-ids-requires c κs = (c .before .before .before .before .before .before .before .before .before .before .before .before .before .before .before .before .before .before .before .before .before .before .before .before .before .before .before .pre .1 .wholeIns, c .before .before .before .before .before .before .before .before .before .before .before .before .before .before .before .before .before .before .before .before .before .before .before .before .before .before .before .pre .1 .fewIns, omega (arith, c .before .before .before .before .before .before .before .before .before .before .before .before .before .before .before .before .before .before .before .before .before .before .before .before .before .before .before .pre .2, c .before .before .before .before .before .before .before .before .before .before .before .before .before .before .before .before .before .before .before .put-id .ensures .next, kept (c .before .before .before .before .before .before .before .before .before .before .before .before .before .before .before .before .before .before .before .put-id .ensures), c .before .before .before .before .before .before .before .before .before .before .before .before .before .before .before .put-be .ensures .next, kept (c .before .before .before .before .before .before .before .before .before .before .before .before .before .before .before .put-be .ensures), c .before .before .before .before .before .before .before .before .before .before .before .put-be2 .ensures .next, kept (c .before .before .before .before .before .before .before .before .before .before .before .put-be2 .ensures), c .before .before .before .before .before .before .before .put-terms .ensures .next, kept (c .before .before .before .before .before .before .before .put-terms .ensures), c .before .before .before .put-u8 .ensures .next, kept (c .before .before .before .put-u8 .ensures)))
+put-ids-requires c κs = (c .before .before .before .before .before .before .before .before .before .before .before .before .before .before .before .before .before .before .before .before .before .before .before .before .before .before .before .before .pre .1 .wholeIns, c .before .before .before .before .before .before .before .before .before .before .before .before .before .before .before .before .before .before .before .before .before .before .before .before .before .before .before .before .pre .1 .fewIns, omega (arith, c .before .before .before .before .before .before .before .before .before .before .before .before .before .before .before .before .before .before .before .before .before .before .before .before .before .before .before .before .pre .2, c .before .before .before .before .before .before .before .before .before .before .before .before .before .before .before .before .before .before .before .put-id .ensures .next, kept (c .before .before .before .before .before .before .before .before .before .before .before .before .before .before .before .before .before .before .before .put-id .ensures), c .before .before .before .before .before .before .before .before .before .before .before .before .before .before .before .put-be .ensures .next, kept (c .before .before .before .before .before .before .before .before .before .before .before .before .before .before .before .put-be .ensures), c .before .before .before .before .before .before .before .before .before .before .before .put-be2 .ensures .next, kept (c .before .before .before .before .before .before .before .before .before .before .before .put-be2 .ensures), c .before .before .before .before .before .before .before .put-terms .ensures .next, kept (c .before .before .before .before .before .before .before .put-terms .ensures), c .before .before .before .put-u8 .ensures .next, kept (c .before .before .before .put-u8 .ensures)))
 
 put-ids-requires-2 : tie.Need-put-ids-requires-2
-put-ids-requires-2 c κs = (c .before .before .before .before .before .before .before .before .before .before .before .before .before .before .before .before .before .before .before .before .before .before .before .before .before .before .before .before .before .before .before .pre .1 .wholeReads, c .before .before .before .before .before .before .before .before .before .before .before .before .before .before .before .before .before .before .before .before .before .before .before .before .before .before .before .before .before .before .before .pre .1 .fewReads, omega (arith, c .before .before .before .before .before .before .before .before .before .before .before .before .before .before .before .before .before .before .before .before .before .before .before .before .before .before .before .before .before .before .before .pre .2, c .before .before .before .before .before .before .before .before .before .before .before .before .before .before .before .before .before .before .before .before .before .before .before .put-id .ensures .next, kept (c .before .before .before .before .before .before .before .before .before .before .before .before .before .before .before .before .before .before .before .before .before .before .before .put-id .ensures), c .before .before .before .before .before .before .before .before .before .before .before .before .before .before .before .before .before .before .before .put-be .ensures .next, kept (c .before .before .before .before .before .before .before .before .before .before .before .before .before .before .before .before .before .before .before .put-be .ensures), c .before .before .before .before .before .before .before .before .before .before .before .before .before .before .before .put-be2 .ensures .next, kept (c .before .before .before .before .before .before .before .before .before .before .before .before .before .before .before .put-be2 .ensures), c .before .before .before .before .before .before .before .before .before .before .before .put-terms .ensures .next, kept (c .before .before .before .before .before .before .before .before .before .before .before .put-terms .ensures), c .before .before .before .before .before .before .before .put-u8 .ensures .next, kept (c .before .before .before .before .before .before .before .put-u8 .ensures), c .before .before .before .put-ids .ensures .next, kept (c .before .before .before .put-ids .ensures)))
+put-ids-requires-2 c κs = (c .before .before .before .before .before .before .before .before .before .before .before .before .before .before .before .before .before .before .before .before .before .before .before .before .before .before .before .before .before .before .before .before .pre .1 .wholeReads, c .before .before .before .before .before .before .before .before .before .before .before .before .before .before .before .before .before .before .before .before .before .before .before .before .before .before .before .before .before .before .before .before .pre .1 .fewReads, omega (arith, c .before .before .before .before .before .before .before .before .before .before .before .before .before .before .before .before .before .before .before .before .before .before .before .before .before .before .before .before .before .before .before .before .pre .2, c .before .before .before .before .before .before .before .before .before .before .before .before .before .before .before .before .before .before .before .before .before .before .before .put-id .ensures .next, kept (c .before .before .before .before .before .before .before .before .before .before .before .before .before .before .before .before .before .before .before .before .before .before .before .put-id .ensures), c .before .before .before .before .before .before .before .before .before .before .before .before .before .before .before .before .before .before .before .put-be .ensures .next, kept (c .before .before .before .before .before .before .before .before .before .before .before .before .before .before .before .before .before .before .before .put-be .ensures), c .before .before .before .before .before .before .before .before .before .before .before .before .before .before .before .put-be2 .ensures .next, kept (c .before .before .before .before .before .before .before .before .before .before .before .before .before .before .before .put-be2 .ensures), c .before .before .before .before .before .before .before .before .before .before .before .put-terms .ensures .next, kept (c .before .before .before .before .before .before .before .before .before .before .before .put-terms .ensures), c .before .before .before .before .before .before .before .put-u8 .ensures .next, kept (c .before .before .before .before .before .before .before .put-u8 .ensures), c .before .before .before .put-ids .ensures .next, kept (c .before .before .before .put-ids .ensures)))
 
 same-length : tie.Need-same-length
 same-length c = search needs
 
 returns : tie.Need-returns
-returns c = entry-put (c .before .before .before .before .before .before .before .before .before .before .before .before .before .before .before .before .before .before .before .before .before .before .before .before .before .before .before .before .before .before .before .before .before .before .args .x) (c .before .before .before .before .before .before .before .before .before .before .before .before .before .before .before .before .before .before .before .before .before .before .before .before .before .before .before .before .before .before .before .before .before .before .args .id) (c .before .before .before .before .before .before .before .before .before .before .before .before .before .before .before .before .before .before .before .before .before .before .before .before .before .before .before .before .before .before .before .before .before .before .args .inputs .now) (c .before .before .before .before .before .before .before .before .before .before .before .before .before .before .before .before .before .before .before .before .before .before .before .before .before .before .before .before .before .before .before .before .before .before .args .outputs .now) (c .before .before .before .before .before .before .before .before .before .before .before .before .before .before .before .before .before .before .before .before .before .before .before .before .before .before .before .before .before .before .before .before .before .before .args .reads .now) (c .before .before .before .before .before .before .before .before .before .before .before .before .before .before .before .before .before .before .before .before .before .before .before .before .before .before .before .before .before .before .before .before .before .before .args .bytes .now) (c .before .before .before .before .before .before .before .before .before .before .before .before .before .before .before .before .before .before .before .before .before .before .before .before .before .before .before .before .before .before .before .before .before .before .args .label .now) (c .before .before .before .before .before .before .before .before .before .before .before .before .before .before .before .before .before .before .before .before .before .before .before .before .before .before .before .before .before .before .before .before .before .before .pre .0 .caller) (c .before .before .before .before .before .before .before .before .before .before .before .before .before .before .before .before .before .before .before .before .before .before .before .before .before .before .before .before .before .before .before .before .before .before .pre .1) (c .before .before .before .before .before .before .before .before .before .before .before .before .before .before .before .before .before .before .before .before .before .before .before .before .before .before .put-id .ensures) (c .before .before .before .before .before .before .before .before .before .before .before .before .before .before .before .before .before .before .before .before .before .before .put-be .ensures) (c .before .before .before .before .before .before .before .before .before .before .before .before .before .before .before .before .before .before .put-be2 .ensures) (c .before .before .before .before .before .before .before .before .before .before .before .before .before .before .put-terms .ensures) (c .before .before .before .before .before .before .before .before .before .before .put-u8 .ensures) (c .before .before .before .before .before .before .put-ids .ensures) (c .before .before .put-ids2 .ensures)
+returns c = entry-put (c .before .before .before .before .before .before .before .before .before .before .before .before .before .before .before .before .before .before .before .before .before .before .before .before .before .before .before .before .before .before .before .before .before .before .before .args .x) (c .before .before .before .before .before .before .before .before .before .before .before .before .before .before .before .before .before .before .before .before .before .before .before .before .before .before .before .before .before .before .before .before .before .before .before .args .x .id) (c .before .before .before .before .before .before .before .before .before .before .before .before .before .before .before .before .before .before .before .before .before .before .before .before .before .before .before .before .before .before .before .before .before .before .before .args .inputs .now) (c .before .before .before .before .before .before .before .before .before .before .before .before .before .before .before .before .before .before .before .before .before .before .before .before .before .before .before .before .before .before .before .before .before .before .before .args .outputs .now) (c .before .before .before .before .before .before .before .before .before .before .before .before .before .before .before .before .before .before .before .before .before .before .before .before .before .before .before .before .before .before .before .before .before .before .before .args .reads .now) (c .before .before .before .before .before .before .before .before .before .before .before .before .before .before .before .before .before .before .before .before .before .before .before .before .before .before .before .before .before .before .before .before .before .before .before .args .bytes .now) (c .before .before .before .before .before .before .before .before .before .before .before .before .before .before .before .before .before .before .before .before .before .before .before .before .before .before .before .before .before .before .before .before .before .before .before .args .label .now) (c .before .before .before .before .before .before .before .before .before .before .before .before .before .before .before .before .before .before .before .before .before .before .before .before .before .before .before .before .before .before .before .before .before .before .before .pre .0 .caller) (c .before .before .before .before .before .before .before .before .before .before .before .before .before .before .before .before .before .before .before .before .before .before .before .before .before .before .before .before .before .before .before .before .before .before .before .pre .1) (c .before .before .before .before .before .before .before .before .before .before .before .before .before .before .before .before .before .before .before .before .before .before .before .before .before .before .put-id .ensures) (c .before .before .before .before .before .before .before .before .before .before .before .before .before .before .before .before .before .before .before .before .before .before .put-be .ensures) (c .before .before .before .before .before .before .before .before .before .before .before .before .before .before .before .before .before .before .put-be2 .ensures) (c .before .before .before .before .before .before .before .before .before .before .before .before .before .before .put-terms .ensures) (c .before .before .before .before .before .before .before .before .before .before .put-u8 .ensures) (c .before .before .before .before .before .before .put-ids .ensures) (c .before .before .put-ids2 .ensures)
 
 pub put-told-spec : {M : Type 1} → statement M
 put-told-spec =
