@@ -40,7 +40,7 @@ use Rattle.queue.specs.Reopens.{IdsRise, idsAt}
 use Rattle.queue.specs.SelectAs.{Row, rows, Even, Table, ahead?, idAt}
 use Rattle.queue.specs.Touching.{appliedIn, ownIds, InEntry, Judged, changed?, changes?}
 use Rattle.queue.specs.Releasing.{nextR, nextV, nextL, minedOf, Stands, StandsAt, bytesAt, MinedRow, FallingRows, MinedRows, MinedGathered, walkR, walkC}
-use Rattle.queue.specs.Rebuilding.{keptOf, keptL}
+use Rattle.queue.specs.Rebuilding.{keptOf, keptL, keptIn}
 use Rattle.queue.specs.Decided.{decided-number}
 use Rattle.queue.specs.paper.Decisions.{minedHolder?, decisions}
 use Rattle.queue.specs.Reconciling.{asked, LentTo, JudgedIn, anyTouched, wholeQ, GoneAre, DecidedAre, ChangedIs, cursorKind, cursorTo, CursorTold, WholeTo, FloorFor, goneBytes, ReconcileTold}
@@ -55,6 +55,7 @@ use Rattle.queue.specs.declared.Kind.the-variants.{Memory, Whole, Cursor
 use Rattle.queue.specs.declared.Answer.{Answer}
 use Rattle.queue.specs.declared.Answer.the-variants.{Refused, Done}
 use Rattle.queue.specs.declared.area.Area.{Area}
+use Rattle.queue.specs.declared.block.Block.{Block}
 use Rattle.queue.specs.declared.frame.Height.{Height}
 use Rattle.queue.specs.declared.head.Marks.{Marks}
 use Rattle.queue.specs.declared.rules.Query.the-variants.{Tombstones}
@@ -128,23 +129,23 @@ judged-next t caught own es (r ∷ l) (c ∷ v) j = two (ap (maybe r (λ y. y)) 
 pub few-records : {s : Bytes} {a : Area} → AreaIn s a → a .open .head .count ≤ 3072
 few-records w = let g = fit (w .read) .sound in omega (arith, w .read .store .count, g .few, g .range .P-high, g .range .T-high)
 
-pub verdicts-fit : {s : Bytes} {a : Area} {t : Bytes} {k : ℕ} {caught : Bool} {ids : Bytes} {m : ℕ} {vs : List ℕ} → AreaIn s a → JudgedIn s a t k caught ids m vs → (length vs ≡ a .open .head .count) × All (InEntry t) vs
-verdicts-fit {s} {a} {t} {k} {caught} {ids} {m} {vs} w j =
+pub verdicts-fit : {s : Bytes} {a : Area} {B : Block} {t ids : Bytes} {vs : List ℕ} → AreaIn s a → JudgedIn s a B t ids vs → (length vs ≡ a .open .head .count) × All (InEntry t) vs
+verdicts-fit {s} {a} {B} {t} {ids} {vs} w j =
     let l = listAt (formC false recC) (a .open .head .count) s (a .open .start) in
-    let own = ownIds (idsAt ids m) l in
-    (judged-long t caught own (appliedIn t k) l vs (j .all) ∙ ap length (w .read .store .list) ∙ w .read .store .count, judged-within t caught own (appliedIn t k) l vs (j .all))
+    let own = ownIds (idsAt ids (B .available)) l in
+    (judged-long t (B .caught) own (appliedIn t (B .entries)) l vs (j .all) ∙ ap length (w .read .store .list) ∙ w .read .store .count, judged-within t (B .caught) own (appliedIn t (B .entries)) l vs (j .all))
 
 -- ---- what is lent, and the area
-module _ {s : Bytes} {a : Area} (w : AreaIn s a) {height : ℕ} {tip : Id} {t : Bytes} {k : ℕ} {caught : Bool} {ids : Bytes} {m window : ℕ} (L : LentTo height tip t k caught ids m window) {vs : List ℕ} (J : JudgedIn s a t k caught ids m vs) where
+module _ {s : Bytes} {a : Area} (w : AreaIn s a) {B : Block} {t ids : Bytes} (L : LentTo B t ids) {vs : List ℕ} (J : JudgedIn s a B t ids vs) where
   abbrev C : Reconciling
-  C = asked height tip t k caught ids m window
+  C = asked B t ids
 
   abbrev f : Rec → Rec
   f r = maybe r (λ y. y) (touch C (ownOf C (w .q)) r)
 
   next-is : nextL s (a .open .start) (a .open .head .count) t vs ≡ touchedRecs C (w .q)
   unfolding nextL nextR touchedRecs touch ownIds
-  next-is = judged-next t caught (ownIds (idsAt ids m) (listAt (formC false recC) (a .open .head .count) s (a .open .start))) (appliedIn t k) (listAt (formC false recC) (a .open .head .count) s (a .open .start)) vs (J .all) ∙ ap (λ l. map (nextR caught (ownIds (idsAt ids m) l) (appliedIn t k)) l) (w .read .store .list)
+  next-is = judged-next t (B .caught) (ownIds (idsAt ids (B .available)) (listAt (formC false recC) (a .open .head .count) s (a .open .start))) (appliedIn t (B .entries)) (listAt (formC false recC) (a .open .head .count) s (a .open .start)) vs (J .all) ∙ ap (λ l. map (nextR (B .caught) (ownIds (idsAt ids (B .available)) l) (appliedIn t (B .entries))) l) (w .read .store .list)
 
   alike : (r : Rec) → Alike r (f r)
   alike r = touched-alike C (ownOf C (w .q)) (L .ok .applied) r
@@ -176,12 +177,12 @@ module _ {s : Bytes} {a : Area} (w : AreaIn s a) {height : ℕ} {tip : Id} {t : 
   unfolding touchedRecs
   before-mined = rw mined-is (sub-pairwise Before (filter-sub minedHolder? (map f (w .q .recs))) (alike-rising f alike (w .q .recs) (fit (w .read) .sound .rising)))
 
-  gone-is : releases (limits (a .open .head .limits .p) (a .open .head .limits .b) 0 0) height window 0 0 (sort newer? (minedOf s (a .open .start) (a .open .head .count) t vs)) ≡ toRelease C (w .q)
+  gone-is : releases (limits (a .open .head .limits .p) (a .open .head .limits .b) 0 0) (B .height .0) (B .window) 0 0 (sort newer? (minedOf s (a .open .start) (a .open .head .count) t vs)) ≡ toRelease C (w .q)
   unfolding toRelease
   gone-is =
       let h = w .read .store .head in
-      same-releases _ (w .q .limits) height window 0 0 (sort newer? (minedOf s (a .open .start) (a .open .head .count) t vs)) (sym (head-P h)) (sym (head-B h))
-      ∙ ap (λ l. releases (w .q .limits) height window 0 0 (sort newer? l)) mined-is
+      same-releases _ (w .q .limits) (B .height .0) (B .window) 0 0 (sort newer? (minedOf s (a .open .start) (a .open .head .count) t vs)) (sym (head-P h)) (sym (head-B h))
+      ∙ ap (λ l. releases (w .q .limits) (B .height .0) (B .window) 0 0 (sort newer? l)) mined-is
 
   module _ {n c : ℕ} {ra ti pl : List ℕ} (G : MinedGathered s n (minedOf s (a .open .start) (a .open .head .count) t vs) 2048 c ra ti pl) where
     pub mined-even : Even c (take c ra) (take c ti) (take c pl)
@@ -205,22 +206,22 @@ module _ {s : Bytes} {a : Area} (w : AreaIn s a) {height : ℕ} {tip : Id} {t : 
     sorted : MinedRows s (sort ahead? (rows (take c ra) (take c ti) (take c pl))) (sort newer? (minedOf s (a .open .start) (a .open .head .count) t vs))
     sorted = rw (rows-take c ra ti pl) (sort-mined s (n + 1) (take c (rows ra ti pl)) _ (G .listed) before-mined)
 
-    pub gone-are : (r : ℕ) (gone : List ℕ) → r ≤ length (take c ra) → take r gone ≡ walkR (limits (a .open .head .limits .p) (a .open .head .limits .b) 0 0) height window s 0 0 (sort ahead? (rows (take c ra) (take c ti) (take c pl))) → (r ≤ 2048) × GoneAre s (asked height tip t k caught ids m window) (take r gone)
+    pub gone-are : (r : ℕ) (gone : List ℕ) → r ≤ length (take c ra) → take r gone ≡ walkR (limits (a .open .head .limits .p) (a .open .head .limits .b) 0 0) (B .height .0) (B .window) s 0 0 (sort ahead? (rows (take c ra) (take c ti) (take c pl))) → (r ≤ 2048) × GoneAre s (asked B t ids) (take r gone)
     gone-are r gone h e =
         let z : r ≤ 2048 = omega (arith, mined-even .ranks, mined-few) in (
           z,
           record {
-            are = λ q x. ap (map (idAt s)) e ∙ walk-ids _ height window s 0 0 _ _ sorted ∙ gone-is ∙ ap (toRelease C) (one-queue s (w .is) x);
-            placed = rw e (walk-part (λ p. p + 33 ≤ length s) _ height window s 0 0 _ (mined-placed s (sort ahead? (rows (take c ra) (take c ti) (take c pl))) (sort newer? (minedOf s (a .open .start) (a .open .head .count) t vs)) sorted));
+            are = λ q x. ap (map (idAt s)) e ∙ walk-ids _ (B .height .0) (B .window) s 0 0 _ _ sorted ∙ gone-is ∙ ap (toRelease C) (one-queue s (w .is) x);
+            placed = rw e (walk-part (λ p. p + 33 ≤ length s) _ (B .height .0) (B .window) s 0 0 _ (mined-placed s (sort ahead? (rows (take c ra) (take c ti) (take c pl))) (sort newer? (minedOf s (a .open .start) (a .open .head .count) t vs)) sorted));
             few = let y = length-take r gone in let x = min-le-left r (length gone) in omega arith;
           },
         )
 
-    pub decided-are : {d : ℕ} → d ≡ length (take c ra) → DecidedAre s (asked height tip t k caught ids m window) d
+    pub decided-are : {d : ℕ} → d ≡ length (take c ra) → DecidedAre s (asked B t ids) d
     decided-are {d} e q x = e ∙ mined-even .ranks ∙ G .all ∙ ap length mined-is ∙ sym (decided-number C (w .q)) ∙ ap (λ z. length (decisions C z)) (one-queue s (w .is) x)
 
   -- ---- the whole area
-  module _ {gone : List ℕ} (G : GoneAre s (asked height tip t k caught ids m window) gone) where
+  module _ {gone : List ℕ} (G : GoneAre s (asked B t ids) gone) where
     ids-are : map (idAt s) gone ≡ toRelease C (w .q)
     ids-are = G .are (w .q) (w .is)
 
@@ -237,13 +238,13 @@ module _ {s : Bytes} {a : Area} (w : AreaIn s a) {height : ℕ} {tip : Id} {t : 
 
     placed : Placed (toRelease C (w .q)) (map f (w .q .recs))
     unfolding toRelease touchedRecs
-    placed = releases-placed (w .q .limits) height window (w .q .recs) f (toRelease C (w .q)) (keeps (w .q .recs)) (fit (w .read) .sound .rising) refl
+    placed = releases-placed (w .q .limits) (B .height .0) (B .window) (w .q .recs) f (toRelease C (w .q)) (keeps (w .q .recs)) (fit (w .read) .sound .rising) refl
 
     none-gone : (x : List Id) → length x ≡ 0 → x ≡ []
     none-gone [] e = refl
     none-gone (i ∷ x) e = absurd (let y : ⊥ = omega arith in y)
 
-    pub kept-is : {fl : ℕ} → FloorFor s a (length gone) fl → keptL s (a .open .start) (a .open .head .count) t vs gone (a .open .head .counter .0) fl ≡ trimmed (w .q .limits .T) (toRelease C (w .q)) (map (releaseOne (w .q .counter) (toRelease C (w .q))) (touchedRecs C (w .q)))
+    pub kept-is : {fl : ℕ} → FloorFor s a (length gone) fl → keptIn s a t vs gone fl ≡ trimmed (w .q .limits .T) (toRelease C (w .q)) (map (releaseOne (w .q .counter) (toRelease C (w .q))) (touchedRecs C (w .q)))
     unfolding keptL keptOf touchedRecs
     kept-is {fl} F =
         let st = w .read .store in
@@ -273,13 +274,13 @@ module _ {s : Bytes} {a : Area} (w : AreaIn s a) {height : ℕ} {tip : Id} {t : 
         LimsW = limitsIn (a .open .head .limits)
 
         abbrev pub recsW : ℕ → List Rec
-        recsW fl = keptL s (a .open .start) (a .open .head .count) t vs gone (a .open .head .counter .0) fl
+        recsW fl = keptIn s a t vs gone fl
 
         module _ {fl revision many : ℕ} (F : FloorFor s a (length gone) fl) (e : revision ≡ (a .open .head .revision + 1) % 2 ^ 64) (n : many ≡ length (recsW fl)) where
           abbrev pub marksW : Marks
-          marksW = record { persisted = record { 0 = height }; revision = revision; cursor = record { 0 = height }; tip = true; counter = record { 0 = a .open .head .counter .0 + length gone }; count = many }
+          marksW = record { persisted = B .height; revision = revision; cursor = B .height; tip = true; counter = record { 0 = a .open .head .counter .0 + length gone }; count = many }
 
-          whole-is : queueOf LimsW marksW tip (recsW fl) ≡ wholeQ C (w .q)
+          whole-is : queueOf LimsW marksW (B .tip) (recsW fl) ≡ wholeQ C (w .q)
           unfolding wholeQ committed
           whole-is =
               let st = w .read .store in
@@ -290,19 +291,19 @@ module _ {s : Bytes} {a : Area} (w : AreaIn s a) {height : ℕ} {tip : Id} {t : 
           unfolding wholeQ committed
           whole-need = fits-need (wholeQ C (w .q)) (fit-sound _ whole-fit) (fit-ok _ whole-fit)
 
-          whole-fits : length (queueC .enc (queueOf LimsW marksW tip (recsW fl))) ≤ need LimsW
+          whole-fits : length (queueC .enc (queueOf LimsW marksW (B .tip) (recsW fl))) ≤ need LimsW
           whole-fits = let u = ap (λ v. length (queueC .enc v)) whole-is in let v = ap need (the-limits (w .read)) in let y = whole-need in omega arith
 
           pub whole-room : 142 + length (encs recC (recsW fl)) ≤ a .need
           whole-room =
-              let q = queue-long LimsW marksW tip (recsW fl) (shares-sixteen (w .read)) n (L .long) in
+              let q = queue-long LimsW marksW (B .tip) (recsW fl) (shares-sixteen (w .read)) n (L .long) in
               let v = ap need (the-limits (w .read)) in let y = whole-fits in omega (arith, w .read .need)
 
           pub whole-put : {d d₁ d₂ d₃ : Bytes} {o y y′ to : ℕ} {q′ : Queue} → readArea s ≡ some q′ → a .need ≤ length d → to ≡ 142
-              → Put d to (encs recC (recsW fl)) (length (encs recC (recsW fl))) o d₁ → Put d₁ 0 (frontBytes LimsW marksW tip) 142 y d₂ → Put d₂ o (replicate (a .need - o) 0) (a .need - o) y′ d₃
+              → Put d to (encs recC (recsW fl)) (length (encs recC (recsW fl))) o d₁ → Put d₁ 0 (frontBytes LimsW marksW (B .tip)) 142 y d₂ → Put d₂ o (replicate (a .need - o) 0) (a .need - o) y′ d₃
               → d₃ ≡ over (areaBytes (wholeQ C q′)) d
           whole-put {d} x g h p1 p2 p3 =
-              area-done LimsW marksW tip (recsW fl) n whole-fits (w .read .need ∙ ap need (the-limits (w .read))) g p1 (recast p2 refl (sym h) refl) p3
+              area-done LimsW marksW (B .tip) (recsW fl) n whole-fits (w .read .need ∙ ap need (the-limits (w .read))) g p1 (recast p2 refl (sym h) refl) p3
               ∙ ap (λ v. over (areaBytes v) d) (whole-is ∙ ap (wholeQ C) (one-queue s (w .is) x))
 
           whole-count : length (trimmed (w .q .limits .T) (toRelease C (w .q)) (map (releaseOne (w .q .counter) (toRelease C (w .q))) (touchedRecs C (w .q)))) ≤ 2 * w .q .limits .P + w .q .limits .T
@@ -313,9 +314,9 @@ module _ {s : Bytes} {a : Area} (w : AreaIn s a) {height : ℕ} {tip : Id} {t : 
           whole-few = let z = fit (w .read) .sound .range in let y = whole-count in omega (arith, n, ap length (kept-is F), z .P-high, z .T-high)
 
       -- ---- the answer
-      still-done : (anyTouched C (w .q) || not (isEmpty? (toRelease C (w .q)))) ≡ false → reconcile C (w .q) ≡ done (cursorKind (w .q .persisted) height) (cursorTo height tip (w .q)) (false, [])
+      still-done : (anyTouched C (w .q) || not (isEmpty? (toRelease C (w .q)))) ≡ false → reconcile C (w .q) ≡ done (cursorKind (w .q .persisted) (B .height .0)) (cursorTo (B .height .0) (B .tip) (w .q)) (false, [])
       unfolding reconcile toRelease touchedRecs anyTouched
-      still-done ch = rw (fits-top, ch) (cases (leb (min (w .q .persisted + 32) topHeight) height) (λ b. rw b) (λ b. rw b))
+      still-done ch = rw (fits-top, ch) (cases (leb (min (w .q .persisted + 32) topHeight) (B .height .0)) (λ b. rw b) (λ b. rw b))
 
       gone-long : length (concat (map (idAt s) gone)) ≡ 32 * length gone
       gone-long = ids-size s gone (G .placed)
@@ -354,14 +355,14 @@ module _ {s : Bytes} {a : Area} (w : AreaIn s a) {height : ℕ} {tip : Id} {t : 
             let z : out′ ≡ over (releasedBytes (true, toRelease C (w .q))) out = p .is ∙ ap (splice out 0) (ap (λ v. goneBytes s v gone) t ∙ answer-is true) ∙ sym (over-splice out (releasedBytes (true, toRelease C (w .q))) (omega (arith, answer-long true))) in
             rw (← (one-queue s (w .is) e), whole-done c, le-ltb (length out) (length (releasedBytes (true, toRelease C (w .q)))) (omega (arith, answer-long true)), z, x (w .q) (w .is))
 
-        pub gone-10x : {next′ : Bytes} {u : Answer} → b ≡ false → CursorTold s height tip u next next′ → ReconcileTold s C (outcome u next′ out′) next out
+        pub gone-10x : {next′ : Bytes} {u : Answer} → b ≡ false → CursorTold s (B .height .0) (B .tip) u next next′ → ReconcileTold s C (outcome u next′ out′) next out
         gone-10x {next′} {u} t x q e =
             let c = sym ch ∙ t in
             let y = x (w .q) (w .is) in
             let N : toRelease C (w .q) ≡ [] = none-gone (toRelease C (w .q)) (sym many-gone ∙ no-ids c) in
             let z : out′ ≡ over (releasedBytes (false, [])) out = p .is ∙ ap (splice out 0) (ap (λ v. goneBytes s v gone) t ∙ answer-is false ∙ ap (λ l. releasedBytes (false, l)) N) ∙ sym (over-splice out (releasedBytes (false, [])) (omega (arith, none-long, no-ids c))) in
             rw (← (one-queue s (w .is) e), still-done c, le-ltb (length out) (length (releasedBytes (false, []))) (omega (arith, none-long, no-ids c)), z, y .0, y .1)
-            (cases (leb (min (w .q .persisted + 32) topHeight) height) (λ k. rw k) (λ k. rw k))
+            (cases (leb (min (w .q .persisted + 32) topHeight) (B .height .0)) (λ k. rw k) (λ k. rw k))
 
     pub gone-15 : (next out : Bytes) → 18446744073709551615 - a .open .head .counter .0 < length gone → ReconcileTold s C (outcome (Refused 15) next out) next out
     unfolding reconcile toRelease touchedRecs
@@ -372,7 +373,7 @@ module _ {s : Bytes} {a : Area} (w : AreaIn s a) {height : ℕ} {tip : Id} {t : 
 
     pub changed-is : {b c : Bool} → c ≡ any? changed? vs → b ≡ (c || ltb 0 (length gone)) → ChangedIs s C b
     unfolding anyTouched touch ownIds
-    changed-is e f q x = f ∙ two (e ∙ judged-any t caught (ownIds (idsAt ids m) (listAt (formC false recC) (a .open .head .count) s (a .open .start))) (appliedIn t k) (listAt (formC false recC) (a .open .head .count) s (a .open .start)) vs (J .all) ∙ ap (λ l. any? (changes? caught (ownIds (idsAt ids m) l) (appliedIn t k)) l) (w .read .store .list)) (sym (some-is (toRelease C (w .q)) many-gone)) ∙ ap (λ v. anyTouched C v || not (isEmpty? (toRelease C v))) (one-queue s (w .is) x)
+    changed-is e f q x = f ∙ two (e ∙ judged-any t (B .caught) (ownIds (idsAt ids (B .available)) (listAt (formC false recC) (a .open .head .count) s (a .open .start))) (appliedIn t (B .entries)) (listAt (formC false recC) (a .open .head .count) s (a .open .start)) vs (J .all) ∙ ap (λ l. any? (changes? (B .caught) (ownIds (idsAt ids (B .available)) l) (appliedIn t (B .entries))) l) (w .read .store .list)) (sym (some-is (toRelease C (w .q)) many-gone)) ∙ ap (λ v. anyTouched C v || not (isEmpty? (toRelease C v))) (one-queue s (w .is) x)
       where
         two : {a a′ b b′ : Bool} → a ≡ a′ → b ≡ b′ → (a || b) ≡ (a′ || b′)
         two e f = cc
@@ -452,13 +453,16 @@ module _ (cur next out : Bytes) {a : Area} (i : AreaIs cur a) (ok : a .ok ≡ tr
       tip-key : j ≡ tip
       tip-key = key (A .good n .long) z
 
-      asked-is : asked height j t (length t / 68) (eqb flag 1) ids (length ids / 32) window ≡ reconciliation Given
+      abbrev block : Block
+      block = record { height = record { 0 = height }; tip = j; entries = length t / 68; caught = eqb flag 1; available = length ids / 32; window = window }
+
+      asked-is : asked block t ids ≡ reconciliation Given
       asked-is = three tip-key (A .good n .applied) (A .good n .available)
         where
           three : {u u′ : Id} {x x′ : List Applied} {y y′ : List Id} → u ≡ u′ → x ≡ x′ → y ≡ y′ → _≡_ {A = Reconciling} (record { height = height; tip = u; applied = x; caughtUp = eqb flag 1; available = y; window = window }) (record { height = height; tip = u′; applied = x′; caughtUp = eqb flag 1; available = y′; window = window })
           three e f g = cc
 
-      pub lent-to : height < 4294967296 → LentTo height j t (length t / 68) (eqb flag 1) ids (length ids / 32) window
+      pub lent-to : height < 4294967296 → LentTo block t ids
       lent-to l = record {
         ok = rw asked-is (reconciling-ok Given (record { height = l; tip = A .smallTip; applied = A .smallApplied }) (shape-is ∙ n));
         entries = A .good n .entries;
@@ -467,6 +471,6 @@ module _ (cur next out : Bytes) {a : Area} (i : AreaIs cur a) (ok : a .ok ≡ tr
         long = ap length tip-key ∙ A .good n .long;
       }
 
-      pub reconcile-rest : {o : Outcome} → ReconcileTold cur (asked height j t (length t / 68) (eqb flag 1) ids (length ids / 32) window) o next out → o ≡ reconcileOf cur next out Given
+      pub reconcile-rest : {o : Outcome} → ReconcileTold cur (asked block t ids) o next out → o ≡ reconcileOf cur next out Given
       unfolding reconcileOf
       reconcile-rest {o} c = let g = i .good ok in let v = c (g .0) (g .1) ∙ ap (λ y. told releasedBytes next out (reconcile y (g .0))) asked-is in rw (g .1, enough, shape-is ∙ n) v

@@ -18,6 +18,7 @@ use Rattle.queue.specs.paper.Records.{Bytes, Id, Rec, mined}
 use Rattle.queue.specs.paper.Lists.{filter, map}
 use Rattle.queue.specs.paper.Sound.{holder?}
 use Rattle.queue.specs.paper.Changing.{withdrawnMark, finished, releaseOne}
+use Rattle.queue.specs.declared.area.Area.{Area}
 use Rattle.queue.specs.declared.frame.Seen.{Seen}
 use Rattle.queue.specs.declared.frame.Facts.{Facts}
 use Rattle.queue.specs.declared.touch.Verdict.{Verdict}
@@ -88,3 +89,7 @@ keptOf c floor ids l = filter (stayR floor) (map (releaseOne c ids) l)
 
 unfoldable pub keptL : Bytes → ℕ → ℕ → Bytes → List ℕ → List ℕ → ℕ → ℕ → List Rec
 keptL s at n t v gone c floor = keptOf c floor (map (idAt s) gone) (nextL s at n t v)
+
+-- those of an area
+abbrev pub keptIn : Bytes → Area → Bytes → List ℕ → List ℕ → ℕ → List Rec
+keptIn s a t v gone floor = keptL s (a .open .start) (a .open .head .count) t v gone (a .open .head .counter .0) floor

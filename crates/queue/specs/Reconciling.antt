@@ -20,7 +20,7 @@ use Rattle.queue.specs.Reopens.{IdsRise, idsAt}
 use Rattle.queue.specs.Arguments.{Small}
 use Rattle.queue.specs.Reconciles.{Reconcilable}
 use Rattle.queue.specs.SelectAs.{idAt}
-use Rattle.queue.specs.Touching.{appliedIn, EntriesRise, ownIds, Judged}
+use Rattle.queue.specs.Touching.{appliedIn, EntriesRise, JudgedAt}
 use Rattle.queue.specs.paper.Records.{Bytes, Id, Queue}
 use Rattle.queue.specs.paper.Lists.{isSome, one, any?, map, concat, isEmpty?}
 use Rattle.queue.specs.paper.Area.{areaBytes, over}
@@ -29,26 +29,27 @@ use Rattle.queue.specs.paper.Decisions.{decisions}
 use Rattle.queue.specs.Checked.{Outcome, told}
 use Rattle.queue.specs.paper.Calls.{releasedBytes}
 use Rattle.queue.specs.declared.area.Area.{Area}
+use Rattle.queue.specs.declared.block.Block.{Block}
 use Rattle.queue.specs.declared.Kind.{Kind}
 use Rattle.queue.specs.declared.Kind.the-variants.{Memory, Cursor}
 use Rattle.queue.specs.declared.Answer.{Answer}
 use Rattle.queue.specs.declared.Answer.the-variants.{Done}
 use Rattle.queue.specs.declared.rules.Query.the-variants.{Tombstones}
 
--- what is lent: k applied entries in t, m available ids in ids
-abbrev pub asked : ℕ → Id → Bytes → ℕ → Bool → Bytes → ℕ → ℕ → Reconciling
-asked height tip t k caught ids m window = record { height = height; tip = tip; applied = appliedIn t k; caughtUp = caught; available = idsAt ids m; window = window }
+-- what is lent: applied entries in t, available ids in ids
+abbrev pub asked : Block → Bytes → Bytes → Reconciling
+asked b t ids = record { height = b .height .0; tip = b .tip; applied = appliedIn t (b .entries); caughtUp = b .caught; available = idsAt ids (b .available); window = b .window }
 
-pub record LentTo (height : ℕ) (tip : Id) (t : Bytes) (k : ℕ) (caught : Bool) (ids : Bytes) (m window : ℕ) : Type 0 where
-  pub ok : Reconcilable (asked height tip t k caught ids m window)
-  pub entries : EntriesRise t k
-  pub rise : IdsRise ids m
+pub record LentTo (b : Block) (t ids : Bytes) : Type 0 where
+  pub ok : Reconcilable (asked b t ids)
+  pub entries : EntriesRise t (b .entries)
+  pub rise : IdsRise ids (b .available)
   pub small : Small t
-  pub long : length tip ≡ 32
+  pub long : length (b .tip) ≡ 32
 
 -- a verdict on each record
-pub record JudgedIn (s : Bytes) (a : Area) (t : Bytes) (k : ℕ) (caught : Bool) (ids : Bytes) (m : ℕ) (v : List ℕ) : Type 0 where
-  pub all : Judged t caught (ownIds (idsAt ids m) (listAt (formC false recC) (a .open .head .count) s (a .open .start))) (appliedIn t k) (listAt (formC false recC) (a .open .head .count) s (a .open .start)) v
+pub record JudgedIn (s : Bytes) (a : Area) (b : Block) (t ids : Bytes) (v : List ℕ) : Type 0 where
+  pub all : JudgedAt s (a .open .start) (a .open .head .count) b t ids v
 
 -- whether a verdict changed a record
 unfoldable pub anyTouched : Reconciling → Queue → Bool

@@ -11,12 +11,14 @@ use Rattle.queue.specs.View.{view}
 use Rattle.queue.specs.Reads.{listAt}
 use Rattle.queue.specs.Forms.{formC}
 use Rattle.queue.specs.Facts.{SeenAs}
+use Rattle.queue.specs.Reopens.{idsAt}
 use Rattle.queue.specs.paper.Records.{Bytes, Id, Rec, queued, conflicted}
 use Rattle.queue.specs.paper.Lists.{isSome, find, map}
 use Rattle.queue.specs.paper.Ids.{same?, rise?}
 use Rattle.queue.specs.paper.Sound.{mined?}
 use Rattle.queue.specs.paper.Changing.{Applied, confirmed?, confirm, queuedOutputs, touchFound, remade}
 use Rattle.queue.specs.paper.Calls.{pieces, appliedOf}
+use Rattle.queue.specs.declared.block.Block.{Block}
 use Rattle.queue.specs.declared.frame.Seen.{Seen}
 use Rattle.queue.specs.declared.frame.Facts.{Facts}
 use Rattle.queue.specs.declared.reading.Found.{Found}
@@ -87,6 +89,10 @@ Judged t caught own es [] [] = Unit {0}
 Judged t caught own es [] (c ∷ v) = ⊥
 Judged t caught own es (r ∷ l) [] = ⊥
 Judged t caught own es (r ∷ l) (c ∷ v) = VerdictOn t caught own es r c × Judged t caught own es l v
+
+-- on each of the n records at `at`
+abbrev pub JudgedAt : Bytes → ℕ → ℕ → Block → Bytes → Bytes → List ℕ → Type 0
+JudgedAt s at n b t ids v = Judged t (b .caught) (ownIds (idsAt ids (b .available)) (listAt (formC false recC) n s at)) (appliedIn t (b .entries)) (listAt (formC false recC) n s at) v
 
 abbrev pub changed? : ℕ → Bool
 changed? c = not (eqb (c % 4) 0)

@@ -2,6 +2,7 @@
 
 pub mod admit;
 pub mod area;
+pub mod block;
 pub mod calls;
 pub mod clash;
 pub mod fees;

@@ -1,4 +1,5 @@
 // The records after a reconciliation, written to another area.
+use super::area::Area;
 use super::finish::Done;
 use super::frame::Facts;
 use super::frame::Finish;
@@ -30,12 +31,11 @@ ghost use Rattle.queue.specs.Codec.{All, encs};
 ghost use Rattle.queue.specs.Arguments.{Small};
 ghost use Rattle.queue.specs.Splice.{Put};
 ghost use Rattle.queue.specs.Frames.{recC};
-ghost use Rattle.queue.specs.Reads.{whole};
-ghost use Rattle.queue.specs.Forms.{formC};
+ghost use Rattle.queue.specs.CallsAs.{AreaIn};
 ghost use Rattle.queue.specs.Reopens.{PartsIn};
 ghost use Rattle.queue.specs.SelectAs.{idAt};
 ghost use Rattle.queue.specs.Touching.{InEntry};
-ghost use Rattle.queue.specs.Rebuilding.{RankRows, Ranked, stateN, reasonN, markN, placeN, placeLen, tailN, tailLen, nextBytes, nextLen, stayF, stepN, numberN, keptL};
+ghost use Rattle.queue.specs.Rebuilding.{RankRows, Ranked, stateN, reasonN, markN, placeN, placeLen, tailN, tailLen, nextBytes, nextLen, stayF, stepN, numberN, keptIn};
 ghost use Rattle.queue.specs.paper.Lists.{map};
 ghost use Rattle.queue.specs.paper.Changing.{placeIn};
 
@@ -113,11 +113,11 @@ fn rank_of(s: &[u8], gone: &[usize], rows: &[u64], ordered: bool, base: usize, i
 }
 
 // State, reason and mark after a verdict; n is the finish number of one that is released, else 0.
-fn state_next(what: u64, n: u64, f: Facts) -> u64
+fn state_next(what: u64, n: Finish, f: Facts) -> u64
     requires { ⌜ f .state < 256 ⌝ }
-    ensures { λ r. ⌜ (r ≡ stateN what n f) × (r < 256) ⌝ }
+    ensures { λ r. ⌜ (r ≡ stateN what (n .0) f) × (r < 256) ⌝ }
 {
-    if n != 0 {
+    if n.0 != 0 {
         return 2;
     }
     if what == 0 {
@@ -129,11 +129,11 @@ fn state_next(what: u64, n: u64, f: Facts) -> u64
     if what == 2 { 0 } else { 3 }
 }
 
-fn reason_next(what: u64, n: u64, f: Facts) -> u64
+fn reason_next(what: u64, n: Finish, f: Facts) -> u64
     requires { ⌜ f .reason < 256 ⌝ }
-    ensures { λ r. ⌜ (r ≡ reasonN what n f) × (r < 256) ⌝ }
+    ensures { λ r. ⌜ (r ≡ reasonN what (n .0) f) × (r < 256) ⌝ }
 {
-    if n != 0 {
+    if n.0 != 0 {
         return 0;
     }
     if what == 0 {
@@ -183,12 +183,12 @@ fn put_place(
 }
 
 // Finish number and body: the record's own, or those of one that is released.
-fn put_tail(src: &[u8], base: usize, x: Seen, n: u64, dst: &mut [u8], at: usize) -> usize
-    requires { ⌜ PartsIn (now src) base x × (at + tailLen x n ≤ length (now dst)) ⌝ }
-    ensures { λ r. ⌜ Put (now (dst .entry)) at (tailN (now (src .entry)) base x n) (tailLen x n) r (now (dst .exit)) ⌝ }
+fn put_tail(src: &[u8], base: usize, x: Seen, n: Finish, dst: &mut [u8], at: usize) -> usize
+    requires { ⌜ PartsIn (now src) base x × (at + tailLen x (n .0) ≤ length (now dst)) ⌝ }
+    ensures { λ r. ⌜ Put (now (dst .entry)) at (tailN (now (src .entry)) base x (n .0)) (tailLen x (n .0)) r (now (dst .exit)) ⌝ }
 {
-    if n != 0 {
-        let a = put_be(dst, at, 8, n);
+    if n.0 != 0 {
+        let a = put_be(dst, at, 8, n.0);
         return put_u8(dst, a, 0);
     }
     let m = x.mark + 1;
@@ -202,12 +202,12 @@ fn put_next(
     x: Seen,
     t: &[u8],
     v: Verdict,
-    n: u64,
+    n: Finish,
     dst: &mut [u8],
     at: usize,
 ) -> usize
-    requires { ⌜ PartsIn (now src) base x × (v .what ≡ 1 → v .at + 68 ≤ length (now t)) × ((x .facts .state < 256) × (x .facts .reason < 256) × (x .facts .mark < 256)) × (at + nextLen x v n ≤ length (now dst)) ⌝ }
-    ensures { λ r. ⌜ Put (now (dst .entry)) at (nextBytes (now (src .entry)) base x (now (t .entry)) v n) (nextLen x v n) r (now (dst .exit)) ⌝ }
+    requires { ⌜ PartsIn (now src) base x × (v .what ≡ 1 → v .at + 68 ≤ length (now t)) × ((x .facts .state < 256) × (x .facts .reason < 256) × (x .facts .mark < 256)) × (at + nextLen x v (n .0) ≤ length (now dst)) ⌝ }
+    ensures { λ r. ⌜ Put (now (dst .entry)) at (nextBytes (now (src .entry)) base x (now (t .entry)) v (n .0)) (nextLen x v (n .0)) r (now (dst .exit)) ⌝ }
 {
     let f = x.facts;
     let id = x.id;
@@ -227,11 +227,11 @@ fn put_next(
 }
 
 // Does a record stay? n is its finish number if it is released, else 0.
-fn stays(n: u64, floor: Finish, f: Facts) -> bool
-    ensures { λ r. ⌜ r ≡ stayF n (floor .0) f ⌝ }
+fn stays(n: Finish, floor: Finish, f: Facts) -> bool
+    ensures { λ r. ⌜ r ≡ stayF (n .0) (floor .0) f ⌝ }
 {
-    if n != 0 {
-        return floor.0 <= n;
+    if n.0 != 0 {
+        return floor.0 <= n.0;
     }
     let m = f.finish;
     either(f.holder, floor.0 <= m.0)
@@ -243,13 +243,13 @@ fn put_step(
     x: Seen,
     t: &[u8],
     v: Verdict,
-    n: u64,
+    n: Finish,
     stay: bool,
     dst: &mut [u8],
     at: usize,
 ) -> usize
-    requires { ⌜ PartsIn (now src) base x × (v .what ≡ 1 → v .at + 68 ≤ length (now t)) × ((x .facts .state < 256) × (x .facts .reason < 256) × (x .facts .mark < 256)) × (at + length (stepN (now src) base x (now t) v n stay) ≤ length (now dst)) ⌝ }
-    ensures { λ r. ⌜ Put (now (dst .entry)) at (stepN (now (src .entry)) base x (now (t .entry)) v n stay) (length (stepN (now (src .entry)) base x (now (t .entry)) v n stay)) r (now (dst .exit)) ⌝ }
+    requires { ⌜ PartsIn (now src) base x × (v .what ≡ 1 → v .at + 68 ≤ length (now t)) × ((x .facts .state < 256) × (x .facts .reason < 256) × (x .facts .mark < 256)) × (at + length (stepN (now src) base x (now t) v (n .0) stay) ≤ length (now dst)) ⌝ }
+    ensures { λ r. ⌜ Put (now (dst .entry)) at (stepN (now (src .entry)) base x (now (t .entry)) v (n .0) stay) (length (stepN (now (src .entry)) base x (now (t .entry)) v (n .0) stay)) r (now (dst .exit)) ⌝ }
 {
     if stay {
         return put_next(src, base, x, t, v, n, dst, at);
@@ -258,33 +258,36 @@ fn put_step(
 }
 
 // The finish number of a record that is released at rank r; 0 for one that is not.
-fn number_of(counter: Finish, r: u64) -> u64
+fn number_of(counter: Finish, r: u64) -> Finish
     requires { ⌜ counter .0 + r < 18446744073709551616 ⌝ }
-    ensures { λ n. ⌜ n ≡ numberN (counter .0) r ⌝ }
+    ensures { λ n. ⌜ n .0 ≡ numberN (counter .0) r ⌝ }
 {
-    if r == 0 { 0 } else { counter.0 + r }
+    if r == 0 {
+        return Finish(0);
+    }
+    Finish(counter.0 + r)
 }
 
-// n records from `at` of src, after their verdicts, those at the places gone released and those below the floor left out.
+// The records of src after their verdicts, those at the places gone released and those below the floor left out.
 pub fn put_all(
     src: &[u8],
-    at: usize,
-    n: u64,
+    a: Area,
     t: &[u8],
     vs: &[u64],
     gone: &[usize],
     rows: &[u64],
     ordered: bool,
-    counter: Finish,
     floor: Finish,
     dst: &mut [u8],
     to: usize,
 ) -> Done
-    requires { ⌜ (at ≤ length (now src)) × (whole (formC false recC) n (now src) at ≡ true) × ((length (now vs) ≡ n) × All (InEntry (now t)) (now vs) × Small (now t)) × (All (λ p. p + 33 ≤ length (now src)) (now gone) × (length (now gone) ≤ 2048) × (ordered ≡ true → Ranked (now src) (now gone) (now rows))) × (counter .0 + length (now gone) < 18446744073709551616) × (n < 4294967296) × (to + length (encs recC (keptL (now src) at n (now t) (now vs) (now gone) (counter .0) (floor .0))) ≤ length (now dst)) ⌝ }
-    ensures { λ r. ⌜ Put (now (dst .entry)) to (encs recC (keptL (now (src .entry)) at n (now (t .entry)) (now (vs .entry)) (now (gone .entry)) (counter .0) (floor .0))) (length (encs recC (keptL (now (src .entry)) at n (now (t .entry)) (now (vs .entry)) (now (gone .entry)) (counter .0) (floor .0)))) (r .at) (now (dst .exit)) × (r .kept ≡ length (keptL (now (src .entry)) at n (now (t .entry)) (now (vs .entry)) (now (gone .entry)) (counter .0) (floor .0))) ⌝ }
+    requires { ⌜ AreaIn (now src) a × ((length (now vs) ≡ a .open .head .count) × All (InEntry (now t)) (now vs) × Small (now t)) × (All (λ p. p + 33 ≤ length (now src)) (now gone) × (length (now gone) ≤ 2048) × (ordered ≡ true → Ranked (now src) (now gone) (now rows))) × (a .open .head .counter .0 + length (now gone) < 18446744073709551616) × (to + length (encs recC (keptIn (now src) a (now t) (now vs) (now gone) (floor .0))) ≤ length (now dst)) ⌝ }
+    ensures { λ r. ⌜ Put (now (dst .entry)) to (encs recC (keptIn (now (src .entry)) a (now (t .entry)) (now (vs .entry)) (now (gone .entry)) (floor .0))) (length (encs recC (keptIn (now (src .entry)) a (now (t .entry)) (now (vs .entry)) (now (gone .entry)) (floor .0)))) (r .at) (now (dst .exit)) × (r .kept ≡ length (keptIn (now (src .entry)) a (now (t .entry)) (now (vs .entry)) (now (gone .entry)) (floor .0))) ⌝ }
 {
-    let mut i = at;
-    let mut left = n;
+    let p = a.open;
+    let h = p.head;
+    let mut i = p.start;
+    let mut left = h.count;
     let mut j: usize = 0;
     let mut o = to;
     let mut kept: u64 = 0;
@@ -293,7 +296,7 @@ pub fn put_all(
         let f = x.facts;
         let id = x.id;
         let v = verdict_of(t, vs[j]);
-        let number = number_of(counter, rank_of(src, gone, rows, ordered, i, id));
+        let number = number_of(h.counter, rank_of(src, gone, rows, ordered, i, id));
         let stay = stays(number, floor, f);
         o = put_step(src, i, x, t, v, number, stay, dst, o);
         kept = kept + one_if(stay);

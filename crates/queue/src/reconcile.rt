@@ -3,6 +3,7 @@ use super::Answer;
 use super::Kind;
 use super::area::Area;
 use super::area::area_at;
+use super::block::Block;
 use super::finish::floor;
 use super::frame::Finish;
 use super::frame::Height;
@@ -69,22 +70,17 @@ fn release_rows(
 fn release_all(
     s: &[u8],
     a: Area,
-    height: Height,
-    tip: [u8; 32],
+    b: Block,
     t: &[u8],
-    k: u64,
-    caught: bool,
     ids: &[u8],
-    m: u64,
-    window: u64,
     vs: &[u64],
     ranks: &mut [u64],
     times: &mut [u64],
     places: &mut [usize],
     gone: &mut [usize],
 ) -> Walked
-    requires { ⌜ AreaIn (now s) a × LentTo (height .0) tip (now t) k caught (now ids) m window × JudgedIn (now s) a (now t) k caught (now ids) m (now vs) × Even 2048 (now ranks) (now times) (now places) × (length (now gone) ≡ 2048) ⌝ }
-    ensures { λ r. ⌜ (r .gone ≤ 2048) × GoneAre (now (s .entry)) (asked (height .0) tip (now (t .entry)) k caught (now (ids .entry)) m window) (take (r .gone) (now (gone .exit))) × (length (now (gone .exit)) ≡ 2048) × DecidedAre (now (s .entry)) (asked (height .0) tip (now (t .entry)) k caught (now (ids .entry)) m window) (r .decided) ⌝ }
+    requires { ⌜ AreaIn (now s) a × LentTo b (now t) (now ids) × JudgedIn (now s) a b (now t) (now ids) (now vs) × Even 2048 (now ranks) (now times) (now places) × (length (now gone) ≡ 2048) ⌝ }
+    ensures { λ r. ⌜ (r .gone ≤ 2048) × GoneAre (now (s .entry)) (asked b (now (t .entry)) (now (ids .entry))) (take (r .gone) (now (gone .exit))) × (length (now (gone .exit)) ≡ 2048) × DecidedAre (now (s .entry)) (asked b (now (t .entry)) (now (ids .entry))) (r .decided) ⌝ }
 {
     let o = a.open;
     let h = o.head;
@@ -95,8 +91,8 @@ fn release_all(
         &mut ranks[..c],
         &mut times[..c],
         &mut places[..c],
-        height,
-        window,
+        b.height,
+        b.window,
         l.p,
         l.b,
         gone,
@@ -104,61 +100,45 @@ fn release_all(
 }
 
 // The lowest finish number that stays once g records are released; 0 where none is.
-fn floor_for(s: &[u8], a: Area, g: u64) -> u64
+fn floor_for(s: &[u8], a: Area, g: u64) -> Finish
     requires { ⌜ AreaIn (now s) a × (g ≤ a .open .head .count) × (a .open .head .counter .0 + g < 18446744073709551616) ⌝ }
-    ensures { λ r. ⌜ FloorFor (now (s .entry)) a g r ⌝ }
+    ensures { λ r. ⌜ FloorFor (now (s .entry)) a g (r .0) ⌝ }
 {
     if g == 0 {
-        return 0;
+        return Finish(0);
     }
     let o = a.open;
     let h = o.head;
     let n = h.counter;
     let l = h.limits;
-    floor(s, o.start, h.count, n.0, g, l.t)
+    Finish(floor(s, o.start, h.count, n.0, g, l.t))
 }
 
 // The queue of src after its reconciliation, with the records at the places gone released; rows has room for their ranks.
 fn put_whole(
     src: &[u8],
     a: Area,
-    height: Height,
-    tip: [u8; 32],
+    b: Block,
     t: &[u8],
-    k: u64,
-    caught: bool,
     ids: &[u8],
-    m: u64,
-    window: u64,
     vs: &[u64],
     gone: &[usize],
     rows: &mut [u64],
     dst: &mut [u8],
 )
-    requires { ⌜ AreaIn (now src) a × LentTo (height .0) tip (now t) k caught (now ids) m window × JudgedIn (now src) a (now t) k caught (now ids) m (now vs) × GoneAre (now src) (asked (height .0) tip (now t) k caught (now ids) m window) (now gone) × (a .open .head .counter .0 + length (now gone) < 18446744073709551616) × ChangedIs (now src) (asked (height .0) tip (now t) k caught (now ids) m window) true × (a .need ≤ length (now dst)) ⌝ }
-    ensures { λ _. ⌜ WholeTo (now (src .entry)) (asked (height .0) tip (now (t .entry)) k caught (now (ids .entry)) m window) (now (dst .entry)) (now (dst .exit)) ⌝ }
+    requires { ⌜ AreaIn (now src) a × LentTo b (now t) (now ids) × JudgedIn (now src) a b (now t) (now ids) (now vs) × GoneAre (now src) (asked b (now t) (now ids)) (now gone) × (a .open .head .counter .0 + length (now gone) < 18446744073709551616) × ChangedIs (now src) (asked b (now t) (now ids)) true × (a .need ≤ length (now dst)) ⌝ }
+    ensures { λ _. ⌜ WholeTo (now (src .entry)) (asked b (now (t .entry)) (now (ids .entry))) (now (dst .entry)) (now (dst .exit)) ⌝ }
 {
     let o = a.open;
     let h = o.head;
     let n = h.counter;
     let g = gone.len() as u64;
+    let height = b.height;
+    let tip = b.tip;
     let to = FRONT + tip_len(true);
     let f = floor_for(src, a, g);
     let ordered = order_ranks(src, gone, rows);
-    let w = put_all(
-        src,
-        o.start,
-        h.count,
-        t,
-        vs,
-        gone,
-        rows,
-        ordered,
-        n,
-        Finish(f),
-        dst,
-        to,
-    );
+    let w = put_all(src, a, t, vs, gone, rows, ordered, f, dst, to);
     let marks = Marks {
         persisted: height,
         revision: std::num::wrapping_add_u64(h.revision, 1),
@@ -223,21 +203,16 @@ fn reconcile_gone(
     cur: &[u8],
     next: &mut [u8],
     a: Area,
-    height: Height,
-    tip: [u8; 32],
+    b: Block,
     t: &[u8],
-    k: u64,
-    caught: bool,
     ids: &[u8],
-    m: u64,
-    window: u64,
     vs: &[u64],
     gone: &[usize],
     rows: &mut [u64],
     out: &mut [u8],
 ) -> Answer
-    requires { ⌜ AreaIn (now cur) a × LentTo (height .0) tip (now t) k caught (now ids) m window × JudgedIn (now cur) a (now t) k caught (now ids) m (now vs) × GoneAre (now cur) (asked (height .0) tip (now t) k caught (now ids) m window) (now gone) × (a .need ≤ length (now next)) ⌝ }
-    ensures { λ r. ⌜ ReconcileTold (now (cur .entry)) (asked (height .0) tip (now (t .entry)) k caught (now (ids .entry)) m window) (outcome r (now (next .exit)) (now (out .exit))) (now (next .entry)) (now (out .entry)) ⌝ }
+    requires { ⌜ AreaIn (now cur) a × LentTo b (now t) (now ids) × JudgedIn (now cur) a b (now t) (now ids) (now vs) × GoneAre (now cur) (asked b (now t) (now ids)) (now gone) × (a .need ≤ length (now next)) ⌝ }
+    ensures { λ r. ⌜ ReconcileTold (now (cur .entry)) (asked b (now (t .entry)) (now (ids .entry))) (outcome r (now (next .exit)) (now (out .exit))) (now (next .entry)) (now (out .entry)) ⌝ }
 {
     let o = a.open;
     let h = o.head;
@@ -252,25 +227,11 @@ fn reconcile_gone(
     let changed = either(any_touched(vs), 0 < g);
     put_gone(cur, changed, gone, out);
     if changed {
-        put_whole(
-            cur,
-            a,
-            height,
-            tip,
-            t,
-            k,
-            caught,
-            ids,
-            m,
-            window,
-            vs,
-            gone,
-            rows,
-            next,
-        );
+        put_whole(cur, a, b, t, ids, vs, gone, rows, next);
         return Answer::Done(Kind::Whole);
     }
-    put_cursor(cur, next, a, height, tip)
+    let tip = b.tip;
+    put_cursor(cur, next, a, b.height, tip)
 }
 
 // With what is lent known to fit. How many were decided is in no answer.
@@ -278,24 +239,19 @@ fn reconcile_lent(
     cur: &[u8],
     next: &mut [u8],
     a: Area,
-    height: Height,
-    tip: [u8; 32],
+    b: Block,
     t: &[u8],
-    k: u64,
-    caught: bool,
     ids: &[u8],
-    m: u64,
-    window: u64,
     out: &mut [u8],
 ) -> Answer
-    requires { ⌜ AreaIn (now cur) a × LentTo (height .0) tip (now t) k caught (now ids) m window × (a .need ≤ length (now next)) ⌝ }
-    ensures { λ r. ⌜ ReconcileTold (now (cur .entry)) (asked (height .0) tip (now (t .entry)) k caught (now (ids .entry)) m window) (outcome r (now (next .exit)) (now (out .exit))) (now (next .entry)) (now (out .entry)) ⌝ }
+    requires { ⌜ AreaIn (now cur) a × LentTo b (now t) (now ids) × (a .need ≤ length (now next)) ⌝ }
+    ensures { λ r. ⌜ ReconcileTold (now (cur .entry)) (asked b (now (t .entry)) (now (ids .entry))) (outcome r (now (next .exit)) (now (out .exit))) (now (next .entry)) (now (out .entry)) ⌝ }
 {
     let o = a.open;
     let h = o.head;
     let n = h.count as usize;
     let mut vs = [0u64; 3072];
-    judge(cur, o.start, h.count, t, k, caught, ids, m, &mut vs);
+    judge(cur, o.start, h.count, t, b, ids, &mut vs);
     let mut ranks = [0u64; 2048];
     let mut times = [0u64; 2048];
     let mut places = [0usize; 2048];
@@ -303,14 +259,9 @@ fn reconcile_lent(
     let w = release_all(
         cur,
         a,
-        height,
-        tip,
+        b,
         t,
-        k,
-        caught,
         ids,
-        m,
-        window,
         &vs[..n],
         &mut ranks,
         &mut times,
@@ -321,14 +272,9 @@ fn reconcile_lent(
         cur,
         next,
         a,
-        height,
-        tip,
+        b,
         t,
-        k,
-        caught,
         ids,
-        m,
-        window,
         &vs[..n],
         &gone[..w.gone],
         &mut ranks[..w.gone],
@@ -361,20 +307,13 @@ pub fn reconcile(
         return Answer::Refused(5);
     }
     let i = id_at(tip, false, 0, 0);
-    let k = (applied.len() / 68) as u64;
-    let m = (ids.len() / 32) as u64;
-    reconcile_lent(
-        cur,
-        next,
-        a,
-        Height(height as u64),
-        i,
-        applied,
-        k,
-        flag == 1,
-        ids,
-        m,
-        window as u64,
-        out,
-    )
+    let b = Block {
+        height: Height(height as u64),
+        tip: i,
+        entries: (applied.len() / 68) as u64,
+        caught: flag == 1,
+        available: (ids.len() / 32) as u64,
+        window: window as u64,
+    };
+    reconcile_lent(cur, next, a, b, applied, ids, out)
 }

@@ -31,15 +31,14 @@ fn mined_after(what: u64, f: Facts) -> bool
 }
 
 // The height that it is Mined at then.
-fn height_after(t: &[u8], v: Verdict, f: Facts) -> u64
+fn height_after(t: &[u8], v: Verdict, f: Facts) -> Height
     requires { ⌜ (v .what ≡ 1 → v .at + 68 ≤ length (now t)) ⌝ }
-    ensures { λ r. ⌜ r ≡ heightF (now (t .entry)) v f ⌝ }
+    ensures { λ r. ⌜ r .0 ≡ heightF (now (t .entry)) v f ⌝ }
 {
     if v.what == 1 {
-        return be(t, false, 0, v.at + 32, 4);
+        return Height(be(t, false, 0, v.at + 32, 4));
     }
-    let h = f.mined;
-    h.0
+    f.mined
 }
 
 // A row for each Mined holder: height, how many records were left, place.
@@ -66,7 +65,7 @@ pub fn gather_mined(
         let v = verdict_of(t, vs[j]);
         let sel = mined_after(v.what, f);
         let h = height_after(t, v, f);
-        c = add_row(ranks, times, places, c, sel, h, left, i);
+        c = add_row(ranks, times, places, c, sel, h.0, left, i);
         i = after_in(s, false, i, x.size);
         left = left - 1;
         j += 1;
@@ -91,10 +90,10 @@ fn minus(a: u64, b: u64) -> u64
 }
 
 // Is one released that is Mined at level, after seen others, with so many bytes up to it?
-fn is_out(height: Height, window: u64, p: u64, b: u64, level: u64, seen: u64, bytes: u64) -> bool
-    ensures { λ r. ⌜ r ≡ (leb window (height .0 - level) || (leb p seen || ltb b bytes)) ⌝ }
+fn is_out(height: Height, window: u64, p: u64, b: u64, level: Height, seen: u64, bytes: u64) -> bool
+    ensures { λ r. ⌜ r ≡ (leb window (height .0 - level .0) || (leb p seen || ltb b bytes)) ⌝ }
 {
-    let d = minus(height.0, level);
+    let d = minus(height.0, level.0);
     either(window <= d, either(p <= seen, b < bytes))
 }
 
@@ -136,7 +135,7 @@ pub fn release(
     let mut sum: u64 = 0;
     while j < places.len() {
         let q = places[j];
-        let h = ranks[j];
+        let h = Height(ranks[j]);
         sum = sum + bytes_at(s, q);
         let out = is_out(height, window, p, b, h, decided, sum);
         g = add_place(gone, g, out, q);

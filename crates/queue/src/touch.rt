@@ -1,4 +1,5 @@
 // What a reconciliation makes of one record, before anything is released.
+use super::block::Block;
 use super::forms::after_in;
 use super::frame::Facts;
 use super::frame::Seen;
@@ -24,7 +25,7 @@ ghost use Rattle.queue.specs.Forms.{formC};
 ghost use Rattle.queue.specs.View.{view};
 ghost use Rattle.queue.specs.Reopens.{IdsRise, idsAt};
 ghost use Rattle.queue.specs.Owning.{wantedOf, wantedAt, FlagsAre, QuickFor};
-ghost use Rattle.queue.specs.Touching.{appliedIn, EntriesRise, EntryAs, SeenHere, ConfirmedIs, ownIds, judgeF, verdictOf, InEntry, TouchIs, Judged, changed?};
+ghost use Rattle.queue.specs.Touching.{EntriesRise, EntryAs, SeenHere, ConfirmedIs, ownIds, judgeF, verdictOf, InEntry, TouchIs, JudgedAt, changed?};
 ghost use Rattle.queue.specs.paper.Lists.{any?, all?};
 ghost use Rattle.queue.specs.paper.Sound.{among?};
 ghost use Rattle.queue.specs.paper.Changing.{queuedOutputs};
@@ -181,8 +182,8 @@ fn judge(fine: bool, f: Facts) -> u64
     3
 }
 
-// The verdict on the record read at base, of the n records at `at`; t has k applied entries, ids m available ids, and the flags of
-// the ids that it wants begin at g, where there are flags.
+// The verdict on the record read at base, of the n records at `at`; the flags of the ids that it wants begin at g, where there are
+// flags.
 // In one number: what, and four times the number of the applied entry.
 fn touched(
     s: &[u8],
@@ -191,30 +192,28 @@ fn touched(
     base: usize,
     x: Seen,
     t: &[u8],
-    k: u64,
-    caught: bool,
+    b: Block,
     ids: &[u8],
-    m: u64,
     quick: bool,
     flags: &[u8],
     g: usize,
 ) -> u64
-    requires { ⌜ (at ≤ length (now s)) × (whole (formC false recC) n (now s) at ≡ true) × SeenHere (now s) base x × EntriesRise (now t) k × IdsRise (now ids) m × QuickFor quick (ownIds (idsAt (now ids) m) (listAt (formC false recC) n (now s) at)) (wantedAt (view false (now s) base) x) (now flags) g (x .facts .ins + x .facts .reads) ⌝ }
-    ensures { λ r. ⌜ TouchIs (now (s .entry)) at n base x (now (t .entry)) k caught (idsAt (now (ids .entry)) m) r ⌝ }
+    requires { ⌜ (at ≤ length (now s)) × (whole (formC false recC) n (now s) at ≡ true) × SeenHere (now s) base x × EntriesRise (now t) (b .entries) × IdsRise (now ids) (b .available) × QuickFor quick (ownIds (idsAt (now ids) (b .available)) (listAt (formC false recC) n (now s) at)) (wantedAt (view false (now s) base) x) (now flags) g (x .facts .ins + x .facts .reads) ⌝ }
+    ensures { λ r. ⌜ TouchIs (now (s .entry)) at n base x (now (t .entry)) (b .entries) (b .caught) (idsAt (now (ids .entry)) (b .available)) r ⌝ }
 {
     let id = x.id;
     let f = x.facts;
-    let e = find_entry(t, k, id);
+    let e = find_entry(t, b.entries, id);
     if e.found {
         if confirmed(s, base, x, t, 68 * e.at) {
             return 0;
         }
         return e.at as u64 * 4 + 1;
     }
-    if !both(caught, pending(f.state)) {
+    if !both(b.caught, pending(f.state)) {
         return 0;
     }
-    let a = all_owned(s, at, n, base, x, ids, m, quick, flags, g);
+    let a = all_owned(s, at, n, base, x, ids, b.available, quick, flags, g);
     judge(a, f)
 }
 
@@ -239,16 +238,14 @@ pub fn judge_all(
     at: usize,
     n: u64,
     t: &[u8],
-    k: u64,
-    caught: bool,
+    b: Block,
     ids: &[u8],
-    m: u64,
     quick: bool,
     flags: &[u8],
     vs: &mut [u64],
 )
-    requires { ⌜ (at ≤ length (now s)) × (whole (formC false recC) n (now s) at ≡ true) × EntriesRise (now t) k × IdsRise (now ids) m × (n ≤ length (now vs)) × (n < 4294967296) × (quick ≡ true → FlagsAre (λ z. among? z (ownIds (idsAt (now ids) m) (listAt (formC false recC) n (now s) at))) (wantedOf (listAt (formC false recC) n (now s) at)) (now flags)) ⌝ }
-    ensures { λ _. ⌜ Judged (now (t .entry)) caught (ownIds (idsAt (now (ids .entry)) m) (listAt (formC false recC) n (now (s .entry)) at)) (appliedIn (now (t .entry)) k) (listAt (formC false recC) n (now (s .entry)) at) (take n (now (vs .exit))) ⌝ }
+    requires { ⌜ (at ≤ length (now s)) × (whole (formC false recC) n (now s) at ≡ true) × EntriesRise (now t) (b .entries) × IdsRise (now ids) (b .available) × (n ≤ length (now vs)) × (n < 4294967296) × (quick ≡ true → FlagsAre (λ z. among? z (ownIds (idsAt (now ids) (b .available)) (listAt (formC false recC) n (now s) at))) (wantedOf (listAt (formC false recC) n (now s) at)) (now flags)) ⌝ }
+    ensures { λ _. ⌜ JudgedAt (now (s .entry)) at n b (now (t .entry)) (now (ids .entry)) (take n (now (vs .exit))) ⌝ }
 {
     let mut i = at;
     let mut left = n;
@@ -257,7 +254,7 @@ pub fn judge_all(
     while 0 < left {
         let x = rec_at(s, i);
         let f = x.facts;
-        let c = touched(s, at, n, i, x, t, k, caught, ids, m, quick, flags, g);
+        let c = touched(s, at, n, i, x, t, b, ids, quick, flags, g);
         vs[j] = c;
         g = g + (f.ins + f.reads) as usize;
         i = after_in(s, false, i, x.size);

@@ -1,4 +1,5 @@
 // The verdicts of a reconciliation, worked out once, with tables as large as the number of wanted ids, inputs and read ids, asks for.
+use super::block::Block;
 use super::logic::both;
 use super::own::count_wanted;
 use super::own::few_flags;
@@ -12,9 +13,9 @@ ghost use lib.ListN.{length, take};
 ghost use Rattle.queue.specs.Frames.{recC};
 ghost use Rattle.queue.specs.Forms.{formC};
 ghost use Rattle.queue.specs.Reads.{whole, listAt};
-ghost use Rattle.queue.specs.Reopens.{IdsRise, idsAt};
+ghost use Rattle.queue.specs.Reopens.{IdsRise};
 ghost use Rattle.queue.specs.Owning.{wantedOf};
-ghost use Rattle.queue.specs.Touching.{appliedIn, EntriesRise, ownIds, Judged};
+ghost use Rattle.queue.specs.Touching.{EntriesRise, JudgedAt};
 
 // With flags for all wanted ids.
 fn judge_with(
@@ -22,20 +23,18 @@ fn judge_with(
     at: usize,
     n: u64,
     t: &[u8],
-    k: u64,
-    caught: bool,
+    b: Block,
     ids: &[u8],
-    m: u64,
     total: u64,
     v: &mut [u64],
     flags: &mut [u8],
     vs: &mut [u64],
 )
-    requires { ⌜ (at ≤ length (now s)) × (whole (formC false recC) n (now s) at ≡ true) × EntriesRise (now t) k × IdsRise (now ids) m × (n ≤ length (now vs)) × (n < 4294967296) × (length (now s) < 4294967296) × (total ≡ length (wantedOf (listAt (formC false recC) n (now s) at))) × (total ≤ length (now flags)) × (0 < length (now v)) ⌝ }
-    ensures { λ _. ⌜ Judged (now (t .entry)) caught (ownIds (idsAt (now (ids .entry)) m) (listAt (formC false recC) n (now (s .entry)) at)) (appliedIn (now (t .entry)) k) (listAt (formC false recC) n (now (s .entry)) at) (take n (now (vs .exit))) ⌝ }
+    requires { ⌜ (at ≤ length (now s)) × (whole (formC false recC) n (now s) at ≡ true) × EntriesRise (now t) (b .entries) × IdsRise (now ids) (b .available) × (n ≤ length (now vs)) × (n < 4294967296) × (length (now s) < 4294967296) × (total ≡ length (wantedOf (listAt (formC false recC) n (now s) at))) × (total ≤ length (now flags)) × (0 < length (now v)) ⌝ }
+    ensures { λ _. ⌜ JudgedAt (now (s .entry)) at n b (now (t .entry)) (now (ids .entry)) (take n (now (vs .exit))) ⌝ }
 {
-    own_flags(s, at, n, ids, m, v, flags, total);
-    judge_all(s, at, n, t, k, caught, ids, m, true, flags, vs);
+    own_flags(s, at, n, ids, b.available, v, flags, total);
+    judge_all(s, at, n, t, b, ids, true, flags, vs);
 }
 
 // The same for few.
@@ -44,20 +43,18 @@ fn few_with(
     at: usize,
     n: u64,
     t: &[u8],
-    k: u64,
-    caught: bool,
+    b: Block,
     ids: &[u8],
-    m: u64,
     total: u64,
     v: &mut [u64],
     flags: &mut [u8],
     vs: &mut [u64],
 )
-    requires { ⌜ (at ≤ length (now s)) × (whole (formC false recC) n (now s) at ≡ true) × EntriesRise (now t) k × IdsRise (now ids) m × (n ≤ length (now vs)) × (n < 4294967296) × (length (now s) < 4294967296) × (total ≡ length (wantedOf (listAt (formC false recC) n (now s) at))) × (total ≤ length (now flags)) × (0 < length (now v)) ⌝ }
-    ensures { λ _. ⌜ Judged (now (t .entry)) caught (ownIds (idsAt (now (ids .entry)) m) (listAt (formC false recC) n (now (s .entry)) at)) (appliedIn (now (t .entry)) k) (listAt (formC false recC) n (now (s .entry)) at) (take n (now (vs .exit))) ⌝ }
+    requires { ⌜ (at ≤ length (now s)) × (whole (formC false recC) n (now s) at ≡ true) × EntriesRise (now t) (b .entries) × IdsRise (now ids) (b .available) × (n ≤ length (now vs)) × (n < 4294967296) × (length (now s) < 4294967296) × (total ≡ length (wantedOf (listAt (formC false recC) n (now s) at))) × (total ≤ length (now flags)) × (0 < length (now v)) ⌝ }
+    ensures { λ _. ⌜ JudgedAt (now (s .entry)) at n b (now (t .entry)) (now (ids .entry)) (take n (now (vs .exit))) ⌝ }
 {
-    few_flags(s, at, n, ids, m, v, flags, total);
-    judge_all(s, at, n, t, k, caught, ids, m, true, flags, vs);
+    few_flags(s, at, n, ids, b.available, v, flags, total);
+    judge_all(s, at, n, t, b, ids, true, flags, vs);
 }
 
 // The same for the most.
@@ -66,20 +63,18 @@ fn most_with(
     at: usize,
     n: u64,
     t: &[u8],
-    k: u64,
-    caught: bool,
+    b: Block,
     ids: &[u8],
-    m: u64,
     total: u64,
     v: &mut [u64],
     flags: &mut [u8],
     vs: &mut [u64],
 )
-    requires { ⌜ (at ≤ length (now s)) × (whole (formC false recC) n (now s) at ≡ true) × EntriesRise (now t) k × IdsRise (now ids) m × (n ≤ length (now vs)) × (n < 4294967296) × (length (now s) < 4294967296) × (total ≡ length (wantedOf (listAt (formC false recC) n (now s) at))) × (total ≤ length (now flags)) × (0 < length (now v)) ⌝ }
-    ensures { λ _. ⌜ Judged (now (t .entry)) caught (ownIds (idsAt (now (ids .entry)) m) (listAt (formC false recC) n (now (s .entry)) at)) (appliedIn (now (t .entry)) k) (listAt (formC false recC) n (now (s .entry)) at) (take n (now (vs .exit))) ⌝ }
+    requires { ⌜ (at ≤ length (now s)) × (whole (formC false recC) n (now s) at ≡ true) × EntriesRise (now t) (b .entries) × IdsRise (now ids) (b .available) × (n ≤ length (now vs)) × (n < 4294967296) × (length (now s) < 4294967296) × (total ≡ length (wantedOf (listAt (formC false recC) n (now s) at))) × (total ≤ length (now flags)) × (0 < length (now v)) ⌝ }
+    ensures { λ _. ⌜ JudgedAt (now (s .entry)) at n b (now (t .entry)) (now (ids .entry)) (take n (now (vs .exit))) ⌝ }
 {
-    most_flags(s, at, n, ids, m, v, flags, total);
-    judge_all(s, at, n, t, k, caught, ids, m, true, flags, vs);
+    most_flags(s, at, n, ids, b.available, v, flags, total);
+    judge_all(s, at, n, t, b, ids, true, flags, vs);
 }
 
 // With room for few: rows for the outputs, and flags.
@@ -88,17 +83,15 @@ fn judge_few(
     at: usize,
     n: u64,
     t: &[u8],
-    k: u64,
-    caught: bool,
+    b: Block,
     ids: &[u8],
-    m: u64,
     total: u64,
     rows: usize,
     room: usize,
     vs: &mut [u64],
 )
-    requires { ⌜ (at ≤ length (now s)) × (whole (formC false recC) n (now s) at ≡ true) × EntriesRise (now t) k × IdsRise (now ids) m × (n ≤ length (now vs)) × (n < 4294967296) × (length (now s) < 4294967296) × (total ≡ length (wantedOf (listAt (formC false recC) n (now s) at))) × (total ≤ room) × ((room ≤ 8192) × (0 < rows) × (rows ≤ 2048)) ⌝ }
-    ensures { λ _. ⌜ Judged (now (t .entry)) caught (ownIds (idsAt (now (ids .entry)) m) (listAt (formC false recC) n (now (s .entry)) at)) (appliedIn (now (t .entry)) k) (listAt (formC false recC) n (now (s .entry)) at) (take n (now (vs .exit))) ⌝ }
+    requires { ⌜ (at ≤ length (now s)) × (whole (formC false recC) n (now s) at ≡ true) × EntriesRise (now t) (b .entries) × IdsRise (now ids) (b .available) × (n ≤ length (now vs)) × (n < 4294967296) × (length (now s) < 4294967296) × (total ≡ length (wantedOf (listAt (formC false recC) n (now s) at))) × (total ≤ room) × ((room ≤ 8192) × (0 < rows) × (rows ≤ 2048)) ⌝ }
+    ensures { λ _. ⌜ JudgedAt (now (s .entry)) at n b (now (t .entry)) (now (ids .entry)) (take n (now (vs .exit))) ⌝ }
 {
     let mut v = [0u64; 2048];
     let mut flags = [0u8; 8192];
@@ -107,10 +100,8 @@ fn judge_few(
         at,
         n,
         t,
-        k,
-        caught,
+        b,
         ids,
-        m,
         total,
         &mut v[..rows],
         &mut flags[..room],
@@ -124,17 +115,15 @@ fn judge_many(
     at: usize,
     n: u64,
     t: &[u8],
-    k: u64,
-    caught: bool,
+    b: Block,
     ids: &[u8],
-    m: u64,
     total: u64,
     rows: usize,
     room: usize,
     vs: &mut [u64],
 )
-    requires { ⌜ (at ≤ length (now s)) × (whole (formC false recC) n (now s) at ≡ true) × EntriesRise (now t) k × IdsRise (now ids) m × (n ≤ length (now vs)) × (n < 4294967296) × (length (now s) < 4294967296) × (total ≡ length (wantedOf (listAt (formC false recC) n (now s) at))) × (total ≤ room) × ((room ≤ 262144) × (0 < rows) × (rows ≤ 65536)) ⌝ }
-    ensures { λ _. ⌜ Judged (now (t .entry)) caught (ownIds (idsAt (now (ids .entry)) m) (listAt (formC false recC) n (now (s .entry)) at)) (appliedIn (now (t .entry)) k) (listAt (formC false recC) n (now (s .entry)) at) (take n (now (vs .exit))) ⌝ }
+    requires { ⌜ (at ≤ length (now s)) × (whole (formC false recC) n (now s) at ≡ true) × EntriesRise (now t) (b .entries) × IdsRise (now ids) (b .available) × (n ≤ length (now vs)) × (n < 4294967296) × (length (now s) < 4294967296) × (total ≡ length (wantedOf (listAt (formC false recC) n (now s) at))) × (total ≤ room) × ((room ≤ 262144) × (0 < rows) × (rows ≤ 65536)) ⌝ }
+    ensures { λ _. ⌜ JudgedAt (now (s .entry)) at n b (now (t .entry)) (now (ids .entry)) (take n (now (vs .exit))) ⌝ }
 {
     let mut v = [0u64; 65536];
     let mut flags = [0u8; 262144];
@@ -143,10 +132,8 @@ fn judge_many(
         at,
         n,
         t,
-        k,
-        caught,
+        b,
         ids,
-        m,
         total,
         &mut v[..rows],
         &mut flags[..room],
@@ -160,17 +147,15 @@ fn judge_most(
     at: usize,
     n: u64,
     t: &[u8],
-    k: u64,
-    caught: bool,
+    b: Block,
     ids: &[u8],
-    m: u64,
     total: u64,
     rows: usize,
     room: usize,
     vs: &mut [u64],
 )
-    requires { ⌜ (at ≤ length (now s)) × (whole (formC false recC) n (now s) at ≡ true) × EntriesRise (now t) k × IdsRise (now ids) m × (n ≤ length (now vs)) × (n < 4294967296) × (length (now s) < 4294967296) × (total ≡ length (wantedOf (listAt (formC false recC) n (now s) at))) × (total ≤ room) × ((room ≤ 524288) × (0 < rows) × (rows ≤ 32768)) ⌝ }
-    ensures { λ _. ⌜ Judged (now (t .entry)) caught (ownIds (idsAt (now (ids .entry)) m) (listAt (formC false recC) n (now (s .entry)) at)) (appliedIn (now (t .entry)) k) (listAt (formC false recC) n (now (s .entry)) at) (take n (now (vs .exit))) ⌝ }
+    requires { ⌜ (at ≤ length (now s)) × (whole (formC false recC) n (now s) at ≡ true) × EntriesRise (now t) (b .entries) × IdsRise (now ids) (b .available) × (n ≤ length (now vs)) × (n < 4294967296) × (length (now s) < 4294967296) × (total ≡ length (wantedOf (listAt (formC false recC) n (now s) at))) × (total ≤ room) × ((room ≤ 524288) × (0 < rows) × (rows ≤ 32768)) ⌝ }
+    ensures { λ _. ⌜ JudgedAt (now (s .entry)) at n b (now (t .entry)) (now (ids .entry)) (take n (now (vs .exit))) ⌝ }
 {
     let mut v = [0u64; 32768];
     let mut flags = [0u8; 524288];
@@ -179,10 +164,8 @@ fn judge_most(
         at,
         n,
         t,
-        k,
-        caught,
+        b,
         ids,
-        m,
         total,
         &mut v[..rows],
         &mut flags[..room],
@@ -192,44 +175,34 @@ fn judge_most(
 
 // The verdicts on the n records at `at`, to the front of vs. Each function with tables is called at two places that differ in two
 // numbers: the compiler then makes no single call of them, which it would take in here together with the tables.
-pub fn judge(
-    s: &[u8],
-    at: usize,
-    n: u64,
-    t: &[u8],
-    k: u64,
-    caught: bool,
-    ids: &[u8],
-    m: u64,
-    vs: &mut [u64],
-)
-    requires { ⌜ (at ≤ length (now s)) × (whole (formC false recC) n (now s) at ≡ true) × EntriesRise (now t) k × IdsRise (now ids) m × (n ≤ length (now vs)) × (n < 4294967296) ⌝ }
-    ensures { λ _. ⌜ Judged (now (t .entry)) caught (ownIds (idsAt (now (ids .entry)) m) (listAt (formC false recC) n (now (s .entry)) at)) (appliedIn (now (t .entry)) k) (listAt (formC false recC) n (now (s .entry)) at) (take n (now (vs .exit))) ⌝ }
+pub fn judge(s: &[u8], at: usize, n: u64, t: &[u8], b: Block, ids: &[u8], vs: &mut [u64])
+    requires { ⌜ (at ≤ length (now s)) × (whole (formC false recC) n (now s) at ≡ true) × EntriesRise (now t) (b .entries) × IdsRise (now ids) (b .available) × (n ≤ length (now vs)) × (n < 4294967296) ⌝ }
+    ensures { λ _. ⌜ JudgedAt (now (s .entry)) at n b (now (t .entry)) (now (ids .entry)) (take n (now (vs .exit))) ⌝ }
 {
     let total = count_wanted(s, at, n);
-    if !both(caught, both(s.len() < 4294967296, total <= 524288)) {
-        judge_all(s, at, n, t, k, caught, ids, m, false, ids, vs);
+    if !both(b.caught, both(s.len() < 4294967296, total <= 524288)) {
+        judge_all(s, at, n, t, b, ids, false, ids, vs);
         return;
     }
     if total <= 1024 {
-        judge_few(s, at, n, t, k, caught, ids, m, total, 1024, 1024, vs);
+        judge_few(s, at, n, t, b, ids, total, 1024, 1024, vs);
         return;
     }
     if total <= 8192 {
-        judge_few(s, at, n, t, k, caught, ids, m, total, 2048, 8192, vs);
+        judge_few(s, at, n, t, b, ids, total, 2048, 8192, vs);
         return;
     }
     if total <= 65536 {
-        judge_many(s, at, n, t, k, caught, ids, m, total, 32768, 65536, vs);
+        judge_many(s, at, n, t, b, ids, total, 32768, 65536, vs);
         return;
     }
     if total <= 262144 {
-        judge_many(s, at, n, t, k, caught, ids, m, total, 65536, 262144, vs);
+        judge_many(s, at, n, t, b, ids, total, 65536, 262144, vs);
         return;
     }
     if total <= 393216 {
-        judge_most(s, at, n, t, k, caught, ids, m, total, 32767, 393216, vs);
+        judge_most(s, at, n, t, b, ids, total, 32767, 393216, vs);
         return;
     }
-    judge_most(s, at, n, t, k, caught, ids, m, total, 32768, 524288, vs);
+    judge_most(s, at, n, t, b, ids, total, 32768, 524288, vs);
 }

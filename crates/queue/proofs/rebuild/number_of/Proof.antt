@@ -6,14 +6,14 @@ use Rattle.queue.proofs.rebuild.number_of.Tie as tie
 use Rattle.queue.proofs.rebuild.number_of.Reads as reads
 use Rattle.queue.proofs.rebuild.number_of.Lts as lts
 
-add-result : tie.Need-add-result
-add-result c = search needs
-
 returns : tie.Need-returns
 returns c = number-0 (c .before .args .counter .0) (c .before .args .r) (c .if1 .taken)
+
+add-t4 : tie.Need-add-t4
+add-t4 c = search needs
 
 returns-2 : tie.Need-returns-2
 returns-2 c = number-1 (c .before .before .args .counter .0) (c .before .before .args .r) (c .before .if1 .left)
 
 pub number-of-spec : {M : Type 1} → statement M
-number-of-spec = tie.close (tie.spec add-result returns returns-2)
+number-of-spec = tie.close (tie.spec returns add-t4 returns-2)

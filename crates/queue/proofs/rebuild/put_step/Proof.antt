@@ -10,16 +10,16 @@ use Rattle.queue.proofs.rebuild.put_step.Lts as lts
 use Rattle.queue.proofs.rebuild.put_next.Reads as put-next-reads
 
 put-next-requires : tie.Need-put-next-requires
-put-next-requires c κs = (c .before .before .before .before .before .pre .0, c .before .before .before .before .before .pre .1, c .before .before .before .before .before .pre .2, step-room (c .before .before .before .before .before .args .src .now) (c .before .before .before .before .before .args .base) (c .before .before .before .before .before .args .x) (c .before .before .before .before .before .args .t .now) (c .before .before .before .before .before .args .v) (c .before .before .before .before .before .args .n) (c .before .before .before .before .before .args .at) (length (c .before .before .before .before .before .args .dst .now)) (c .before .if1 .taken) (c .before .before .before .before .before .pre .0) (c .before .before .before .before .before .pre .1) (c .before .before .before .before .before .pre .3))
+put-next-requires c κs = (c .before .before .before .before .before .pre .0, c .before .before .before .before .before .pre .1, c .before .before .before .before .before .pre .2, step-room (c .before .before .before .before .before .args .src .now) (c .before .before .before .before .before .args .base) (c .before .before .before .before .before .args .x) (c .before .before .before .before .before .args .t .now) (c .before .before .before .before .before .args .v) (c .before .before .before .before .before .args .n .0) (c .before .before .before .before .before .args .at) (length (c .before .before .before .before .before .args .dst .now)) (c .before .if1 .taken) (c .before .before .before .before .before .pre .0) (c .before .before .before .before .before .pre .1) (c .before .before .before .before .before .pre .3))
 
 same-length : tie.Need-same-length
 same-length c = search needs
 
 returns : tie.Need-returns
-returns c = sized (c .before .before .put-next .ensures) (step-yes (c .before .before .before .before .before .before .before .before .args .src .now) (c .before .before .before .before .before .before .before .before .args .base) (c .before .before .before .before .before .before .before .before .args .x) (c .before .before .before .before .before .before .before .before .args .t .now) (c .before .before .before .before .before .before .before .before .args .v) (c .before .before .before .before .before .before .before .before .args .n) (c .before .before .before .before .if1 .taken))
+returns c = sized (c .before .before .put-next .ensures) (step-yes (c .before .before .before .before .before .before .before .before .args .src .now) (c .before .before .before .before .before .before .before .before .args .base) (c .before .before .before .before .before .before .before .before .args .x) (c .before .before .before .before .before .before .before .before .args .t .now) (c .before .before .before .before .before .before .before .before .args .v) (c .before .before .before .before .before .before .before .before .args .n .0) (c .before .before .before .before .if1 .taken))
 
 returns-2 : tie.Need-returns-2
-returns-2 c = step-no (c .before .before .before .before .args .src .now) (c .before .before .before .before .args .base) (c .before .before .before .before .args .x) (c .before .before .before .before .args .t .now) (c .before .before .before .before .args .v) (c .before .before .before .before .args .n) (c .before .before .before .before .args .dst .now) (c .before .before .before .before .args .at) (c .if1 .left)
+returns-2 c = step-no (c .before .before .before .before .args .src .now) (c .before .before .before .before .args .base) (c .before .before .before .before .args .x) (c .before .before .before .before .args .t .now) (c .before .before .before .before .args .v) (c .before .before .before .before .args .n .0) (c .before .before .before .before .args .dst .now) (c .before .before .before .before .args .at) (c .if1 .left)
 
 pub put-step-spec : {M : Type 1} → statement M
 put-step-spec = tie.close (tie.spec put-next-requires same-length returns returns-2)

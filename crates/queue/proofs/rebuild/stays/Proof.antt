@@ -8,13 +8,13 @@ use Rattle.queue.proofs.rebuild.stays.Lts as lts
 use Rattle.queue.proofs.logic.either.Reads as either-reads
 
 returns : tie.Need-returns
-returns c = stay-out (c .before .before .args .n) (c .before .before .args .floor .0) (c .before .before .args .f) (c .before .if1 .taken)
+returns c = stay-out (c .before .before .before .before .args .n .0) (c .before .before .before .before .args .floor .0) (c .before .before .before .before .args .f) (c .before .before .if1 .taken)
 
 either-requires : tie.Need-either-requires
 either-requires c κs = search needs
 
 returns-2 : tie.Need-returns-2
-returns-2 c = stay-in (c .before .before .before .before .before .args .n) (c .before .before .before .before .before .args .floor .0) (c .before .before .before .before .before .args .f) (c .before .before .before .before .if1 .left) (c .either .ensures)
+returns-2 c = stay-in (c .before .before .before .before .before .before .args .n .0) (c .before .before .before .before .before .before .args .floor .0) (c .before .before .before .before .before .before .args .f) (c .before .before .before .before .if1 .left) (c .either .ensures)
 
 pub stays-spec : {M : Type 1} → statement M
 stays-spec = tie.close (tie.spec returns either-requires returns-2)

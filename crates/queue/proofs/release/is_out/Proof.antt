@@ -18,7 +18,7 @@ either-requires-2 : tie.Need-either-requires-2
 either-requires-2 c κs = search needs
 
 returns : tie.Need-returns
-returns c = out-is (c .before .before .before .args .height .0) (c .before .before .before .args .window) (c .before .before .before .args .p) (c .before .before .before .args .b) (c .before .before .before .args .level) (c .before .before .before .args .seen) (c .before .before .before .args .bytes) (c .either2 .ensures) (c .before .either .ensures) (c .before .before .minus .ensures)
+returns c = out-is (c .before .before .before .args .height .0) (c .before .before .before .args .window) (c .before .before .before .args .p) (c .before .before .before .args .b) (c .before .before .before .args .level .0) (c .before .before .before .args .seen) (c .before .before .before .args .bytes) (c .either2 .ensures) (c .before .either .ensures) (c .before .before .minus .ensures)
 
 pub is-out-spec : {M : Type 1} → statement M
 is-out-spec = tie.close (tie.spec minus-requires either-requires either-requires-2 returns)

@@ -31,11 +31,11 @@ mul-q c = search needs
 shared-slice-read-q : tie.Need-shared-slice-read-q Inv-loop μ-loop
 shared-slice-read-q c = search needs
 
-mul-h : tie.Need-mul-h Inv-loop μ-loop
-mul-h c = search needs
+mul-sum : tie.Need-mul-sum Inv-loop μ-loop
+mul-sum c = search needs
 
-shared-slice-read-h : tie.Need-shared-slice-read-h Inv-loop μ-loop
-shared-slice-read-h c = search needs
+shared-slice-read-sum : tie.Need-shared-slice-read-sum Inv-loop μ-loop
+shared-slice-read-sum c = search needs
 
 bytes-at-requires : tie.Need-bytes-at-requires Inv-loop μ-loop
 bytes-at-requires c κs = stands-at _ (c .before .before .before .before .before .before .before .before .args .places .now) (c .before .before .before .loop .j) (c .before .before .before .before .before .before .before .before .pre .3) (c .before .before .loop-test .taken)
@@ -76,8 +76,8 @@ release-spec =
     loop-holds
     mul-q
     shared-slice-read-q
-    mul-h
-    shared-slice-read-h
+    mul-sum
+    shared-slice-read-sum
     bytes-at-requires
     add-sum
     is-out-requires
