@@ -19,7 +19,7 @@ use Rattle.queue.specs.Forms.{recIn, afterIn}
 use Rattle.queue.specs.View.{view}
 use Rattle.queue.specs.Reads.{Reads, whole, listAt}
 use Rattle.queue.specs.ReadLaws.{turn, none-left, false-true}
-use Rattle.queue.specs.Filter.{slotL, maskL, hashL, marked, markL, hasIn, heldBy, Passed}
+use Rattle.queue.specs.Filter.{slotL, maskL, hashL, marked, markL, hasIn, heldBy, Passed, New, NewSeen}
 use Rattle.queue.specs.paper.Records.{Bytes, Id, Rec}
 use Rattle.queue.specs.paper.Lists.{one, count}
 use Rattle.queue.specs.paper.Ids.{same?}
@@ -116,6 +116,32 @@ module _ {K : Type 0} {own : K → Bool} {hash H : K → ℕ} (y : K) (only : (x
     new = λ u x o. subst (λ (z : K). marked t′ (hash z) ≡ true) (only x o) (ap (λ (v : List ℕ). marked v (hash y)) g ∙ ap (marked (markL t h)) (sym e) ∙ mark-here t h p);
   }
 
+-- ---- new keys: passed where each one counts twice, so that none was marked
+pub new-of : {K : Type 0} {own : K → Bool} {hash : K → ℕ} {t t′ : List ℕ} → Passed own hash (λ _. 2) t false t′ → New own hash t t′
+new-of {hash = hash} {t} g = record {
+  old = g .old;
+  none = λ x o. cases (marked t (hash x)) (λ m. let h = g .one refl x o m in absurd (let z : ⊥ = omega arith in z)) (λ m. m);
+  new = g .new refl;
+}
+
+new-passed : {K : Type 0} {own : K → Bool} {hash H : K → ℕ} {t t′ : List ℕ} → length t′ ≡ length t → New own hash t t′ → Passed own hash H t false t′
+new-passed e g = record { size = e; old = g .old; two = λ u. false-true u; one = λ _ x o m. false-true (sym (g .none x o) ∙ m); new = λ _. g .new }
+
+module _ {v : Bytes} {x : Seen} {clear : Bool} (c : clear ≡ true) {t t′ : List ℕ} (g : New (λ z. among? z (listAt idC (x .facts .ins) v (x .at))) hashL t t′) where
+  pub new-held : x .facts .holder ≡ true → NewSeen v x clear t t′
+  new-held h =
+      let n : (m : ℕ) → (not (x .facts .holder) && eqb (x .facts .finish .0) m) ≡ true → ⊥ = λ m o. false-true (rw h at o) in
+      record { before = c; inputs = g; number = record { old = g .old; none = λ m o. absurd (n m o); new = λ m o. absurd (n m o) } }
+
+  pub new-tomb : {t″ : List ℕ} → x .facts .holder ≡ false → New (λ m. eqb (x .facts .finish .0) m) (λ m. m) t′ t″ → NewSeen v x clear t t″
+  new-tomb {t″} h k =
+      let o : (m : ℕ) → marked t m ≡ true → marked t″ m ≡ true = λ m a. k .old m (g .old m a) in
+      record {
+        before = c;
+        inputs = record { old = o; none = g .none; new = λ z a. k .old (hashL z) (g .new z a) };
+        number = record { old = o; none = λ m a. cases (marked t m) (λ q. false-true (sym (k .none m (rw h at a)) ∙ g .old m q)) (λ q. q); new = λ m a. k .new m (rw h at a) };
+      }
+
 -- ---- the ids of a record: those before i are passed
 pub record Passing (H : Id → ℕ) (v : Bytes) (all : List Id) (t₀ : List ℕ) (i left : ℕ) (t : List ℕ) : Type 0 where
   pub within : i ≤ length v
@@ -180,6 +206,12 @@ module _ {K : Type 0} (has : K → Rec → Bool) (hash : K → ℕ) (all : List 
         (λ u. ltb-false (1 + count (has x) l) (count (has x) all) u)))
         (λ a. let h = rw a at (w .few x) in omega arith);
   }
+
+pass-own : {K : Type 0} {own : K → Bool} (own′ : K → Bool) {hash H : K → ℕ} {t t′ : List ℕ} {b : Bool} → ((x : K) → own x ≡ own′ x) → Passed own hash H t b t′ → Passed own′ hash H t b t′
+pass-own own′ e g = record { size = g .size; old = g .old; two = g .two; one = λ f x o. g .one f x (e x ∙ o); new = λ f x o. g .new f x (e x ∙ o) }
+
+pub walk-new : {K : Type 0} (has : K → Rec → Bool) {own : K → Bool} {hash : K → ℕ} {all : List Rec} (r : Rec) (l : List Rec) {t t′ : List ℕ} → Walk has hash all (r ∷ l) t → length t′ ≡ length t → ((x : K) → own x ≡ has x r) → New own hash t t′ → Walk has hash all l t′
+walk-new has {hash = hash} {all} r l w e o g = walk-go has hash all r l w (pass-own (λ x. has x r) o (new-passed e g)) refl
 
 walk-end : {K : Type 0} {has : K → Rec → Bool} {hash : K → ℕ} {all : List Rec} {t : List ℕ} → Walk has hash all [] t → (x : K) → count (has x) all ≤ 1
 walk-end w x = let h = w .few x in omega arith
@@ -260,6 +292,13 @@ distinct-no (r ∷ l) m e = cases (stamped? m r)
     never true = refl
     never false = refl
 
+-- ---- the records, all passed
+pub walk-apart : {all : List Rec} {t : List ℕ} → Walk hasIn hashL all [] t → apart? all ≡ true
+walk-apart {all} w = sym (apart-yes all (walk-end w))
+
+pub walk-distinct : {all : List Rec} {t : List ℕ} → Walk stamped? (λ m. m) all [] t → distinct? all ≡ true
+walk-distinct {all} w = sym (distinct-yes all (walk-end w))
+
 -- ---- how many records have an id
 unfoldable pub heldF : Id → ℕ → List Rec → ℕ
 heldF x acc l = acc + heldBy l x
@@ -278,9 +317,6 @@ module _ (form : Form) (z : Id) {s : Bytes} {n at i left acc : ℕ} (x : Scan (r
   held-end e = let q = end x e in omega arith
 
 -- ---- the loops over records
-pass-own : {K : Type 0} {own : K → Bool} (own′ : K → Bool) {hash H : K → ℕ} {t t′ : List ℕ} {b : Bool} → ((x : K) → own x ≡ own′ x) → Passed own hash H t b t′ → Passed own′ hash H t b t′
-pass-own own′ e g = record { size = g .size; old = g .old; two = g .two; one = λ f x o. g .one f x (e x ∙ o); new = λ f x o. g .new f x (e x ∙ o) }
-
 module _ (form : Form) {s : Bytes} {n at i left : ℕ} {t : List ℕ} (x : Scan (recIn form) nothingF s n at tt i left tt) (w : Walk hasIn hashL (listAt (recIn form) n s at) (listAt (recIn form) left s i) t) where
   module _ {m : ℕ} {ok b : Bool} {y : Seen} {t′ : List ℕ} (p : 0 < left) (r : ReadsForm form s i ok m y)
       (g : Passed (λ z. among? z (listAt idC (y .facts .ins) (view (form .hex) s i) (y .at))) hashL (heldBy (listAt (recIn form) n s at)) t b t′) where

@@ -1,16 +1,19 @@
 -- A filter: numbers marked in a table of bits. It can only say yes too often. And what a pass over records with a filter ensures.
 use mathlib.Core.Path.{_≡_}
-use mathlib.Core.Bool.{Bool, true, false}
+use mathlib.Core.Bool.{Bool, true, false, not, _&&_}
 use mathlib.Core.List.{List}
 use Prim.Native.Nat.{ℕ, _+_, _/_, _%_, _^_, _≤_}
 use lib.Dec.{eqb}
 use lib.Bits.{bitOr}
 use lib.ListN.{length, getD, set}
 use Rattle.queue.specs.View.{view}
+use Rattle.queue.specs.Frames.{idC}
+use Rattle.queue.specs.Reads.{listAt}
 use Rattle.queue.specs.ReadLaws.{beAt}
-use Rattle.queue.specs.paper.Records.{Id, Rec}
+use Rattle.queue.specs.paper.Records.{Bytes, Id, Rec}
 use Rattle.queue.specs.paper.Lists.{count}
 use Rattle.queue.specs.paper.Sound.{inputs, among?}
+use Rattle.queue.specs.declared.frame.Seen.{Seen}
 
 -- any place in the table, any bits and any number of an id serve: only speed depends on them
 unfoldable pub slotL : ℕ → ℕ → ℕ
@@ -42,3 +45,15 @@ pub record Passed {K : Type 0} (own : K → Bool) (hash H : K → ℕ) (t : List
   pub two : b ≡ true → (x : K) × (2 ≤ H x)
   pub one : b ≡ false → (x : K) → own x ≡ true → marked t (hash x) ≡ true → H x ≤ 1
   pub new : b ≡ false → (x : K) → own x ≡ true → marked t′ (hash x) ≡ true
+
+-- own keys are new: none was marked, and each is marked now
+pub record New {K : Type 0} (own : K → Bool) (hash : K → ℕ) (t t′ : List ℕ) : Type 0 where
+  pub old : (h : ℕ) → marked t h ≡ true → marked t′ h ≡ true
+  pub none : (x : K) → own x ≡ true → marked t (hash x) ≡ false
+  pub new : (x : K) → own x ≡ true → marked t′ (hash x) ≡ true
+
+-- so are the inputs of a record as it was read, and a tombstone's finish number; and nothing before was not
+pub record NewSeen (v : Bytes) (x : Seen) (clear : Bool) (t t′ : List ℕ) : Type 0 where
+  pub before : clear ≡ true
+  pub inputs : New (λ z. among? z (listAt idC (x .facts .ins) v (x .at))) hashL t t′
+  pub number : New (λ m. not (x .facts .holder) && eqb (x .facts .finish .0) m) (λ m. m) t t′

@@ -11,7 +11,7 @@ use Rattle.queue.specs.Rules.{rightF, weight, sum}
 use Rattle.queue.specs.paper.Ids.{rise?}
 use Rattle.queue.specs.paper.Records.{Bytes, Rec}
 use Rattle.queue.specs.paper.Lists.{all?, map}
-use Rattle.queue.specs.paper.Sound.{right?, reads}
+use Rattle.queue.specs.paper.Sound.{right?, reads, apart?, distinct?}
 use Rattle.queue.specs.declared.frame.Facts.{Facts}
 use Rattle.queue.specs.declared.frame.Form.{Form}
 use Rattle.queue.specs.declared.frame.Finish.{Finish}
@@ -20,7 +20,7 @@ use Rattle.queue.specs.declared.scan.Read.{Read}
 use Rattle.queue.specs.declared.rules.Query.the-variants.{Holders, HeldBytes, MinedHolders, MinedBytes}
 
 abbrev pub noSums : Sums
-noSums = record { holders = 0; bytes = 0; mined = 0; minedbytes = 0; right = true; rises = true; unread = true; inputs = 0 }
+noSums = record { holders = 0; bytes = 0; mined = 0; minedbytes = 0; right = true; rises = true; unread = true; clear = true; inputs = 0 }
 
 -- the four counts are at most m
 pub record Under (a : Sums) (m : ℕ) : Type 0 where
@@ -53,6 +53,7 @@ pub record SumsAs (k : ℕ) (c : Finish) (a : Sums) (l : List Rec) : Type 0 wher
   pub right : a .right ≡ all? (right? k (c .0)) l
   pub rises : a .rises ≡ rise? (map (λ r. r .id) l)
   pub unread : a .unread ≡ all? unread? l
+  pub clear : a .clear ≡ true → (apart? l ≡ true) × (distinct? l ≡ true)
 
 pub record Checked (form : Form) (s : Bytes) (at n k : ℕ) (c : Finish) (r : Read) : Type 0 where
   pub many : Many (recIn form) s at n (r .ok) (r .next)

@@ -116,7 +116,8 @@ fn counts_ok(n: u64, p: u64, b: u64, t: u64, a: Sums) -> bool
     both(held, both(mined, n - a.holders <= t))
 }
 
-// The rules of a sound queue. Once the counts are right the tables of the last two are large enough.
+// The rules of a sound queue. Once the counts are right the tables of the last two are large enough; where the one pass could tell by
+// its filter, they need no look.
 pub fn sound_at(s: &[u8], form: Form, x: Open) -> bool
     requires { ⌜ (x .start ≤ length (now s)) × (length (x .head .limits .shares) ≡ 64) × (whole (recIn form) (x .head .count) (now s) (x .start) ≡ true) × SumsAs (x .head .limits .k) (x .head .counter) (x .sums) (listAt (recIn form) (x .head .count) (now s) (x .start)) ⌝ }
     ensures { λ r. ⌜ r ≡ soundL (limitsIn (x .head .limits)) (x .head .counter .0) (listAt (recIn form) (x .head .count) (now (s .entry)) (x .start)) ⌝ }
@@ -132,6 +133,9 @@ pub fn sound_at(s: &[u8], form: Form, x: Open) -> bool
     }
     if !both(a.right, a.rises) {
         return false;
+    }
+    if both(a.clear, a.unread) {
+        return true;
     }
     let d = distinct(s, form, x.start, h.count, h.count - a.holders);
     let o = apart(s, form, x.start, h.count, a.unread, a.inputs <= 8192);

@@ -7,6 +7,7 @@ use super::forms::ends_line;
 use super::frame::Facts;
 use super::frame::Finish;
 use super::frame::Form;
+use super::frame::Seen;
 use super::frame::id_read;
 use super::frame::rec_at;
 use super::frame::rec_in;
@@ -24,6 +25,7 @@ use super::view::same_id;
 ghost use mathlib.Core.Path.{_≡_};
 ghost use mathlib.Core.Bool.{true, false, _&&_};
 ghost use Prim.Native.Nat.{_+_, _-_, _*_, _≤_, _<_};
+ghost use lib.Dec.{eqb};
 ghost use lib.ListN.{length, take, drop};
 ghost use Rattle.queue.specs.Frames.{recC, idC};
 ghost use Rattle.queue.specs.Forms.{formC, recIn};
@@ -31,7 +33,7 @@ ghost use Rattle.queue.specs.View.{view};
 ghost use Rattle.queue.specs.Reads.{whole, listAt};
 ghost use Rattle.queue.specs.Rules.{sum};
 ghost use Rattle.queue.specs.Sums.{noSums, Under, Added, unread?, Checked};
-ghost use Rattle.queue.specs.Filter.{hashL, heldBy, Passed};
+ghost use Rattle.queue.specs.Filter.{hashL, heldBy, Passed, New, NewSeen};
 ghost use Rattle.queue.specs.paper.Ids.{same?};
 ghost use Rattle.queue.specs.Areas.{zero?};
 ghost use Rattle.queue.specs.paper.Lists.{all?};
@@ -60,8 +62,9 @@ pub fn tally(s: &[u8], at: usize, n: u64, q: Query) -> u64
     total
 }
 
-// What the rules ask of the records: four counts, whether each is right, whether their ids rise, whether none reads an id. The number
-// of inputs is in no contract: it only says which tables serve.
+// What the rules ask of the records: four counts, whether each is right, whether their ids rise, whether none reads an id; `clear` says
+// that no input is in two of them and no finish number is twice, where a filter could tell. The number of inputs is in no contract:
+// it only says which tables serve.
 pub struct Sums {
     pub holders: u64,
     pub bytes: u64,
@@ -70,6 +73,7 @@ pub struct Sums {
     pub right: bool,
     pub rises: bool,
     pub unread: bool,
+    pub clear: bool,
     pub inputs: u64,
 }
 
@@ -84,14 +88,15 @@ pub fn no_sums() -> Sums
         right: true,
         rises: true,
         unread: true,
+        clear: true,
         inputs: 0,
     }
 }
 
-// One record more; `up` says that its id is above the last one.
-fn add_sums(a: Sums, k: u64, c: Finish, f: Facts, up: bool) -> Sums
+// One record more; `up` says that its id is above the last one, `clear` that the filter tells it from all before it.
+fn add_sums(a: Sums, k: u64, c: Finish, f: Facts, up: bool, clear: bool) -> Sums
     requires { ⌜ Under a 18446744069414584319 × (f .bytes < 4294967296) ⌝ }
-    ensures { λ r. ⌜ Added k c a f up r ⌝ }
+    ensures { λ r. ⌜ Added k c a f up r × (r .clear ≡ clear) ⌝ }
 {
     let h = a.holders + weigh(Query::Holders, f);
     let b = a.bytes + weigh(Query::HeldBytes, f);
@@ -108,12 +113,65 @@ fn add_sums(a: Sums, k: u64, c: Finish, f: Facts, up: bool) -> Sums
         right: r,
         rises: u,
         unread: d,
+        clear: clear,
         inputs: std::num::wrapping_add_u64(a.inputs, f.ins),
     }
 }
 
 fn no_id() -> [u8; 32] {
     [0u8; 32]
+}
+
+// Is each of the c ids at offset `ids` of the frame at base new to the filter t? Then all are marked.
+fn new_ids(s: &[u8], hex: bool, base: usize, ids: usize, c: u64, t: &mut [u64]) -> bool
+    requires { ⌜ (ids ≤ length (view hex (now s) base)) × (whole idC c (view hex (now s) base) ids ≡ true) × (0 < length (now t)) ⌝ }
+    ensures { λ r. ⌜ (length (now (t .exit)) ≡ length (now (t .entry))) × (r ≡ true → New (λ z. among? z (listAt idC c (view hex (now (s .entry)) base) ids)) hashL (now (t .entry)) (now (t .exit))) ⌝ }
+{
+    let mut i = ids;
+    let mut left = c;
+    while 0 < left {
+        let x = id_read(s, hex, base, i);
+        let id = x.id;
+        let h = hash(id);
+        if seen(t, h) {
+            return false;
+        }
+        mark(t, h);
+        i = x.next;
+        left = left - 1;
+    }
+    true
+}
+
+fn new_number(n: Finish, t: &mut [u64]) -> bool
+    requires { ⌜ 0 < length (now t) ⌝ }
+    ensures { λ r. ⌜ (length (now (t .exit)) ≡ length (now (t .entry))) × (r ≡ true → New (λ m. eqb (n .0) m) (λ m. m) (now (t .entry)) (now (t .exit))) ⌝ }
+{
+    let h = n.0;
+    if seen(t, h) {
+        return false;
+    }
+    mark(t, h);
+    true
+}
+
+// Are the inputs of the record read at base new to the filter, and, of a tombstone, its finish number? Not asked once one was not.
+fn new_record(clear: bool, s: &[u8], hex: bool, base: usize, x: Seen, t: &mut [u64]) -> bool
+    requires { ⌜ (x .at ≤ length (view hex (now s) base)) × (whole idC (x .facts .ins) (view hex (now s) base) (x .at) ≡ true) × (0 < length (now t)) ⌝ }
+    ensures { λ r. ⌜ (length (now (t .exit)) ≡ length (now (t .entry))) × (r ≡ true → NewSeen (view hex (now (s .entry)) base) x clear (now (t .entry)) (now (t .exit))) ⌝ }
+{
+    if !clear {
+        return false;
+    }
+    let f = x.facts;
+    if !new_ids(s, hex, base, x.at, f.ins, t) {
+        return false;
+    }
+    if f.holder {
+        return true;
+    }
+    let n = f.finish;
+    new_number(n, t)
 }
 
 // Records read: do they stand there, where do they end, and what do they come to?
@@ -123,9 +181,10 @@ pub struct Read {
     pub sums: Sums,
 }
 
-// The one pass of the check over n records at `at`.
-pub fn frames(s: &[u8], form: Form, at: usize, n: u64, k: u64, c: Finish) -> Read
-    requires { ⌜ (at ≤ length (now s)) × (n < 4294967296) ⌝ }
+// The one pass of the check over n records at `at`, with a filter.
+// Whatever t holds: what it holds too much only costs time.
+fn frames_by(s: &[u8], form: Form, at: usize, n: u64, k: u64, c: Finish, t: &mut [u64]) -> Read
+    requires { ⌜ (at ≤ length (now s)) × (n < 4294967296) × (0 < length (now t)) ⌝ }
     ensures { λ r. ⌜ Checked form (now (s .entry)) at n k c r ⌝ }
 {
     let mut i = at;
@@ -152,7 +211,8 @@ pub fn frames(s: &[u8], form: Form, at: usize, n: u64, k: u64, c: Finish) -> Rea
         let f = x.facts;
         let id = x.id;
         let up = either(first, cmp_id(prev, id) == 0);
-        a = add_sums(a, k, c, f, up);
+        let clear = new_record(a.clear, s, form.hex, i, x, t);
+        a = add_sums(a, k, c, f, up, clear);
         prev = id;
         first = false;
         i = after_in(s, form.hex, i, x.size);
@@ -163,6 +223,14 @@ pub fn frames(s: &[u8], form: Form, at: usize, n: u64, k: u64, c: Finish) -> Rea
         next: i,
         sums: a,
     }
+}
+
+pub fn frames(s: &[u8], form: Form, at: usize, n: u64, k: u64, c: Finish) -> Read
+    requires { ⌜ (at ≤ length (now s)) × (n < 4294967296) ⌝ }
+    ensures { λ r. ⌜ Checked form (now (s .entry)) at n k c r ⌝ }
+{
+    let mut t = [0u64; 4096];
+    frames_by(s, form, at, n, k, c, &mut t)
 }
 
 // Is the id one of the n ids at offset `at` of the frame at base?

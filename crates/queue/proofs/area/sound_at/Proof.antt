@@ -1,14 +1,15 @@
 -- Filled from its answers by tools/proofkit.py: change those, and fill it again.
+use Rattle.queue.proofs.CrossLaws.{read-none}
 use Rattle.queue.proofs.OpenLaws.{few-tombs, held-few, list-length, ranged, sound-in, sound-many, sound-out, sound-wrong, tombs-are}
 use Rattle.queue.specs.Facts.{limitsIn}
 use Rattle.queue.specs.Forms.{recIn}
-use Rattle.queue.specs.Lists.{and-true}
+use Rattle.queue.specs.Lists.{and-both, and-true}
 use Rattle.queue.specs.Reads.{listAt}
 use Rattle.queue.specs.paper.Sound.{inRange}
 use borrow.Author.Needs.{needs}
 use borrow.Author.Tests.{not-false, not-true}
 use lib.ListN.{length}
-use mathlib.Core.Path.{_∙_, _≡_, sym}
+use mathlib.Core.Path.{_∙_, _≡_, refl, sym}
 use Rattle.queue.proofs.area.sound_at.Statement.{statement}
 use Rattle.queue.proofs.area.sound_at.Tie as tie
 use Rattle.queue.proofs.area.sound_at.Reads as reads
@@ -40,20 +41,26 @@ both-requires c κs = search needs
 returns-3 : tie.Need-returns-3
 returns-3 c = sound-wrong _ _ _ _ _ (c .before .before .before .before .before .before .before .before .before .before .pre .3) (len ((c .before .before .before .before .before .before .before .before .before .before))) (sym (c .before .before .before .before .before .right .ensures) ∙ not-false _ (c .before .before .before .before .if1 .left)) (c .before .before .before .counts-ok .ensures) (not-false _ (c .before .before .if2 .left)) (c .before .both .ensures) (not-true _ (c .if3 .taken))
 
-sub-distinct : tie.Need-sub-distinct
-sub-distinct c = held-few (limitsIn (c .before .before .before .before .before .before .before .before .before .before .before .before .args .x .head .limits)) _ _ _ _ (c .before .before .before .before .before .before .before .before .before .before .before .before .pre .3) (len ((c .before .before .before .before .before .before .before .before .before .before .before .before)))
-
-distinct-requires : tie.Need-distinct-requires
-distinct-requires c κs = (c .before .before .before .before .before .before .before .before .before .before .before .before .pre .0, c .before .before .before .before .before .before .before .before .before .before .before .before .pre .2, tombs-are (limitsIn (c .before .before .before .before .before .before .before .before .before .before .before .before .args .x .head .limits)) _ _ _ _ (c .before .before .before .before .before .before .before .before .before .before .before .before .pre .3) (len ((c .before .before .before .before .before .before .before .before .before .before .before .before))), few-tombs (limitsIn (c .before .before .before .before .before .before .before .before .before .before .before .before .args .x .head .limits)) _ _ _ _ (c .before .before .before .before .before .before .before .before .before .before .before .before .pre .3) (len ((c .before .before .before .before .before .before .before .before .before .before .before .before))) (sym (c .before .before .before .before .before .before .before .right .ensures) ∙ not-false _ (c .before .before .before .before .before .before .if1 .left)) (c .before .before .before .before .before .counts-ok .ensures) (not-false _ (c .before .before .before .before .if2 .left)))
-
-apart-requires : tie.Need-apart-requires
-apart-requires c κs = (c .before .before .before .before .before .before .before .before .before .before .before .before .before .before .pre .0, c .before .before .before .before .before .before .before .before .before .before .before .before .before .before .pre .2, λ e. sym (c .before .before .before .before .before .before .before .before .before .before .before .before .before .before .pre .3 .unread) ∙ e)
-
 both-requires-2 : tie.Need-both-requires-2
 both-requires-2 c κs = search needs
 
 returns-4 : tie.Need-returns-4
-returns-4 c = sound-in _ _ _ _ _ (c .before .before .before .before .before .before .before .before .before .before .before .before .before .before .before .before .pre .3) (len ((c .before .before .before .before .before .before .before .before .before .before .before .before .before .before .before .before))) (sym (c .before .before .before .before .before .before .before .before .before .before .before .right .ensures) ∙ not-false _ (c .before .before .before .before .before .before .before .before .before .before .if1 .left)) (c .before .before .before .before .before .before .before .before .before .counts-ok .ensures) (not-false _ (c .before .before .before .before .before .before .before .before .if2 .left)) (c .before .before .before .before .before .before .before .both .ensures) (not-false _ (c .before .before .before .before .before .before .if3 .left)) (c .before .before .before .distinct .ensures) (c .before .apart .ensures) (c .both2 .ensures)
+returns-4 c = let u = and-true _ _ (sym (c .before .both2 .ensures) ∙ c .if4 .taken) in let v = c .before .before .before .before .before .before .before .before .before .before .before .before .pre .3 .clear (u .0) in sound-in _ _ _ _ _ (c .before .before .before .before .before .before .before .before .before .before .before .before .pre .3) (len ((c .before .before .before .before .before .before .before .before .before .before .before .before))) (sym (c .before .before .before .before .before .before .before .right .ensures) ∙ not-false _ (c .before .before .before .before .before .before .if1 .left)) (c .before .before .before .before .before .counts-ok .ensures) (not-false _ (c .before .before .before .before .if2 .left)) (c .before .before .before .both .ensures) (not-false _ (c .before .before .if3 .left)) (sym (v .1)) (sym (and-both _ _ (v .0) (read-none _ (sym (c .before .before .before .before .before .before .before .before .before .before .before .before .pre .3 .unread) ∙ u .1)))) refl
+
+sub-distinct : tie.Need-sub-distinct
+sub-distinct c = held-few (limitsIn (c .before .before .before .before .before .before .before .before .before .before .before .before .before .before .args .x .head .limits)) _ _ _ _ (c .before .before .before .before .before .before .before .before .before .before .before .before .before .before .pre .3) (len ((c .before .before .before .before .before .before .before .before .before .before .before .before .before .before)))
+
+distinct-requires : tie.Need-distinct-requires
+distinct-requires c κs = (c .before .before .before .before .before .before .before .before .before .before .before .before .before .before .pre .0, c .before .before .before .before .before .before .before .before .before .before .before .before .before .before .pre .2, tombs-are (limitsIn (c .before .before .before .before .before .before .before .before .before .before .before .before .before .before .args .x .head .limits)) _ _ _ _ (c .before .before .before .before .before .before .before .before .before .before .before .before .before .before .pre .3) (len ((c .before .before .before .before .before .before .before .before .before .before .before .before .before .before))), few-tombs (limitsIn (c .before .before .before .before .before .before .before .before .before .before .before .before .before .before .args .x .head .limits)) _ _ _ _ (c .before .before .before .before .before .before .before .before .before .before .before .before .before .before .pre .3) (len ((c .before .before .before .before .before .before .before .before .before .before .before .before .before .before))) (sym (c .before .before .before .before .before .before .before .before .before .right .ensures) ∙ not-false _ (c .before .before .before .before .before .before .before .before .if1 .left)) (c .before .before .before .before .before .before .before .counts-ok .ensures) (not-false _ (c .before .before .before .before .before .before .if2 .left)))
+
+apart-requires : tie.Need-apart-requires
+apart-requires c κs = (c .before .before .before .before .before .before .before .before .before .before .before .before .before .before .before .before .pre .0, c .before .before .before .before .before .before .before .before .before .before .before .before .before .before .before .before .pre .2, λ e. sym (c .before .before .before .before .before .before .before .before .before .before .before .before .before .before .before .before .pre .3 .unread) ∙ e)
+
+both-requires-3 : tie.Need-both-requires-3
+both-requires-3 c κs = search needs
+
+returns-5 : tie.Need-returns-5
+returns-5 c = sound-in _ _ _ _ _ (c .before .before .before .before .before .before .before .before .before .before .before .before .before .before .before .before .before .before .pre .3) (len ((c .before .before .before .before .before .before .before .before .before .before .before .before .before .before .before .before .before .before))) (sym (c .before .before .before .before .before .before .before .before .before .before .before .before .before .right .ensures) ∙ not-false _ (c .before .before .before .before .before .before .before .before .before .before .before .before .if1 .left)) (c .before .before .before .before .before .before .before .before .before .before .before .counts-ok .ensures) (not-false _ (c .before .before .before .before .before .before .before .before .before .before .if2 .left)) (c .before .before .before .before .before .before .before .before .before .both .ensures) (not-false _ (c .before .before .before .before .before .before .before .before .if3 .left)) (c .before .before .before .distinct .ensures) (c .before .apart .ensures) (c .both3 .ensures)
 
 pub sound-at-spec : {M : Type 1} → statement M
 sound-at-spec =
@@ -65,8 +72,10 @@ sound-at-spec =
     returns-2
     both-requires
     returns-3
+    both-requires-2
+    returns-4
     sub-distinct
     distinct-requires
     apart-requires
-    both-requires-2
-    returns-4)
+    both-requires-3
+    returns-5)

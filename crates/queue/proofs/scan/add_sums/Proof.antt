@@ -3,7 +3,7 @@ use Prim.Native.Nat.{_+_, ℕ}
 use Rattle.queue.proofs.CheckLaws.{added}
 use borrow.Author.Needs.{needs}
 use mathlib.Core.Bool.{Bool, _&&_}
-use mathlib.Core.Path.{_∙_, ap}
+use mathlib.Core.Path.{_∙_, ap, refl}
 use native.Mathlib.Omega.{arith}
 use Rattle.queue.proofs.scan.add_sums.Statement.{statement}
 use Rattle.queue.proofs.scan.add_sums.Tie as tie
@@ -54,7 +54,7 @@ wrapping-add-u64-requires : tie.Need-wrapping-add-u64-requires
 wrapping-add-u64-requires c κs = search needs
 
 returns : tie.Need-returns
-returns c = added (ap (λ (x : ℕ). c .before .before .before .before .before .before .before .before .before .before .before .before .before .before .args .a .holders + x) (c .before .before .before .before .before .before .before .before .before .before .before .before .before .weigh .ensures .0)) (ap (λ (x : ℕ). c .before .before .before .before .before .before .before .before .before .before .before .before .before .before .args .a .bytes + x) (c .before .before .before .before .before .before .before .before .before .before .before .weigh2 .ensures .0)) (ap (λ (x : ℕ). c .before .before .before .before .before .before .before .before .before .before .before .before .before .before .args .a .mined + x) (c .before .before .before .before .before .before .before .before .before .weigh3 .ensures .0)) (ap (λ (x : ℕ). c .before .before .before .before .before .before .before .before .before .before .before .before .before .before .args .a .minedbytes + x) (c .before .before .before .before .before .before .before .weigh4 .ensures .0)) (c .before .before .before .before .both .ensures ∙ ap (λ (x : Bool). c .before .before .before .before .before .before .before .before .before .before .before .before .before .before .args .a .right && x) (c .before .before .before .before .before .right .ensures)) (c .before .before .before .both2 .ensures) (c .before .both3 .ensures) (omega (arith, c .before .before .before .before .before .before .before .before .before .before .before .before .before .weigh .ensures .0, c .before .before .before .before .before .before .before .before .before .before .before .before .before .weigh .ensures .1)) (omega (arith, c .before .before .before .before .before .before .before .before .before .before .before .weigh2 .ensures .0, c .before .before .before .before .before .before .before .before .before .before .before .weigh2 .ensures .1)) (omega (arith, c .before .before .before .before .before .before .before .before .before .weigh3 .ensures .0, c .before .before .before .before .before .before .before .before .before .weigh3 .ensures .1)) (omega (arith, c .before .before .before .before .before .before .before .weigh4 .ensures .0, c .before .before .before .before .before .before .before .weigh4 .ensures .1))
+returns c = (added (ap (λ (x : ℕ). c .before .before .before .before .before .before .before .before .before .before .before .before .before .before .args .a .holders + x) (c .before .before .before .before .before .before .before .before .before .before .before .before .before .weigh .ensures .0)) (ap (λ (x : ℕ). c .before .before .before .before .before .before .before .before .before .before .before .before .before .before .args .a .bytes + x) (c .before .before .before .before .before .before .before .before .before .before .before .weigh2 .ensures .0)) (ap (λ (x : ℕ). c .before .before .before .before .before .before .before .before .before .before .before .before .before .before .args .a .mined + x) (c .before .before .before .before .before .before .before .before .before .weigh3 .ensures .0)) (ap (λ (x : ℕ). c .before .before .before .before .before .before .before .before .before .before .before .before .before .before .args .a .minedbytes + x) (c .before .before .before .before .before .before .before .weigh4 .ensures .0)) (c .before .before .before .before .both .ensures ∙ ap (λ (x : Bool). c .before .before .before .before .before .before .before .before .before .before .before .before .before .before .args .a .right && x) (c .before .before .before .before .before .right .ensures)) (c .before .before .before .both2 .ensures) (c .before .both3 .ensures) (omega (arith, c .before .before .before .before .before .before .before .before .before .before .before .before .before .weigh .ensures .0, c .before .before .before .before .before .before .before .before .before .before .before .before .before .weigh .ensures .1)) (omega (arith, c .before .before .before .before .before .before .before .before .before .before .before .weigh2 .ensures .0, c .before .before .before .before .before .before .before .before .before .before .before .weigh2 .ensures .1)) (omega (arith, c .before .before .before .before .before .before .before .before .before .weigh3 .ensures .0, c .before .before .before .before .before .before .before .before .before .weigh3 .ensures .1)) (omega (arith, c .before .before .before .before .before .before .before .weigh4 .ensures .0, c .before .before .before .before .before .before .before .weigh4 .ensures .1)), refl)
 
 pub add-sums-spec : {M : Type 1} → statement M
 add-sums-spec =

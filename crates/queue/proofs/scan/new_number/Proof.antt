@@ -1,0 +1,34 @@
+-- Filled from its answers by tools/proofkit.py: change those, and fill it again.
+use Rattle.queue.proofs.FilterLaws.{new-of, pass-new}
+use Rattle.queue.specs.ReadLaws.{false-true}
+use borrow.Author.Needs.{needs}
+use borrow.Author.Tests.{eqb-true}
+use mathlib.Core.Path.{refl}
+use Rattle.queue.proofs.scan.new_number.Statement.{statement}
+use Rattle.queue.proofs.scan.new_number.Tie as tie
+use Rattle.queue.proofs.scan.new_number.Reads as reads
+use Rattle.queue.proofs.scan.new_number.Lts as lts
+use Rattle.queue.proofs.filter.mark.Reads as mark-reads
+use Rattle.queue.proofs.filter.seen.Reads as seen-reads
+
+seen-requires : tie.Need-seen-requires
+seen-requires c κs = c .before .before .pre
+
+same-length : tie.Need-same-length
+same-length c = search needs
+
+returns : tie.Need-returns
+returns c = (refl, λ u. false-true u)
+
+mark-requires : tie.Need-mark-requires
+mark-requires c κs = c .before .before .before .before .before .pre
+
+same-length-2 : tie.Need-same-length-2
+same-length-2 c = search needs
+
+returns-2 : tie.Need-returns-2
+returns-2 c = let g = pass-new (c .before .before .before .before .before .before .before .before .args .n .0) (eqb-true (c .before .before .before .before .before .before .before .before .args .n .0)) refl (c .before .before .before .before .before .seen .ensures) (c .before .before .before .before .if1 .left) (c .before .before .before .before .before .before .before .before .pre) (c .before .before .mark .ensures) in (g .size, λ _. new-of g)
+
+pub new-number-spec : {M : Type 1} → statement M
+new-number-spec =
+    tie.close (tie.spec seen-requires same-length returns mark-requires same-length-2 returns-2)
