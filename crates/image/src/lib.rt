@@ -13,6 +13,7 @@ use queue::limits::Limits;
 use queue::put::copy_part;
 use queue::put::fill_zero;
 use queue::put::put_be;
+use queue::refusal;
 use text::Text;
 use text::text_at;
 ghost use mathlib.Core.Path.{_≡_};
@@ -44,11 +45,11 @@ pub fn write(area: &[u8], out: &mut [u8], size: &mut u64) -> Answer
 {
     let a = area_at(area);
     if !a.ok {
-        return Answer::Refused(3);
+        return Answer::Refused(refusal::AREA_NOT_SOUND);
     }
     let n = image_len(a);
     if out.len() < n {
-        return Answer::Refused(4);
+        return Answer::Refused(refusal::OUTPUT_TOO_SHORT);
     }
     let x = a.open;
     put_image(area, 4, x, out, 0);
@@ -75,10 +76,10 @@ pub fn open(text: &[u8], area: &mut [u8]) -> Answer
 {
     let t = text_at(text);
     if !t.ok {
-        return Answer::Refused(16);
+        return Answer::Refused(refusal::NOT_AN_IMAGE);
     }
     if area.len() < t.need {
-        return Answer::Refused(2);
+        return Answer::Refused(refusal::AREA_TOO_SHORT);
     }
     put_area(text, t, area);
     Answer::Done(Kind::Nothing)
@@ -96,7 +97,7 @@ pub fn area_need(p: u64, b: u64, t: u64, k: u64, value: &mut u64) -> Answer
         shares: [0u8; 64],
     };
     if !Limits::check(l) {
-        return Answer::Refused(1);
+        return Answer::Refused(refusal::LIMIT_OUT_OF_RANGE);
     }
     let n = Limits::need(l);
     *value = n as u64;
@@ -125,10 +126,10 @@ pub fn image_limits(
 {
     let x = text_at(text);
     if !x.ok {
-        return Answer::Refused(16);
+        return Answer::Refused(refusal::NOT_AN_IMAGE);
     }
     if shares.len() < 64 {
-        return Answer::Refused(4);
+        return Answer::Refused(refusal::OUTPUT_TOO_SHORT);
     }
     let o = x.open;
     let h = o.head;
@@ -149,19 +150,19 @@ pub fn convert(text: &[u8], out: &mut [u8], size: &mut u64) -> Answer
 {
     let t = text_at(text);
     if !t.ok {
-        return Answer::Refused(16);
+        return Answer::Refused(refusal::NOT_AN_IMAGE);
     }
     let form = t.form;
     if form.kind != NEWEST {
-        return Answer::Refused(16);
+        return Answer::Refused(refusal::NOT_AN_IMAGE);
     }
     let x = t.open;
     if !said(text, x) {
-        return Answer::Refused(22);
+        return Answer::Refused(refusal::NOT_CONVERTIBLE);
     }
     let n = old_len(text.len(), x);
     if out.len() < n {
-        return Answer::Refused(4);
+        return Answer::Refused(refusal::OUTPUT_TOO_SHORT);
     }
     put_old(text, x, out);
     *size = n as u64;

@@ -25,6 +25,7 @@ use queue::reading::observed_height;
 use queue::reading::revision;
 use queue::reading::signed_place;
 use queue::reconcile::reconcile;
+use queue::refusal;
 use queue::reopen::reopen;
 use queue::reserved::guard_snapshot;
 use queue::reserved::reservation_snapshot;
@@ -70,7 +71,7 @@ fn sound(area: &[u8]) -> Answer
     if a.ok {
         return Answer::Done(Kind::Nothing);
     }
-    Answer::Refused(3)
+    Answer::Refused(refusal::AREA_NOT_SOUND)
 }
 
 // A fresh queue into area: 1, 2, 5.

@@ -20,6 +20,8 @@ use super::put::put_u8;
 use super::reading::entry_len;
 use super::reading::find_id;
 use super::reading::put_entry;
+use super::refusal;
+use super::state;
 use super::view::id_at;
 use super::view::size;
 use super::write::put_ended;
@@ -47,10 +49,10 @@ pub fn set_cursor(cur: &[u8], next: &mut [u8], height: u32, flag: u8, tip: &[u8]
 {
     let a = area_at(cur);
     if !a.ok {
-        return Answer::Refused(3);
+        return Answer::Refused(refusal::AREA_NOT_SOUND);
     }
     if next.len() < a.need {
-        return Answer::Refused(2);
+        return Answer::Refused(refusal::AREA_TOO_SHORT);
     }
     let p = a.persisted;
     if flag == 0 {
@@ -58,11 +60,11 @@ pub fn set_cursor(cur: &[u8], next: &mut [u8], height: u32, flag: u8, tip: &[u8]
         return Answer::Done(Kind::Memory);
     }
     if flag != 1 {
-        return Answer::Refused(5);
+        return Answer::Refused(refusal::MALFORMED);
     }
     let n = size(tip, false, 0);
     if n != 32 {
-        return Answer::Refused(5);
+        return Answer::Refused(refusal::MALFORMED);
     }
     let i = id_at(tip, false, 0, 0);
     put_moved(cur, a, p, Height(height as u64), true, i, next);
@@ -75,29 +77,29 @@ pub fn settle(cur: &[u8], next: &mut [u8], kind: u64, outcome: u64) -> Answer
 {
     let a = area_at(cur);
     if !a.ok {
-        return Answer::Refused(3);
+        return Answer::Refused(refusal::AREA_NOT_SOUND);
     }
     if both(kind == 2, outcome == 1) {
         let n = a.need;
         if next.len() < n {
-            return Answer::Refused(2);
+            return Answer::Refused(refusal::AREA_TOO_SHORT);
         }
         copy_part(cur, 0, n, next, 0);
-        return Answer::Refused(17);
+        return Answer::Refused(refusal::WRITE_FAILED);
     }
     let b = area_at(next);
     if !b.ok {
-        return Answer::Refused(3);
+        return Answer::Refused(refusal::AREA_NOT_SOUND);
     }
     if !settle_shape(kind, outcome) {
-        return Answer::Refused(5);
+        return Answer::Refused(refusal::MALFORMED);
     }
     if outcome == 0 {
         return Answer::Done(Kind::Nothing);
     }
     let p = a.persisted;
     put_be(next, 0, 4, p.0);
-    Answer::Refused(17)
+    Answer::Refused(refusal::WRITE_FAILED)
 }
 
 fn settle_shape(kind: u64, outcome: u64) -> bool
@@ -128,20 +130,20 @@ pub fn cancel(cur: &[u8], next: &mut [u8], id: &[u8], out: &mut [u8]) -> Answer
 {
     let a = area_at(cur);
     if !a.ok {
-        return Answer::Refused(3);
+        return Answer::Refused(refusal::AREA_NOT_SOUND);
     }
     if next.len() < a.need {
-        return Answer::Refused(2);
+        return Answer::Refused(refusal::AREA_TOO_SHORT);
     }
     if id.len() != 32 {
-        return Answer::Refused(5);
+        return Answer::Refused(refusal::MALFORMED);
     }
     let k = id_at(id, false, 0, 0);
     let o = a.open;
     let h = o.head;
     let f = find_id(cur, o.start, h.count, k);
     if !f.found {
-        return Answer::Refused(13);
+        return Answer::Refused(refusal::NOT_FOUND);
     }
     cancel_found(cur, next, a, k, f.at, out)
 }
@@ -160,13 +162,13 @@ fn cancel_found(
 {
     let x = rec_at(cur, at);
     let f = x.facts;
-    if f.state == 2 {
-        return Answer::Refused(14);
+    if f.state == state::MINED {
+        return Answer::Refused(refusal::ALREADY_MINED);
     }
     if !f.holder {
         let n = entry_len(x);
         if out.len() < n {
-            return Answer::Refused(4);
+            return Answer::Refused(refusal::OUTPUT_TOO_SHORT);
         }
         put_entry(cur, at, x, out, 0);
         return Answer::Done(Kind::Nothing);
@@ -192,10 +194,10 @@ fn cancel_held(
     let c = h.counter;
     let m: u64 = 1;
     if 18446744073709551615 - c.0 < m {
-        return Answer::Refused(15);
+        return Answer::Refused(refusal::COUNTER_EXHAUSTED);
     }
     if out.len() < x.mark + 3 {
-        return Answer::Refused(4);
+        return Answer::Refused(refusal::OUTPUT_TOO_SHORT);
     }
     put_ended(cur, a, Change::Named, id, 4, 1, m, next);
     put_end(cur, at, x, 4, 1, out);
@@ -236,10 +238,10 @@ pub fn expire(cur: &[u8], next: &mut [u8], time: u64, height: u32, out: &mut [u8
 {
     let a = area_at(cur);
     if !a.ok {
-        return Answer::Refused(3);
+        return Answer::Refused(refusal::AREA_NOT_SOUND);
     }
     if next.len() < a.need {
-        return Answer::Refused(2);
+        return Answer::Refused(refusal::AREA_TOO_SHORT);
     }
     expire_found(cur, next, a, Time(time), Height(height as u64), out)
 }
@@ -262,10 +264,10 @@ fn expire_found(
     let none = [0u8; 32];
     let m = hits(cur, o.start, h.count, Change::Due(time, height), none);
     if 18446744073709551615 - c.0 < m {
-        return Answer::Refused(15);
+        return Answer::Refused(refusal::COUNTER_EXHAUSTED);
     }
     if out.len() < 4 + 32 * (m as usize) {
-        return Answer::Refused(4);
+        return Answer::Refused(refusal::OUTPUT_TOO_SHORT);
     }
     if m == 0 {
         put_be(out, 0, 4, 0);

@@ -8,6 +8,7 @@ use super::frame::Time;
 use super::frame::num;
 use super::frame::rec_at;
 use super::put::put_be;
+use super::refusal;
 use super::release::add_place;
 use super::select::gather;
 use super::select::order;
@@ -268,7 +269,7 @@ fn put_best(s: &[u8], picked: &[usize], b: Choice, out: &mut [u8]) -> Answer
 {
     let n = picked.len();
     if out.len() < 24 + 32 * n {
-        return Answer::Refused(4);
+        return Answer::Refused(refusal::OUTPUT_TOO_SHORT);
     }
     let c = put_be(out, 0, 8, b.fee);
     let d = put_be(out, c, 4, b.nodes);
@@ -292,7 +293,7 @@ fn best_known(
     ensures { λ r. ⌜ written r (now (out .exit)) ≡ searchOf (map (recAt (now (s .entry))) (now (at .entry))) limit budget (now (out .entry)) ⌝ }
 {
     if !fees_fit(fees) {
-        return Answer::Refused(21);
+        return Answer::Refused(refusal::FEES_TOO_LARGE);
     }
     let b = search(sizes, fees, limit, budget);
     let mut picked = [0usize; 20];
@@ -377,13 +378,13 @@ pub fn best_fees(
 {
     let a = area_at(area);
     if !a.ok {
-        return Answer::Refused(3);
+        return Answer::Refused(refusal::AREA_NOT_SOUND);
     }
     if budget < 1 {
-        return Answer::Refused(5);
+        return Answer::Refused(refusal::MALFORMED);
     }
     if 2097151 < budget {
-        return Answer::Refused(5);
+        return Answer::Refused(refusal::MALFORMED);
     }
     let o = a.open;
     let h = o.head;

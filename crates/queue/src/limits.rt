@@ -9,6 +9,7 @@ use super::head::put_front;
 use super::logic::both;
 use super::put::copy_part;
 use super::put::fill_zero;
+use super::refusal;
 use super::view::be;
 use super::view::size;
 ghost use mathlib.Core.Path.{_≡_};
@@ -123,14 +124,14 @@ impl Limits {
             shares: v,
         };
         if !both(Limits::check(l), Limits::shares_fit(v, p)) {
-            return Answer::Refused(1);
+            return Answer::Refused(refusal::LIMIT_OUT_OF_RANGE);
         }
         let n = Limits::need(l);
         if area.len() < n {
-            return Answer::Refused(2);
+            return Answer::Refused(refusal::AREA_TOO_SHORT);
         }
         if shares.len() != 64 {
-            return Answer::Refused(5);
+            return Answer::Refused(refusal::MALFORMED);
         }
         let m = Marks {
             persisted: Height(0),

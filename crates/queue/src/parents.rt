@@ -9,6 +9,7 @@ use super::frame::Time;
 use super::links::links;
 use super::logic::both;
 use super::put::put_be;
+use super::refusal;
 use super::select::gather;
 use super::select::order;
 use super::select::put_ids;
@@ -202,7 +203,7 @@ fn put_listed(s: &[u8], picked: &[usize], out: &mut [u8]) -> Answer
 {
     let n = picked.len();
     if out.len() < 4 + 32 * n {
-        return Answer::Refused(4);
+        return Answer::Refused(refusal::OUTPUT_TOO_SHORT);
     }
     let o = put_be(out, 0, 4, n as u64);
     put_ids(s, picked, out, o);
@@ -325,7 +326,7 @@ fn parents_in(area: &[u8], time: Time, height: Height, out: &mut [u8]) -> Answer
 {
     let a = area_at(area);
     if !a.ok {
-        return Answer::Refused(3);
+        return Answer::Refused(refusal::AREA_NOT_SOUND);
     }
     let o = a.open;
     let h = o.head;

@@ -14,7 +14,9 @@ use super::put::copy_part;
 use super::put::put_be;
 use super::reading::entry_len;
 use super::reading::put_entry;
+use super::refusal;
 use super::rules;
+use super::state;
 ghost use mathlib.Core.Path.{_≡_};
 ghost use mathlib.Core.Bool.{true, false, cond};
 ghost use mathlib.Core.List.{[]};
@@ -50,7 +52,7 @@ fn passes(w: What, f: Facts) -> bool
         What::Ids => true,
         What::Guarded => f.holder,
         What::DueBy(t, h) => rules::due(t, h, f),
-        What::Confirmed => both(f.state == 2, f.placed),
+        What::Confirmed => both(f.state == state::MINED, f.placed),
         What::Entries => true,
     }
 }
@@ -166,13 +168,13 @@ fn told(area: &[u8], w: What, out: &mut [u8]) -> Answer
 {
     let a = area_at(area);
     if !a.ok {
-        return Answer::Refused(3);
+        return Answer::Refused(refusal::AREA_NOT_SOUND);
     }
     let o = a.open;
     let h = o.head;
     let m = measure(area, o.start, h.count, w);
     if out.len() < 4 + m.size {
-        return Answer::Refused(4);
+        return Answer::Refused(refusal::OUTPUT_TOO_SHORT);
     }
     let p = put_be(out, 0, 4, m.count);
     put_pieces(area, o.start, h.count, w, out, p);

@@ -17,6 +17,9 @@ use super::put::fill_zero;
 use super::put::put_be;
 use super::put::put_id;
 use super::put::put_u8;
+use super::reason;
+use super::refusal;
+use super::state;
 use super::view::cmp_id;
 use super::view::id_at;
 use super::view::size;
@@ -94,7 +97,7 @@ fn listed(ids: &[u8], k: u64, x: Seen) -> bool
     ensures { λ r. ⌜ r ≡ listedS (idsAt (now (ids .entry)) k) x ⌝ }
 {
     let f = x.facts;
-    if f.state != 2 {
+    if f.state != state::MINED {
         return false;
     }
     let id = x.id;
@@ -124,11 +127,15 @@ fn state_again(f: Facts) -> u64
 {
     if f.mark == 0 {
         if f.holder {
-            return 0;
+            return state::QUEUED;
         }
-        return 5;
+        return state::EXPIRED;
     }
-    if f.mark == 4 { 4 } else { 5 }
+    if f.mark == state::CANCELLED {
+        state::CANCELLED
+    } else {
+        state::EXPIRED
+    }
 }
 
 fn reason_again(f: Facts) -> u64
@@ -136,14 +143,18 @@ fn reason_again(f: Facts) -> u64
 {
     if f.mark == 0 {
         if f.holder {
-            return 4;
+            return reason::ROLLED_BACK;
         }
-        return 3;
+        return reason::ROLLED_BACK_AFTER_RELEASE;
     }
-    if f.mark == 4 {
-        return 1;
+    if f.mark == state::CANCELLED {
+        return reason::CANCELLED;
     }
-    if f.mark == 5 { 2 } else { 3 }
+    if f.mark == state::EXPIRED {
+        reason::DEADLINE_ELAPSED
+    } else {
+        reason::ROLLED_BACK_AFTER_RELEASE
+    }
 }
 
 // A record's bytes up to its terms.
@@ -262,18 +273,18 @@ pub fn reopen(cur: &[u8], next: &mut [u8], ids: &[u8]) -> Answer
 {
     let a = area_at(cur);
     if !a.ok {
-        return Answer::Refused(3);
+        return Answer::Refused(refusal::AREA_NOT_SOUND);
     }
     if next.len() < a.need {
-        return Answer::Refused(2);
+        return Answer::Refused(refusal::AREA_TOO_SHORT);
     }
     let n = size(ids, false, 0);
     if n % 32 != 0 {
-        return Answer::Refused(5);
+        return Answer::Refused(refusal::MALFORMED);
     }
     let k = (n / 32) as u64;
     if !rise(ids, k) {
-        return Answer::Refused(5);
+        return Answer::Refused(refusal::MALFORMED);
     }
     reopen_those(cur, next, a, ids, k)
 }

@@ -6,6 +6,8 @@ use super::frame::Time;
 use super::logic::both;
 use super::logic::either;
 use super::logic::one_if;
+use super::reason;
+use super::state;
 ghost use mathlib.Core.Path.{_≡_};
 ghost use Prim.Native.Nat.{_≤_, _<_};
 ghost use Rattle.queue.specs.paper.Sound.{pending?, heldRight?, reasonRight?, placeRight?, markRight?, finishRight?, sizesRight?};
@@ -27,32 +29,48 @@ pub enum Query {
 pub fn pending(state: u64) -> bool
     ensures { λ r. ⌜ r ≡ pending? state ⌝ }
 {
-    either(state == 0, state == 3)
+    either(state == state::QUEUED, state == state::CONFLICTED)
 }
 
 fn held_right(state: u64, holder: bool) -> bool
     ensures { λ r. ⌜ r ≡ heldRight? state holder ⌝ }
 {
     let a = both(pending(state), holder);
-    let b = both(either(state == 4, state == 5), !holder);
-    either(a, either(b, state == 2))
+    let b = both(
+        either(state == state::CANCELLED, state == state::EXPIRED),
+        !holder,
+    );
+    either(a, either(b, state == state::MINED))
 }
 
 fn reason_right(state: u64, n: u64) -> bool
     ensures { λ r. ⌜ r ≡ reasonRight? state n ⌝ }
 {
-    let a = both(state == 0, either(n == 0, n == 4));
-    let b = both(state == 3, n == 5);
-    let c = both(state == 2, n == 0);
-    let d = both(state == 4, n == 1);
-    let e = both(state == 5, either(n == 2, n == 3));
+    let a = both(
+        state == state::QUEUED,
+        either(n == reason::NONE, n == reason::ROLLED_BACK),
+    );
+    let b = both(state == state::CONFLICTED, n == reason::INPUTS_UNAVAILABLE);
+    let c = both(state == state::MINED, n == reason::NONE);
+    let d = both(state == state::CANCELLED, n == reason::CANCELLED);
+    let e = both(
+        state == state::EXPIRED,
+        either(
+            n == reason::DEADLINE_ELAPSED,
+            n == reason::ROLLED_BACK_AFTER_RELEASE,
+        ),
+    );
     either(a, either(b, either(c, either(d, e))))
 }
 
 fn place_right(state: u64, placed: bool) -> bool
     ensures { λ r. ⌜ r ≡ placeRight? state placed ⌝ }
 {
-    if placed { state == 2 } else { !(state == 2) }
+    if placed {
+        state == state::MINED
+    } else {
+        !(state == state::MINED)
+    }
 }
 
 fn mark_right(state: u64, holder: bool, mark: u64) -> bool
@@ -62,7 +80,7 @@ fn mark_right(state: u64, holder: bool, mark: u64) -> bool
         mark == 0,
         both(
             either(mark == 3, either(mark == 4, mark == 5)),
-            both(state == 2, !holder),
+            both(state == state::MINED, !holder),
         ),
     )
 }
@@ -140,8 +158,8 @@ pub fn weigh(q: Query, f: Facts) -> u64
     match q {
         Query::Holders => one_if(f.holder),
         Query::HeldBytes => f.bytes,
-        Query::MinedHolders => one_if(both(f.state == 2, f.holder)),
-        Query::MinedBytes => { if f.state == 2 { f.bytes } else { 0 } }
+        Query::MinedHolders => one_if(both(f.state == state::MINED, f.holder)),
+        Query::MinedBytes => { if f.state == state::MINED { f.bytes } else { 0 } }
         Query::Tombstones => one_if(!f.holder),
         Query::Due(t, h) => one_if(due(t, h, f)),
         Query::PendingOf(c) => one_if(both(pending(f.state), f.caller == c)),
