@@ -547,9 +547,6 @@ module _ (s : Bytes) (at : List ℕ) (named : Named s at) where
     with-told {l} out e f =
         f ∙ ap (λ (k : List Id). toldOut (idsBytes k) out) (ap (map (idAt s)) e ∙ ids-of (byCounters (kidsOf bits′ w) (length at)) below ∙ ap (map (λ (r : Rec). r .id)) order-is)
 
-pub fits-array : (n w m : ℕ) → n * w ≤ m → n * w ≤ length {A = ℕ} (replicate m 0)
-fits-array n w m h = let e = length-replicate {A = ℕ} m 0 in omega arith
-
 pub zero-array : (n : ℕ) → Zero (replicate n 0)
 zero-array n = record { all = go n }
   where

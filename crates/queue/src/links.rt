@@ -30,7 +30,7 @@ ghost use Rattle.queue.specs.View.{view};
 ghost use Rattle.queue.specs.Reads.{whole, listAt};
 ghost use Rattle.queue.specs.Suspects.{idR, noR, later, InOrder};
 ghost use Rattle.queue.specs.fees.Told.{Known};
-ghost use Rattle.queue.specs.parents.Links.{hashAll, wantsAt, Short, Joined, hit, inLine, Zero, Cleared, Kept, Held, Rowed, Begins, Again, Thinner, Thinned, Linked, outputsLinked};
+ghost use Rattle.queue.specs.parents.Links.{hashAll, wantsAt, Short, Joined, hit, inLine, Zero, Cleared, Kept, Held, Rowed, Begins, Again, Thinner, Thinned, Linked, outputsLinked, LinksIn};
 ghost use Rattle.queue.specs.paper.Lists.{any?};
 ghost use Rattle.queue.specs.paper.Sound.{among?};
 
@@ -383,8 +383,8 @@ pub fn links(
     bits: &mut [u64],
     w: usize,
 )
-    requires { ⌜ All (Known (now s)) (now at) × All (Short (now s)) (now at) × (length (now s) < 4294967296) × (length (now at) ≤ 2048) × (256 ≤ length (now v)) × (0 < length (now slots)) × (0 < length (now t)) × (length (now at) * w ≤ length (now bits)) × Zero (now slots) ⌝ }
-    ensures { λ _. ⌜ Joined w (now (bits .entry)) (now (bits .exit)) (outputsLinked (now (s .entry)) (now (at .entry)) (λ j z. ltb j (length (now (at .entry))) && among? z (wantsAt (now (s .entry)) (now (at .entry)) j))) ⌝ }
+    requires { ⌜ All (Known (now s)) (now at) × All (Short (now s)) (now at) × (length (now s) < 4294967296) × (length (now at) ≤ 2048) × (256 ≤ length (now v)) × (0 < length (now slots)) × (0 < length (now t)) × (length (now at) * w ≤ length (now bits)) × Zero (now slots) × Zero (now bits) ⌝ }
+    ensures { λ _. ⌜ LinksIn w (now (s .entry)) (now (at .entry)) (now (bits .exit)) ⌝ }
 {
     let mut a: usize = 0;
     while a < at.len() {

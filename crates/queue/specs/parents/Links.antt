@@ -118,6 +118,13 @@ pub record Linked (w : ℕ) (s : Bytes) (slots t rows bits bits′ : List ℕ) (
 unfoldable pub outputsLinked : Bytes → List ℕ → (ℕ → Id → Bool) → ℕ → ℕ → Bool
 outputsLinked s at own i j = ltb i (length at) && (any? (own j) (outsAt s at i) && not (eqb j i))
 
+-- the bits of all lines, put into a table without any: the bit of j in the line of i says that j, another one, wants an output of i
+pub record LinksIn (w : ℕ) (s : Bytes) (at bits : List ℕ) : Type 0 where
+  pub from : List ℕ
+  pub zero : Zero from
+  pub fits : length at * w ≤ length from
+  pub joined : Joined w from bits (outputsLinked s at (λ j z. ltb j (length at) && among? z (wantsAt s at j)))
+
 -- where a look for the id of y begins
 pub record Begins (ordered : Bool) (s : Bytes) (v : List ℕ) (y from : ℕ) : Type 0 where
   pub yes : ordered ≡ true → InOrder false s v × Cut false s v y from from

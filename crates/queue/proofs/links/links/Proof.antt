@@ -61,7 +61,7 @@ same-length-4 : tie.Need-same-length-4 Inv-loop μ-loop
 same-length-4 c = c .before .loop .inv .0 .size
 
 returns : tie.Need-returns Inv-loop μ-loop
-returns c = blocks-end (c .before .loop .a) (c .before .before .before .before .before .before .before .before .args .s .now) (c .before .before .before .before .before .before .before .before .args .at .now) (omega (arith, c .before .loop .inv .1, c .loop-test .left)) (c .before .loop .inv .0)
+returns c = record { from = c .before .before .before .before .before .before .before .before .args .bits .now; zero = c .before .before .before .before .before .before .before .before .pre .9; fits = c .before .before .before .before .before .before .before .before .pre .7; joined = blocks-end (c .before .loop .a) (c .before .before .before .before .before .before .before .before .args .s .now) (c .before .before .before .before .before .before .before .before .args .at .now) (omega (arith, c .before .loop .inv .1, c .loop-test .left)) (c .before .loop .inv .0) }
 
 pub links-spec : {M : Type 1} → statement M
 links-spec =
