@@ -8,7 +8,7 @@ use lib.Dec.{eqb}
 use lib.ListN.{length}
 use Rattle.queue.specs.Frames.{idC}
 use Rattle.queue.specs.View.{view}
-use Rattle.queue.specs.Filter.{hashL, hasIn, NewSeen}
+use Rattle.queue.specs.Filter.{hashL, hashN, hasIn, NewSeen}
 use Rattle.queue.specs.Forms.{afterIn, endsLine, turn-in, recIn}
 use Rattle.queue.specs.Reads.{whole, listAt}
 use Rattle.queue.specs.ReadLaws.{none-left, false-true}
@@ -75,7 +75,7 @@ pub record Rest (k : ℕ) (c : Finish) (a : Sums) (prev : Id) (first : Bool) (l 
 -- where the filter told all records before from each other: what it has met of the inputs and the finish numbers
 pub record Told (all rest : List Rec) (t : List ℕ) : Type 0 where
   pub inputs : Walk hasIn hashL all rest t
-  pub numbers : Walk stamped? (λ m. m) all rest t
+  pub numbers : Walk stamped? hashN all rest t
 
 right-facts : (k c : ℕ) (r : Rec) → rightF k c (factsOf r) ≡ right? k c r
 unfolding rightF factsOf right?
@@ -151,7 +151,7 @@ module _ (form : Form) (s : Bytes) (n at k : ℕ) (c : Finish) where
     under = rw e (record { holders = omega arith; bytes = omega arith; mined = omega arith; minedbytes = omega arith });
     room = z;
     rest = λ _. rest-start k c prev (listAt (recIn form) n s at) e;
-    told = λ _ _. record { inputs = walk-start hasIn hashL _ _; numbers = walk-start stamped? (λ m. m) _ _ };
+    told = λ _ _. record { inputs = walk-start hasIn hashL _ _; numbers = walk-start stamped? hashN _ _ };
   }
 
   module _ {i left m : ℕ} {a : Sums} {prev : Id} {first ok : Bool} {t₀ : List ℕ} {y : Seen} (x : Checking i left a prev first t₀) (p : 0 < left) (r : ReadsForm form s i ok m y) where

@@ -19,7 +19,7 @@ use Rattle.queue.specs.Forms.{recIn, afterIn}
 use Rattle.queue.specs.View.{view}
 use Rattle.queue.specs.Reads.{Reads, whole, listAt}
 use Rattle.queue.specs.ReadLaws.{turn, none-left, false-true}
-use Rattle.queue.specs.Filter.{slotL, maskL, hashL, marked, markL, hasIn, heldBy, Passed, New, NewSeen}
+use Rattle.queue.specs.Filter.{slotL, maskL, hashL, hashN, marked, markL, hasIn, heldBy, Passed, New, NewSeen}
 use Rattle.queue.specs.paper.Records.{Bytes, Id, Rec}
 use Rattle.queue.specs.paper.Lists.{one, count}
 use Rattle.queue.specs.paper.Ids.{same?}
@@ -133,13 +133,13 @@ module _ {v : Bytes} {x : Seen} {clear : Bool} (c : clear ≡ true) {t t′ : Li
       let n : (m : ℕ) → (not (x .facts .holder) && eqb (x .facts .finish .0) m) ≡ true → ⊥ = λ m o. false-true (rw h at o) in
       record { before = c; inputs = g; number = record { old = g .old; none = λ m o. absurd (n m o); new = λ m o. absurd (n m o) } }
 
-  pub new-tomb : {t″ : List ℕ} → x .facts .holder ≡ false → New (λ m. eqb (x .facts .finish .0) m) (λ m. m) t′ t″ → NewSeen v x clear t t″
+  pub new-tomb : {t″ : List ℕ} → x .facts .holder ≡ false → New (λ m. eqb (x .facts .finish .0) m) hashN t′ t″ → NewSeen v x clear t t″
   new-tomb {t″} h k =
       let o : (m : ℕ) → marked t m ≡ true → marked t″ m ≡ true = λ m a. k .old m (g .old m a) in
       record {
         before = c;
         inputs = record { old = o; none = g .none; new = λ z a. k .old (hashL z) (g .new z a) };
-        number = record { old = o; none = λ m a. cases (marked t m) (λ q. false-true (sym (k .none m (rw h at a)) ∙ g .old m q)) (λ q. q); new = λ m a. k .new m (rw h at a) };
+        number = record { old = o; none = λ m a. cases (marked t (hashN m)) (λ q. false-true (sym (k .none m (rw h at a)) ∙ g .old (hashN m) q)) (λ q. q); new = λ m a. k .new m (rw h at a) };
       }
 
 -- ---- the ids of a record: those before i are passed
@@ -296,7 +296,7 @@ distinct-no (r ∷ l) m e = cases (stamped? m r)
 pub walk-apart : {all : List Rec} {t : List ℕ} → Walk hasIn hashL all [] t → apart? all ≡ true
 walk-apart {all} w = sym (apart-yes all (walk-end w))
 
-pub walk-distinct : {all : List Rec} {t : List ℕ} → Walk stamped? (λ m. m) all [] t → distinct? all ≡ true
+pub walk-distinct : {all : List Rec} {t : List ℕ} → Walk stamped? hashN all [] t → distinct? all ≡ true
 walk-distinct {all} w = sym (distinct-yes all (walk-end w))
 
 -- ---- how many records have an id

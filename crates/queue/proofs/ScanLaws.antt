@@ -127,3 +127,15 @@ and-one false = refl
 pub zero-over : (s : Bytes) (i to : ℕ) (ok : Bool) → to ≤ i → (ok && zero? (take (to - i) (drop i s))) ≡ ok
 unfolding zero?
 zero-over s i to ok h = let z : to - i ≡ 0 = omega arith in rw z (and-one ok)
+
+-- the zeros of a part are those of its two parts
+pub zero-parts : (s : Bytes) (i to n : ℕ) → i + n ≤ to → to ≤ length s → zero? (take (to - i) (drop i s)) ≡ (zero? (take (i + n - i) (drop i s)) && zero? (take (to - (i + n)) (drop (i + n) s)))
+unfolding zero?
+zero-parts s i to zero h k = let z : i + 0 - i ≡ 0 = omega arith in let e : i + 0 ≡ i = omega arith in rw (z, e)
+zero-parts s i to (suc n) h k =
+    let e : i + suc n ≡ i + 1 + n = omega arith in
+    rw (e, zero-cut s i to (omega arith) k, zero-cut s i (i + 1 + n) (omega arith) (omega arith), zero-parts s (i + 1) to n (omega arith) k) (sym (over (eqb (getD s i 0) 0) _ _))
+  where
+    over : (b x y : Bool) → (cond b x false && y) ≡ cond b (x && y) false
+    over true x y = refl
+    over false x y = refl

@@ -2,7 +2,7 @@
 use mathlib.Core.Path.{_≡_}
 use mathlib.Core.Bool.{Bool, true, false, not, _&&_}
 use mathlib.Core.List.{List}
-use Prim.Native.Nat.{ℕ, _+_, _/_, _%_, _^_, _≤_}
+use Prim.Native.Nat.{ℕ, _+_, _*_, _/_, _%_, _^_, _≤_}
 use lib.Dec.{eqb}
 use lib.Bits.{bitOr}
 use lib.ListN.{length, getD, set}
@@ -24,6 +24,9 @@ maskL h = bitOr (bitOr (bitOr (2 ^ (h / 16384 % 64)) (2 ^ (h / 1048576 % 64))) (
 
 unfoldable pub hashL : Id → ℕ
 hashL x = (beAt 8 (view false x 0) 0 + beAt 8 (view false x 0) 24) % 2 ^ 64 % 274877906899
+
+unfoldable pub hashN : ℕ → ℕ
+hashN n = n % 274877906899 * 41475557 / 8192
 
 unfoldable pub marked : List ℕ → ℕ → Bool
 marked t h = eqb (bitOr (getD t (slotL (length t) h) 0) (maskL h)) (getD t (slotL (length t) h) 0)
@@ -56,4 +59,4 @@ pub record New {K : Type 0} (own : K → Bool) (hash : K → ℕ) (t t′ : List
 pub record NewSeen (v : Bytes) (x : Seen) (clear : Bool) (t t′ : List ℕ) : Type 0 where
   pub before : clear ≡ true
   pub inputs : New (λ z. among? z (listAt idC (x .facts .ins) v (x .at))) hashL t t′
-  pub number : New (λ m. not (x .facts .holder) && eqb (x .facts .finish .0) m) (λ m. m) t t′
+  pub number : New (λ m. not (x .facts .holder) && eqb (x .facts .finish .0) m) hashN t t′

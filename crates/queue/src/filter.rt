@@ -3,7 +3,7 @@ use super::view::be;
 ghost use mathlib.Core.Path.{_≡_};
 ghost use Prim.Native.Nat.{_<_, _^_};
 ghost use lib.ListN.{length};
-ghost use Rattle.queue.specs.Filter.{slotL, maskL, hashL, marked, markL};
+ghost use Rattle.queue.specs.Filter.{slotL, maskL, hashL, hashN, marked, markL};
 ghost use Rattle.queue.specs.parents.Links.{hashAll};
 
 pub fn bit(k: u64) -> u64
@@ -58,6 +58,13 @@ pub fn hash(id: [u8; 32]) -> u64
     let a = be(&id, false, 0, 0, 8);
     let b = be(&id, false, 0, 24, 8);
     std::num::wrapping_add_u64(a, b) % 274877906899
+}
+
+// A number of a number, spread, so that numbers that count up are far from each other.
+pub fn hash_number(n: u64) -> u64
+    ensures { λ r. ⌜ r ≡ hashN n ⌝ }
+{
+    n % 274877906899 * 41475557 / 8192
 }
 
 // Another number of an id: its four words of 8 bytes added, and spread, so that ids that count up are far from each other.

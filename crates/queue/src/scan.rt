@@ -1,5 +1,6 @@
 // Loops over the records of a queue, as bytes or as lines of text; `at` is where the first of n records stands.
 use super::filter::hash;
+use super::filter::hash_number;
 use super::filter::mark;
 use super::filter::seen;
 use super::forms::after_in;
@@ -33,7 +34,7 @@ ghost use Rattle.queue.specs.View.{view};
 ghost use Rattle.queue.specs.Reads.{whole, listAt};
 ghost use Rattle.queue.specs.Rules.{sum};
 ghost use Rattle.queue.specs.Sums.{noSums, Under, Added, unread?, Checked};
-ghost use Rattle.queue.specs.Filter.{hashL, heldBy, Passed, New, NewSeen};
+ghost use Rattle.queue.specs.Filter.{hashL, hashN, heldBy, Passed, New, NewSeen};
 ghost use Rattle.queue.specs.paper.Ids.{same?};
 ghost use Rattle.queue.specs.Areas.{zero?};
 ghost use Rattle.queue.specs.paper.Lists.{all?};
@@ -145,9 +146,9 @@ fn new_ids(s: &[u8], hex: bool, base: usize, ids: usize, c: u64, t: &mut [u64]) 
 
 fn new_number(n: Finish, t: &mut [u64]) -> bool
     requires { ⌜ 0 < length (now t) ⌝ }
-    ensures { λ r. ⌜ (length (now (t .exit)) ≡ length (now (t .entry))) × (r ≡ true → New (λ m. eqb (n .0) m) (λ m. m) (now (t .entry)) (now (t .exit))) ⌝ }
+    ensures { λ r. ⌜ (length (now (t .exit)) ≡ length (now (t .entry))) × (r ≡ true → New (λ m. eqb (n .0) m) hashN (now (t .entry)) (now (t .exit))) ⌝ }
 {
-    let h = n.0;
+    let h = hash_number(n.0);
     if seen(t, h) {
         return false;
     }
@@ -380,7 +381,7 @@ pub fn apart(s: &[u8], form: Form, at: usize, n: u64, unread: bool, few: bool) -
 }
 
 // No early way out, so that the loop can be done many bytes at a time.
-pub fn zeros(s: &[u8], from: usize, to: usize) -> bool
+fn zeros_part(s: &[u8], from: usize, to: usize) -> bool
     requires { ⌜ (from ≤ to) × (to ≤ length (now s)) ⌝ }
     ensures { λ r. ⌜ r ≡ zero? (take (to - from) (drop from (now (s .entry)))) ⌝ }
 {
@@ -391,4 +392,18 @@ pub fn zeros(s: &[u8], from: usize, to: usize) -> bool
         i += 1;
     }
     bits == 0
+}
+
+// The second part begins at a multiple of 64: of an area that does so, too, its bytes are read many at a time in one step.
+pub fn zeros(s: &[u8], from: usize, to: usize) -> bool
+    requires { ⌜ (from ≤ to) × (to ≤ length (now s)) ⌝ }
+    ensures { λ r. ⌜ r ≡ zero? (take (to - from) (drop from (now (s .entry)))) ⌝ }
+{
+    let n = 64 - from % 64;
+    if to - from <= n {
+        return zeros_part(s, from, to);
+    }
+    let a = zeros_part(s, from, from + n);
+    let b = zeros_part(s, from + n, to);
+    both(a, b)
 }

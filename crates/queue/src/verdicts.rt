@@ -17,7 +17,7 @@ ghost use Rattle.queue.specs.Reopens.{IdsRise};
 ghost use Rattle.queue.specs.Owning.{wantedOf};
 ghost use Rattle.queue.specs.Touching.{EntriesRise, JudgedAt};
 
-// With flags for all wanted ids.
+// With flags for all wanted ids, in tables of so many rows and so much room; smaller tables would only cost time.
 fn judge_with(
     s: &[u8],
     at: usize,
@@ -26,14 +26,20 @@ fn judge_with(
     b: Block,
     ids: &[u8],
     total: u64,
+    rows: usize,
+    room: usize,
     v: &mut [u64],
     flags: &mut [u8],
     vs: &mut [u64],
 )
-    requires { ⌜ (at ≤ length (now s)) × (whole (formC false recC) n (now s) at ≡ true) × EntriesRise (now t) (b .entries) × IdsRise (now ids) (b .available) × (n ≤ length (now vs)) × (n < 4294967296) × (length (now s) < 4294967296) × (total ≡ length (wantedOf (listAt (formC false recC) n (now s) at))) × (total ≤ length (now flags)) × (0 < length (now v)) ⌝ }
+    requires { ⌜ (at ≤ length (now s)) × (whole (formC false recC) n (now s) at ≡ true) × EntriesRise (now t) (b .entries) × IdsRise (now ids) (b .available) × (n ≤ length (now vs)) × (n < 4294967296) × (length (now s) < 4294967296) × (total ≡ length (wantedOf (listAt (formC false recC) n (now s) at))) × (total ≤ room) × (0 < rows) ⌝ }
     ensures { λ _. ⌜ JudgedAt (now (s .entry)) at n b (now (t .entry)) (now (ids .entry)) (take n (now (vs .exit))) ⌝ }
 {
-    own_flags(s, at, n, ids, b.available, v, flags, total);
+    if !both(rows <= v.len(), room <= flags.len()) {
+        judge_all(s, at, n, t, b, ids, false, ids, vs);
+        return;
+    }
+    own_flags(s, at, n, ids, b.available, &mut v[..rows], flags, total);
     judge_all(s, at, n, t, b, ids, true, flags, vs);
 }
 
@@ -46,14 +52,20 @@ fn few_with(
     b: Block,
     ids: &[u8],
     total: u64,
+    rows: usize,
+    room: usize,
     v: &mut [u64],
     flags: &mut [u8],
     vs: &mut [u64],
 )
-    requires { ⌜ (at ≤ length (now s)) × (whole (formC false recC) n (now s) at ≡ true) × EntriesRise (now t) (b .entries) × IdsRise (now ids) (b .available) × (n ≤ length (now vs)) × (n < 4294967296) × (length (now s) < 4294967296) × (total ≡ length (wantedOf (listAt (formC false recC) n (now s) at))) × (total ≤ length (now flags)) × (0 < length (now v)) ⌝ }
+    requires { ⌜ (at ≤ length (now s)) × (whole (formC false recC) n (now s) at ≡ true) × EntriesRise (now t) (b .entries) × IdsRise (now ids) (b .available) × (n ≤ length (now vs)) × (n < 4294967296) × (length (now s) < 4294967296) × (total ≡ length (wantedOf (listAt (formC false recC) n (now s) at))) × (total ≤ room) × (0 < rows) ⌝ }
     ensures { λ _. ⌜ JudgedAt (now (s .entry)) at n b (now (t .entry)) (now (ids .entry)) (take n (now (vs .exit))) ⌝ }
 {
-    few_flags(s, at, n, ids, b.available, v, flags, total);
+    if !both(rows <= v.len(), room <= flags.len()) {
+        judge_all(s, at, n, t, b, ids, false, ids, vs);
+        return;
+    }
+    few_flags(s, at, n, ids, b.available, &mut v[..rows], flags, total);
     judge_all(s, at, n, t, b, ids, true, flags, vs);
 }
 
@@ -66,14 +78,20 @@ fn most_with(
     b: Block,
     ids: &[u8],
     total: u64,
+    rows: usize,
+    room: usize,
     v: &mut [u64],
     flags: &mut [u8],
     vs: &mut [u64],
 )
-    requires { ⌜ (at ≤ length (now s)) × (whole (formC false recC) n (now s) at ≡ true) × EntriesRise (now t) (b .entries) × IdsRise (now ids) (b .available) × (n ≤ length (now vs)) × (n < 4294967296) × (length (now s) < 4294967296) × (total ≡ length (wantedOf (listAt (formC false recC) n (now s) at))) × (total ≤ length (now flags)) × (0 < length (now v)) ⌝ }
+    requires { ⌜ (at ≤ length (now s)) × (whole (formC false recC) n (now s) at ≡ true) × EntriesRise (now t) (b .entries) × IdsRise (now ids) (b .available) × (n ≤ length (now vs)) × (n < 4294967296) × (length (now s) < 4294967296) × (total ≡ length (wantedOf (listAt (formC false recC) n (now s) at))) × (total ≤ room) × (0 < rows) ⌝ }
     ensures { λ _. ⌜ JudgedAt (now (s .entry)) at n b (now (t .entry)) (now (ids .entry)) (take n (now (vs .exit))) ⌝ }
 {
-    most_flags(s, at, n, ids, b.available, v, flags, total);
+    if !both(rows <= v.len(), room <= flags.len()) {
+        judge_all(s, at, n, t, b, ids, false, ids, vs);
+        return;
+    }
+    most_flags(s, at, n, ids, b.available, &mut v[..rows], flags, total);
     judge_all(s, at, n, t, b, ids, true, flags, vs);
 }
 
@@ -90,7 +108,7 @@ fn judge_few(
     room: usize,
     vs: &mut [u64],
 )
-    requires { ⌜ (at ≤ length (now s)) × (whole (formC false recC) n (now s) at ≡ true) × EntriesRise (now t) (b .entries) × IdsRise (now ids) (b .available) × (n ≤ length (now vs)) × (n < 4294967296) × (length (now s) < 4294967296) × (total ≡ length (wantedOf (listAt (formC false recC) n (now s) at))) × (total ≤ room) × ((room ≤ 8192) × (0 < rows) × (rows ≤ 2048)) ⌝ }
+    requires { ⌜ (at ≤ length (now s)) × (whole (formC false recC) n (now s) at ≡ true) × EntriesRise (now t) (b .entries) × IdsRise (now ids) (b .available) × (n ≤ length (now vs)) × (n < 4294967296) × (length (now s) < 4294967296) × (total ≡ length (wantedOf (listAt (formC false recC) n (now s) at))) × (total ≤ room) × (0 < rows) ⌝ }
     ensures { λ _. ⌜ JudgedAt (now (s .entry)) at n b (now (t .entry)) (now (ids .entry)) (take n (now (vs .exit))) ⌝ }
 {
     let mut v = [0u64; 2048];
@@ -103,8 +121,10 @@ fn judge_few(
         b,
         ids,
         total,
-        &mut v[..rows],
-        &mut flags[..room],
+        rows,
+        room,
+        &mut v,
+        &mut flags,
         vs,
     );
 }
@@ -122,7 +142,7 @@ fn judge_many(
     room: usize,
     vs: &mut [u64],
 )
-    requires { ⌜ (at ≤ length (now s)) × (whole (formC false recC) n (now s) at ≡ true) × EntriesRise (now t) (b .entries) × IdsRise (now ids) (b .available) × (n ≤ length (now vs)) × (n < 4294967296) × (length (now s) < 4294967296) × (total ≡ length (wantedOf (listAt (formC false recC) n (now s) at))) × (total ≤ room) × ((room ≤ 262144) × (0 < rows) × (rows ≤ 65536)) ⌝ }
+    requires { ⌜ (at ≤ length (now s)) × (whole (formC false recC) n (now s) at ≡ true) × EntriesRise (now t) (b .entries) × IdsRise (now ids) (b .available) × (n ≤ length (now vs)) × (n < 4294967296) × (length (now s) < 4294967296) × (total ≡ length (wantedOf (listAt (formC false recC) n (now s) at))) × (total ≤ room) × (0 < rows) ⌝ }
     ensures { λ _. ⌜ JudgedAt (now (s .entry)) at n b (now (t .entry)) (now (ids .entry)) (take n (now (vs .exit))) ⌝ }
 {
     let mut v = [0u64; 65536];
@@ -135,8 +155,10 @@ fn judge_many(
         b,
         ids,
         total,
-        &mut v[..rows],
-        &mut flags[..room],
+        rows,
+        room,
+        &mut v,
+        &mut flags,
         vs,
     );
 }
@@ -154,7 +176,7 @@ fn judge_most(
     room: usize,
     vs: &mut [u64],
 )
-    requires { ⌜ (at ≤ length (now s)) × (whole (formC false recC) n (now s) at ≡ true) × EntriesRise (now t) (b .entries) × IdsRise (now ids) (b .available) × (n ≤ length (now vs)) × (n < 4294967296) × (length (now s) < 4294967296) × (total ≡ length (wantedOf (listAt (formC false recC) n (now s) at))) × (total ≤ room) × ((room ≤ 524288) × (0 < rows) × (rows ≤ 32768)) ⌝ }
+    requires { ⌜ (at ≤ length (now s)) × (whole (formC false recC) n (now s) at ≡ true) × EntriesRise (now t) (b .entries) × IdsRise (now ids) (b .available) × (n ≤ length (now vs)) × (n < 4294967296) × (length (now s) < 4294967296) × (total ≡ length (wantedOf (listAt (formC false recC) n (now s) at))) × (total ≤ room) × (0 < rows) ⌝ }
     ensures { λ _. ⌜ JudgedAt (now (s .entry)) at n b (now (t .entry)) (now (ids .entry)) (take n (now (vs .exit))) ⌝ }
 {
     let mut v = [0u64; 32768];
@@ -167,8 +189,10 @@ fn judge_most(
         b,
         ids,
         total,
-        &mut v[..rows],
-        &mut flags[..room],
+        rows,
+        room,
+        &mut v,
+        &mut flags,
         vs,
     );
 }

@@ -1,43 +1,56 @@
 -- Filled from its answers by tools/proofkit.py: change those, and fill it again.
-use Prim.Native.Nat.{_-_, _≤_}
-use Rattle.queue.proofs.ScanLaws.{or-zero, zero-over, zero-turn}
-use Rattle.queue.specs.Areas.{zero?}
+use Rattle.queue.proofs.ScanLaws.{zero-parts}
 use borrow.Author.Needs.{needs}
-use lib.Dec.{eqb}
-use lib.ListN.{drop, take}
-use mathlib.Core.Bool.{_&&_}
-use mathlib.Core.Path.{_∙_, _≡_, refl, sym}
+use mathlib.Core.Path.{_∙_, sym}
 use native.Mathlib.Omega.{arith}
 use Rattle.queue.proofs.scan.zeros.Statement.{statement}
 use Rattle.queue.proofs.scan.zeros.Tie as tie
 use Rattle.queue.proofs.scan.zeros.Reads as reads
 use Rattle.queue.proofs.scan.zeros.Lts as lts
+use Rattle.queue.proofs.logic.both.Reads as both-reads
+use Rattle.queue.proofs.scan.zeros_part.Reads as zeros-part-reads
 
-abbrev Inv-loop : tie.InvT-loop
-Inv-loop s from to bits₀ i₀ bits i = (from ≤ i) × (i ≤ to) × ((eqb bits 0 && zero? (take (to - i) (drop i s))) ≡ zero? (take (to - from) (drop from s)))
+sub-n : tie.Need-sub-n
+sub-n c = search needs
 
-abbrev μ-loop : tie.MeasureT-loop
-μ-loop s from to bits₀ i₀ bits i = to - i
+sub-if1 : tie.Need-sub-if1
+sub-if1 c = search needs
 
-loop-holds : tie.Need-loop-holds Inv-loop μ-loop
-loop-holds c = (omega arith, omega arith, refl)
+zeros-part-requires : tie.Need-zeros-part-requires
+zeros-part-requires c κs = search needs
 
-shared-slice-read-bits : tie.Need-shared-slice-read-bits Inv-loop μ-loop
-shared-slice-read-bits c = search needs
+returns : tie.Need-returns
+returns c = c .zeros-part .ensures
 
-add-i : tie.Need-add-i Inv-loop μ-loop
-add-i c = search needs
+add-zeros-part : tie.Need-add-zeros-part
+add-zeros-part c = search needs
 
-loop-less : tie.Need-loop-less Inv-loop μ-loop
-loop-less c = search needs
+zeros-part-requires-2 : tie.Need-zeros-part-requires-2
+zeros-part-requires-2 c κs = search needs
 
-loop-again : tie.Need-loop-again Inv-loop μ-loop
-loop-again c = (omega arith, omega arith, rw (or-zero (c .before .before .loop .bits) _) (sym (zero-turn _ (c .before .before .loop .i) _ (eqb (c .before .before .loop .bits) 0) (c .before .loop-test .taken) (c .before .before .before .pre .1)) ∙ c .before .before .loop .inv .2))
+add-zeros-part-2 : tie.Need-add-zeros-part-2
+add-zeros-part-2 c = search needs
 
-returns : tie.Need-returns Inv-loop μ-loop
-returns c = sym (zero-over _ (c .before .loop .i) _ (eqb (c .before .loop .bits) 0) (c .loop-test .left)) ∙ c .before .loop .inv .2
+zeros-part-requires-3 : tie.Need-zeros-part-requires-3
+zeros-part-requires-3 c κs = search needs
+
+both-requires : tie.Need-both-requires
+both-requires c κs = search needs
+
+returns-2 : tie.Need-returns-2
+returns-2 c = c .both .ensures ∙ rw (c .before .before .zeros-part2 .ensures, c .before .zeros-part3 .ensures) (sym (zero-parts _ (c .before .before .before .before .before .args .from) _ _ (omega arith) (c .before .before .before .before .before .pre .1)))
 
 pub zeros-spec : {M : Type 1} → statement M
 zeros-spec =
     tie.close
-    (tie.spec Inv-loop μ-loop loop-holds shared-slice-read-bits add-i loop-less loop-again returns)
+    (tie.spec
+    sub-n
+    sub-if1
+    zeros-part-requires
+    returns
+    add-zeros-part
+    zeros-part-requires-2
+    add-zeros-part-2
+    zeros-part-requires-3
+    both-requires
+    returns-2)

@@ -35,7 +35,7 @@ returns : tie.Need-returns
 returns c = c .before .before .judge-all .ensures
 
 judge-few-requires : tie.Need-judge-few-requires
-judge-few-requires c κs = (c .before .before .before .before .before .before .before .before .before .before .pre .0, c .before .before .before .before .before .before .before .before .before .before .pre .1, c .before .before .before .before .before .before .before .before .before .before .pre .2, c .before .before .before .before .before .before .before .before .before .before .pre .3, c .before .before .before .before .before .before .before .before .before .before .pre .4, c .before .before .before .before .before .before .before .before .before .before .pre .5, small-is (c .before .before .before .before .before .before .before .before .before .before .args .b .caught) (length (c .before .before .before .before .before .before .before .before .before .before .args .s .now)) 4294967296 (c .before .before .before .before .before .count-wanted .result) 524288 (c .before .before .before .both2 .ensures) (c .before .before .before .before .both .ensures) (not-false _ (c .before .before .if1 .left)) .0, c .before .before .before .before .before .count-wanted .ensures .0, c .before .if2 .taken, (omega arith, omega arith, omega arith))
+judge-few-requires c κs = (c .before .before .before .before .before .before .before .before .before .before .pre .0, c .before .before .before .before .before .before .before .before .before .before .pre .1, c .before .before .before .before .before .before .before .before .before .before .pre .2, c .before .before .before .before .before .before .before .before .before .before .pre .3, c .before .before .before .before .before .before .before .before .before .before .pre .4, c .before .before .before .before .before .before .before .before .before .before .pre .5, small-is (c .before .before .before .before .before .before .before .before .before .before .args .b .caught) (length (c .before .before .before .before .before .before .before .before .before .before .args .s .now)) 4294967296 (c .before .before .before .before .before .count-wanted .result) 524288 (c .before .before .before .both2 .ensures) (c .before .before .before .before .both .ensures) (not-false _ (c .before .before .if1 .left)) .0, c .before .before .before .before .before .count-wanted .ensures .0, c .before .if2 .taken, omega arith)
 
 same-length-2 : tie.Need-same-length-2
 same-length-2 c = search needs
@@ -44,7 +44,7 @@ returns-2 : tie.Need-returns-2
 returns-2 c = c .before .before .judge-few .ensures
 
 judge-few-requires-2 : tie.Need-judge-few-requires-2
-judge-few-requires-2 c κs = (c .before .before .before .before .before .before .before .before .before .before .before .pre .0, c .before .before .before .before .before .before .before .before .before .before .before .pre .1, c .before .before .before .before .before .before .before .before .before .before .before .pre .2, c .before .before .before .before .before .before .before .before .before .before .before .pre .3, c .before .before .before .before .before .before .before .before .before .before .before .pre .4, c .before .before .before .before .before .before .before .before .before .before .before .pre .5, small-is (c .before .before .before .before .before .before .before .before .before .before .before .args .b .caught) (length (c .before .before .before .before .before .before .before .before .before .before .before .args .s .now)) 4294967296 (c .before .before .before .before .before .before .count-wanted .result) 524288 (c .before .before .before .before .both2 .ensures) (c .before .before .before .before .before .both .ensures) (not-false _ (c .before .before .before .if1 .left)) .0, c .before .before .before .before .before .before .count-wanted .ensures .0, c .before .if3 .taken, (omega arith, omega arith, omega arith))
+judge-few-requires-2 c κs = (c .before .before .before .before .before .before .before .before .before .before .before .pre .0, c .before .before .before .before .before .before .before .before .before .before .before .pre .1, c .before .before .before .before .before .before .before .before .before .before .before .pre .2, c .before .before .before .before .before .before .before .before .before .before .before .pre .3, c .before .before .before .before .before .before .before .before .before .before .before .pre .4, c .before .before .before .before .before .before .before .before .before .before .before .pre .5, small-is (c .before .before .before .before .before .before .before .before .before .before .before .args .b .caught) (length (c .before .before .before .before .before .before .before .before .before .before .before .args .s .now)) 4294967296 (c .before .before .before .before .before .before .count-wanted .result) 524288 (c .before .before .before .before .both2 .ensures) (c .before .before .before .before .before .both .ensures) (not-false _ (c .before .before .before .if1 .left)) .0, c .before .before .before .before .before .before .count-wanted .ensures .0, c .before .if3 .taken, omega arith)
 
 same-length-3 : tie.Need-same-length-3
 same-length-3 c = search needs
@@ -53,7 +53,7 @@ returns-3 : tie.Need-returns-3
 returns-3 c = c .before .before .judge-few2 .ensures
 
 judge-many-requires : tie.Need-judge-many-requires
-judge-many-requires c κs = (c .before .before .before .before .before .before .before .before .before .before .before .before .pre .0, c .before .before .before .before .before .before .before .before .before .before .before .before .pre .1, c .before .before .before .before .before .before .before .before .before .before .before .before .pre .2, c .before .before .before .before .before .before .before .before .before .before .before .before .pre .3, c .before .before .before .before .before .before .before .before .before .before .before .before .pre .4, c .before .before .before .before .before .before .before .before .before .before .before .before .pre .5, small-is (c .before .before .before .before .before .before .before .before .before .before .before .before .args .b .caught) (length (c .before .before .before .before .before .before .before .before .before .before .before .before .args .s .now)) 4294967296 (c .before .before .before .before .before .before .before .count-wanted .result) 524288 (c .before .before .before .before .before .both2 .ensures) (c .before .before .before .before .before .before .both .ensures) (not-false _ (c .before .before .before .before .if1 .left)) .0, c .before .before .before .before .before .before .before .count-wanted .ensures .0, c .before .if4 .taken, (omega arith, omega arith, omega arith))
+judge-many-requires c κs = (c .before .before .before .before .before .before .before .before .before .before .before .before .pre .0, c .before .before .before .before .before .before .before .before .before .before .before .before .pre .1, c .before .before .before .before .before .before .before .before .before .before .before .before .pre .2, c .before .before .before .before .before .before .before .before .before .before .before .before .pre .3, c .before .before .before .before .before .before .before .before .before .before .before .before .pre .4, c .before .before .before .before .before .before .before .before .before .before .before .before .pre .5, small-is (c .before .before .before .before .before .before .before .before .before .before .before .before .args .b .caught) (length (c .before .before .before .before .before .before .before .before .before .before .before .before .args .s .now)) 4294967296 (c .before .before .before .before .before .before .before .count-wanted .result) 524288 (c .before .before .before .before .before .both2 .ensures) (c .before .before .before .before .before .before .both .ensures) (not-false _ (c .before .before .before .before .if1 .left)) .0, c .before .before .before .before .before .before .before .count-wanted .ensures .0, c .before .if4 .taken, omega arith)
 
 same-length-4 : tie.Need-same-length-4
 same-length-4 c = search needs
@@ -62,7 +62,7 @@ returns-4 : tie.Need-returns-4
 returns-4 c = c .before .before .judge-many .ensures
 
 judge-many-requires-2 : tie.Need-judge-many-requires-2
-judge-many-requires-2 c κs = (c .before .before .before .before .before .before .before .before .before .before .before .before .before .pre .0, c .before .before .before .before .before .before .before .before .before .before .before .before .before .pre .1, c .before .before .before .before .before .before .before .before .before .before .before .before .before .pre .2, c .before .before .before .before .before .before .before .before .before .before .before .before .before .pre .3, c .before .before .before .before .before .before .before .before .before .before .before .before .before .pre .4, c .before .before .before .before .before .before .before .before .before .before .before .before .before .pre .5, small-is (c .before .before .before .before .before .before .before .before .before .before .before .before .before .args .b .caught) (length (c .before .before .before .before .before .before .before .before .before .before .before .before .before .args .s .now)) 4294967296 (c .before .before .before .before .before .before .before .before .count-wanted .result) 524288 (c .before .before .before .before .before .before .both2 .ensures) (c .before .before .before .before .before .before .before .both .ensures) (not-false _ (c .before .before .before .before .before .if1 .left)) .0, c .before .before .before .before .before .before .before .before .count-wanted .ensures .0, c .before .if5 .taken, (omega arith, omega arith, omega arith))
+judge-many-requires-2 c κs = (c .before .before .before .before .before .before .before .before .before .before .before .before .before .pre .0, c .before .before .before .before .before .before .before .before .before .before .before .before .before .pre .1, c .before .before .before .before .before .before .before .before .before .before .before .before .before .pre .2, c .before .before .before .before .before .before .before .before .before .before .before .before .before .pre .3, c .before .before .before .before .before .before .before .before .before .before .before .before .before .pre .4, c .before .before .before .before .before .before .before .before .before .before .before .before .before .pre .5, small-is (c .before .before .before .before .before .before .before .before .before .before .before .before .before .args .b .caught) (length (c .before .before .before .before .before .before .before .before .before .before .before .before .before .args .s .now)) 4294967296 (c .before .before .before .before .before .before .before .before .count-wanted .result) 524288 (c .before .before .before .before .before .before .both2 .ensures) (c .before .before .before .before .before .before .before .both .ensures) (not-false _ (c .before .before .before .before .before .if1 .left)) .0, c .before .before .before .before .before .before .before .before .count-wanted .ensures .0, c .before .if5 .taken, omega arith)
 
 same-length-5 : tie.Need-same-length-5
 same-length-5 c = search needs
@@ -71,7 +71,7 @@ returns-5 : tie.Need-returns-5
 returns-5 c = c .before .before .judge-many2 .ensures
 
 judge-most-requires : tie.Need-judge-most-requires
-judge-most-requires c κs = (c .before .before .before .before .before .before .before .before .before .before .before .before .before .before .pre .0, c .before .before .before .before .before .before .before .before .before .before .before .before .before .before .pre .1, c .before .before .before .before .before .before .before .before .before .before .before .before .before .before .pre .2, c .before .before .before .before .before .before .before .before .before .before .before .before .before .before .pre .3, c .before .before .before .before .before .before .before .before .before .before .before .before .before .before .pre .4, c .before .before .before .before .before .before .before .before .before .before .before .before .before .before .pre .5, small-is (c .before .before .before .before .before .before .before .before .before .before .before .before .before .before .args .b .caught) (length (c .before .before .before .before .before .before .before .before .before .before .before .before .before .before .args .s .now)) 4294967296 (c .before .before .before .before .before .before .before .before .before .count-wanted .result) 524288 (c .before .before .before .before .before .before .before .both2 .ensures) (c .before .before .before .before .before .before .before .before .both .ensures) (not-false _ (c .before .before .before .before .before .before .if1 .left)) .0, c .before .before .before .before .before .before .before .before .before .count-wanted .ensures .0, c .before .if6 .taken, (omega arith, omega arith, omega arith))
+judge-most-requires c κs = (c .before .before .before .before .before .before .before .before .before .before .before .before .before .before .pre .0, c .before .before .before .before .before .before .before .before .before .before .before .before .before .before .pre .1, c .before .before .before .before .before .before .before .before .before .before .before .before .before .before .pre .2, c .before .before .before .before .before .before .before .before .before .before .before .before .before .before .pre .3, c .before .before .before .before .before .before .before .before .before .before .before .before .before .before .pre .4, c .before .before .before .before .before .before .before .before .before .before .before .before .before .before .pre .5, small-is (c .before .before .before .before .before .before .before .before .before .before .before .before .before .before .args .b .caught) (length (c .before .before .before .before .before .before .before .before .before .before .before .before .before .before .args .s .now)) 4294967296 (c .before .before .before .before .before .before .before .before .before .count-wanted .result) 524288 (c .before .before .before .before .before .before .before .both2 .ensures) (c .before .before .before .before .before .before .before .before .both .ensures) (not-false _ (c .before .before .before .before .before .before .if1 .left)) .0, c .before .before .before .before .before .before .before .before .before .count-wanted .ensures .0, c .before .if6 .taken, omega arith)
 
 same-length-6 : tie.Need-same-length-6
 same-length-6 c = search needs
@@ -80,7 +80,7 @@ returns-6 : tie.Need-returns-6
 returns-6 c = c .before .before .judge-most .ensures
 
 judge-most-requires-2 : tie.Need-judge-most-requires-2
-judge-most-requires-2 c κs = (c .before .before .before .before .before .before .before .before .before .before .before .before .before .before .pre .0, c .before .before .before .before .before .before .before .before .before .before .before .before .before .before .pre .1, c .before .before .before .before .before .before .before .before .before .before .before .before .before .before .pre .2, c .before .before .before .before .before .before .before .before .before .before .before .before .before .before .pre .3, c .before .before .before .before .before .before .before .before .before .before .before .before .before .before .pre .4, c .before .before .before .before .before .before .before .before .before .before .before .before .before .before .pre .5, small-is (c .before .before .before .before .before .before .before .before .before .before .before .before .before .before .args .b .caught) (length (c .before .before .before .before .before .before .before .before .before .before .before .before .before .before .args .s .now)) 4294967296 (c .before .before .before .before .before .before .before .before .before .count-wanted .result) 524288 (c .before .before .before .before .before .before .before .both2 .ensures) (c .before .before .before .before .before .before .before .before .both .ensures) (not-false _ (c .before .before .before .before .before .before .if1 .left)) .0, c .before .before .before .before .before .before .before .before .before .count-wanted .ensures .0, small-is (c .before .before .before .before .before .before .before .before .before .before .before .before .before .before .args .b .caught) (length (c .before .before .before .before .before .before .before .before .before .before .before .before .before .before .args .s .now)) 4294967296 (c .before .before .before .before .before .before .before .before .before .count-wanted .result) 524288 (c .before .before .before .before .before .before .before .both2 .ensures) (c .before .before .before .before .before .before .before .before .both .ensures) (not-false _ (c .before .before .before .before .before .before .if1 .left)) .1, (omega arith, omega arith, omega arith))
+judge-most-requires-2 c κs = (c .before .before .before .before .before .before .before .before .before .before .before .before .before .before .pre .0, c .before .before .before .before .before .before .before .before .before .before .before .before .before .before .pre .1, c .before .before .before .before .before .before .before .before .before .before .before .before .before .before .pre .2, c .before .before .before .before .before .before .before .before .before .before .before .before .before .before .pre .3, c .before .before .before .before .before .before .before .before .before .before .before .before .before .before .pre .4, c .before .before .before .before .before .before .before .before .before .before .before .before .before .before .pre .5, small-is (c .before .before .before .before .before .before .before .before .before .before .before .before .before .before .args .b .caught) (length (c .before .before .before .before .before .before .before .before .before .before .before .before .before .before .args .s .now)) 4294967296 (c .before .before .before .before .before .before .before .before .before .count-wanted .result) 524288 (c .before .before .before .before .before .before .before .both2 .ensures) (c .before .before .before .before .before .before .before .before .both .ensures) (not-false _ (c .before .before .before .before .before .before .if1 .left)) .0, c .before .before .before .before .before .before .before .before .before .count-wanted .ensures .0, small-is (c .before .before .before .before .before .before .before .before .before .before .before .before .before .before .args .b .caught) (length (c .before .before .before .before .before .before .before .before .before .before .before .before .before .before .args .s .now)) 4294967296 (c .before .before .before .before .before .before .before .before .before .count-wanted .result) 524288 (c .before .before .before .before .before .before .before .both2 .ensures) (c .before .before .before .before .before .before .before .before .both .ensures) (not-false _ (c .before .before .before .before .before .before .if1 .left)) .1, omega arith)
 
 same-length-7 : tie.Need-same-length-7
 same-length-7 c = search needs
