@@ -415,9 +415,3 @@ small-is caught n k total room {b} {r} e f t =
     let u = and-true caught b (sym e ∙ t) in
     let v = and-true (ltb n k) (leb total room) (sym f ∙ u .1) in
     (ltb-true n k (v .0), leb-true total room (v .1))
-
-pub part-fits : {n m k : ℕ} → k ≡ m → n ≤ m → n ≤ k
-part-fits e h = omega arith
-
-pub part-holds : {n m k : ℕ} (v : List ℕ) → length v ≡ m → n ≤ m → k ≤ n → k ≤ length (take n v)
-part-holds {n} v e h p = let l = length-take-le n v (omega arith) in omega arith

@@ -25,12 +25,14 @@ use super::reading::Spot;
 use super::reading::entry_len;
 use super::reading::find_spot;
 use super::reading::put_entry;
+use super::refusal;
 use super::reopen::put_lead;
 use super::rules::Query;
 use super::rules::height_reached;
 use super::rules::pending;
 use super::rules::time_reached;
 use super::scan::tally;
+use super::state;
 use super::view::id_at;
 use super::view::size;
 use super::write::tip_at;
@@ -247,7 +249,7 @@ fn share_full(s: &[u8], a: Area, caller: u64, n: u64) -> bool
     m <= tally(s, o.start, h.count, Query::PendingOf(caller))
 }
 
-// Is there room for one more pending record of n bytes, of that caller? 10, 18 or 11 where there is not, else 0.
+// Is there room for one more pending record of n bytes, of that caller? Refusal 10, 18 or 11 where there is not, else 0.
 fn room_for(s: &[u8], a: Area, caller: u64, n: u64) -> u64
     requires { ⌜ AreaIn (now s) a × (caller ≤ 15) ⌝ }
     ensures { λ r. ⌜ RoomIs (now (s .entry)) caller n r ⌝ }
@@ -259,16 +261,16 @@ fn room_for(s: &[u8], a: Area, caller: u64, n: u64) -> u64
     let u = o.sums;
     let m = u.holders - u.mined;
     if l.p <= m {
-        return 10;
+        return refusal::QUEUE_FULL;
     }
     if share_full(s, a, caller, m) {
-        return 18;
+        return refusal::SHARE_EXHAUSTED;
     }
     if b < n {
-        return 11;
+        return refusal::BYTE_BUDGET_EXHAUSTED;
     }
     if b - n < u.bytes - u.minedbytes {
-        return 11;
+        return refusal::BYTE_BUDGET_EXHAUSTED;
     }
     0
 }
@@ -384,7 +386,7 @@ fn admit_free(
 {
     let n = entry_new_len(x, inputs, reads, label);
     if out.len() < n {
-        return Answer::Refused(4);
+        return Answer::Refused(refusal::OUTPUT_TOO_SHORT);
     }
     let o = a.open;
     let h = o.head;
@@ -439,10 +441,10 @@ fn new_refusal(s: &[u8], a: Area, caller: u64, n: u64, inputs: &[u8], reads: &[u
     let h = o.head;
     let m = (inputs.len() / 32) as u64;
     if ids_clash(inputs, m, s, o.start, h.count, false) {
-        return 12;
+        return refusal::INPUT_RESERVED;
     }
     if reads_cross(s, a, inputs, reads) {
-        return 20;
+        return refusal::READ_AND_SPENT;
     }
     0
 }
@@ -456,7 +458,7 @@ fn known(s: &[u8], p: Spot) -> bool
     }
     let y = rec_at(s, p.at);
     let f = y.facts;
-    either(pending(f.state), f.state == 2)
+    either(pending(f.state), f.state == state::MINED)
 }
 
 // The old record at `at` is the answer. Refusal 4.
@@ -467,7 +469,7 @@ fn tell_old(s: &[u8], at: usize, out: &mut [u8]) -> Answer
     let y = rec_at(s, at);
     let n = entry_len(y);
     if out.len() < n {
-        return Answer::Refused(4);
+        return Answer::Refused(refusal::OUTPUT_TOO_SHORT);
     }
     put_entry(s, at, y, out, 0);
     Answer::Done(Kind::Nothing)
@@ -581,23 +583,23 @@ fn asked_refusal(
     let l = lists_whole(id, x.caller, inputs, outputs, reads);
     let f = flags_listed(x, bytes, label, tip);
     if !both(l, f) {
-        return 5;
+        return refusal::MALFORMED;
     }
     if over_k(k, inputs.len(), outputs.len(), reads.len()) {
-        return 6;
+        return refusal::TOO_MANY_INPUTS;
     }
     let t = x.now;
     let d = x.time;
     if time_reached(x.timeflag == 1, d, t) {
-        return 7;
+        return refusal::TIME_DEADLINE_ELAPSED;
     }
     let g = x.tipheight;
     let h = x.height;
     if height_reached(x.heightflag == 1, h, g) {
-        return 8;
+        return refusal::HEIGHT_DEADLINE_ELAPSED;
     }
     if long_label(x.labelflag, label) {
-        return 9;
+        return refusal::LABEL_TOO_LONG;
     }
     0
 }
@@ -621,10 +623,10 @@ fn admit_asked(
 {
     let a = area_at(cur);
     if !a.ok {
-        return Answer::Refused(3);
+        return Answer::Refused(refusal::AREA_NOT_SOUND);
     }
     if next.len() < a.need {
-        return Answer::Refused(2);
+        return Answer::Refused(refusal::AREA_TOO_SHORT);
     }
     let o = a.open;
     let h = o.head;

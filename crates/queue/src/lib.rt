@@ -37,6 +37,7 @@ pub mod sorted;
 pub mod state;
 pub mod suspects;
 pub mod touch;
+pub mod verdict;
 pub mod verdicts;
 pub mod view;
 pub mod write;

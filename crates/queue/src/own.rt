@@ -6,6 +6,7 @@ use super::frame::Seen;
 use super::frame::id_read;
 use super::frame::rec_at;
 use super::reopen::find_id;
+use super::state;
 use super::suspects::Order;
 use super::suspects::in_order;
 use super::suspects::look;
@@ -239,7 +240,7 @@ fn add_outputs(
     ensures { λ r. ⌜ Taken (now (s .entry)) (wantedOf (listAt (formC false recC) n (now (s .entry)) at)) (now (flags .entry)) (take k (now (v .entry))) (λ z. eqb (x .facts .state) 0 && among? z (listAt idC (x .facts .outs) (view false (now (s .entry)) base) (x .outs))) (now (flags .exit)) (take r (now (v .exit))) × (r ≤ length (now (v .entry))) ⌝ }
 {
     let f = x.facts;
-    if f.state != 0 {
+    if f.state != state::QUEUED {
         return k;
     }
     add_rows(s, at, n, ids, m, v, flags, k, base, x.outs, f.outs)

@@ -10,6 +10,7 @@ use super::frame::rec_at;
 use super::logic::one_if;
 use super::put::copy_part;
 use super::put::put_be;
+use super::refusal;
 use super::rules::Query;
 use super::scan::tally;
 use super::view::cmp_id;
@@ -153,7 +154,7 @@ pub fn signed_place(area: &[u8], id: &[u8]) -> Place
     let f = x.facts;
     if !f.holder {
         return Place {
-            answer: Answer::Refused(13),
+            answer: Answer::Refused(refusal::NOT_FOUND),
             start: 0,
             len: 0,
         };
@@ -213,7 +214,7 @@ pub fn entry(area: &[u8], id: &[u8], out: &mut [u8]) -> Answer
     let x = rec_at(area, at);
     let n = entry_len(x);
     if out.len() < n {
-        return Answer::Refused(4);
+        return Answer::Refused(refusal::OUTPUT_TOO_SHORT);
     }
     put_entry(area, at, x, out, 0);
     Answer::Done(Kind::Nothing)
@@ -224,7 +225,7 @@ pub fn revision(area: &[u8], value: &mut u64) -> Answer
 {
     let a = area_at(area);
     if !a.ok {
-        return Answer::Refused(3);
+        return Answer::Refused(refusal::AREA_NOT_SOUND);
     }
     let o = a.open;
     let h = o.head;
@@ -237,7 +238,7 @@ pub fn observed_height(area: &[u8], value: &mut u64) -> Answer
 {
     let a = area_at(area);
     if !a.ok {
-        return Answer::Refused(3);
+        return Answer::Refused(refusal::AREA_NOT_SOUND);
     }
     let o = a.open;
     let h = o.head;
@@ -252,7 +253,7 @@ pub fn is_empty(area: &[u8], value: &mut u64) -> Answer
 {
     let a = area_at(area);
     if !a.ok {
-        return Answer::Refused(3);
+        return Answer::Refused(refusal::AREA_NOT_SOUND);
     }
     let o = a.open;
     let h = o.head;
@@ -266,7 +267,7 @@ pub fn deadline_due(area: &[u8], time: Time, height: Height, value: &mut u64) ->
 {
     let a = area_at(area);
     if !a.ok {
-        return Answer::Refused(3);
+        return Answer::Refused(refusal::AREA_NOT_SOUND);
     }
     let o = a.open;
     let h = o.head;
@@ -281,13 +282,13 @@ pub fn observation_cursor(area: &[u8], out: &mut [u8]) -> Answer
 {
     let a = area_at(area);
     if !a.ok {
-        return Answer::Refused(3);
+        return Answer::Refused(refusal::AREA_NOT_SOUND);
     }
     let o = a.open;
     let h = o.head;
     let n = h.after - h.marks;
     if out.len() < n {
-        return Answer::Refused(4);
+        return Answer::Refused(refusal::OUTPUT_TOO_SHORT);
     }
     copy_part(area, 4 + h.marks, n, out, 0);
     Answer::Done(Kind::Nothing)

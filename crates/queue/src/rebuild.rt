@@ -12,7 +12,9 @@ use super::logic::one_if;
 use super::put::copy_part;
 use super::put::put_be;
 use super::put::put_u8;
+use super::reason;
 use super::reopen::put_lead;
+use super::state;
 use super::suspects::Order;
 use super::suspects::bisect;
 use super::suspects::cmp_rows;
@@ -21,6 +23,7 @@ use super::suspects::order_rows;
 use super::suspects::row_at;
 use super::touch::Verdict;
 use super::touch::verdict_of;
+use super::verdict;
 use super::view::cmp_id;
 use super::view::id_at;
 ghost use mathlib.Core.Path.{_≡_};
@@ -118,15 +121,19 @@ fn state_next(what: u64, n: Finish, f: Facts) -> u64
     ensures { λ r. ⌜ (r ≡ stateN what (n .0) f) × (r < 256) ⌝ }
 {
     if n.0 != 0 {
-        return 2;
+        return state::MINED;
     }
-    if what == 0 {
+    if what == verdict::STAYS {
         return f.state;
     }
-    if what == 1 {
-        return 2;
+    if what == verdict::CONFIRMED {
+        return state::MINED;
     }
-    if what == 2 { 0 } else { 3 }
+    if what == verdict::QUEUED {
+        state::QUEUED
+    } else {
+        state::CONFLICTED
+    }
 }
 
 fn reason_next(what: u64, n: Finish, f: Facts) -> u64
@@ -134,28 +141,35 @@ fn reason_next(what: u64, n: Finish, f: Facts) -> u64
     ensures { λ r. ⌜ (r ≡ reasonN what (n .0) f) × (r < 256) ⌝ }
 {
     if n.0 != 0 {
-        return 0;
+        return reason::NONE;
     }
-    if what == 0 {
+    if what == verdict::STAYS {
         return f.reason;
     }
-    if what == 1 {
-        return 0;
+    if what == verdict::CONFIRMED {
+        return reason::NONE;
     }
-    if what == 2 { 0 } else { 5 }
+    if what == verdict::QUEUED {
+        reason::NONE
+    } else {
+        reason::INPUTS_UNAVAILABLE
+    }
 }
 
 fn mark_next(what: u64, f: Facts) -> u64
     requires { ⌜ (f .state < 256) × (f .mark < 256) ⌝ }
     ensures { λ r. ⌜ (r ≡ markN what f) × (r < 256) ⌝ }
 {
-    if what != 1 {
+    if what != verdict::CONFIRMED {
         return f.mark;
     }
-    if both(f.state == 5, f.reason == 3) {
+    if both(
+        f.state == state::EXPIRED,
+        f.reason == reason::ROLLED_BACK_AFTER_RELEASE,
+    ) {
         return 3;
     }
-    if either(f.state == 4, f.state == 5) {
+    if either(f.state == state::CANCELLED, f.state == state::EXPIRED) {
         return f.state;
     }
     f.mark
@@ -174,7 +188,7 @@ fn put_place(
     requires { ⌜ PartsIn (now src) base x × (v .what ≡ 1 → v .at + 68 ≤ length (now t)) × (at + placeLen x v ≤ length (now dst)) ⌝ }
     ensures { λ r. ⌜ Put (now (dst .entry)) at (placeN (now (src .entry)) base x (now (t .entry)) v) (placeLen x v) r (now (dst .exit)) ⌝ }
 {
-    if v.what == 1 {
+    if v.what == verdict::CONFIRMED {
         let a = put_u8(dst, at, 1);
         return copy_part(t, v.at + 32, 36, dst, a);
     }

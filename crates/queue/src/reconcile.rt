@@ -18,6 +18,7 @@ use super::put::put_be;
 use super::put::put_u8;
 use super::rebuild::order_ranks;
 use super::rebuild::put_all;
+use super::refusal;
 use super::release::Walked;
 use super::release::gather_mined;
 use super::release::release;
@@ -219,10 +220,10 @@ fn reconcile_gone(
     let c = h.counter;
     let g = gone.len();
     if 18446744073709551615 - c.0 < g as u64 {
-        return Answer::Refused(15);
+        return Answer::Refused(refusal::COUNTER_EXHAUSTED);
     }
     if out.len() < 5 + 32 * g {
-        return Answer::Refused(4);
+        return Answer::Refused(refusal::OUTPUT_TOO_SHORT);
     }
     let changed = either(any_touched(vs), 0 < g);
     put_gone(cur, changed, gone, out);
@@ -298,13 +299,13 @@ pub fn reconcile(
 {
     let a = area_at(cur);
     if !a.ok {
-        return Answer::Refused(3);
+        return Answer::Refused(refusal::AREA_NOT_SOUND);
     }
     if next.len() < a.need {
-        return Answer::Refused(2);
+        return Answer::Refused(refusal::AREA_TOO_SHORT);
     }
     if !reconcile_asks(tip, flag as u64, applied, ids) {
-        return Answer::Refused(5);
+        return Answer::Refused(refusal::MALFORMED);
     }
     let i = id_at(tip, false, 0, 0);
     let b = Block {

@@ -6,8 +6,10 @@ use super::frame::rec_at;
 use super::logic::both;
 use super::logic::either;
 use super::select::add_row;
+use super::state;
 use super::touch::Verdict;
 use super::touch::verdict_of;
+use super::verdict;
 use super::view::be;
 ghost use mathlib.Core.Path.{_≡_};
 ghost use mathlib.Core.Bool.{true, false, _||_};
@@ -27,7 +29,13 @@ ghost use Rattle.queue.specs.Releasing.{minedF, heightF, minedOf, MinedG
 fn mined_after(what: u64, f: Facts) -> bool
     ensures { λ r. ⌜ r ≡ minedF what f ⌝ }
 {
-    both(either(what == 1, both(what == 0, f.state == 2)), f.holder)
+    both(
+        either(
+            what == verdict::CONFIRMED,
+            both(what == verdict::STAYS, f.state == state::MINED),
+        ),
+        f.holder,
+    )
 }
 
 // The height that it is Mined at then.
@@ -35,7 +43,7 @@ fn height_after(t: &[u8], v: Verdict, f: Facts) -> Height
     requires { ⌜ (v .what ≡ 1 → v .at + 68 ≤ length (now t)) ⌝ }
     ensures { λ r. ⌜ r .0 ≡ heightF (now (t .entry)) v f ⌝ }
 {
-    if v.what == 1 {
+    if v.what == verdict::CONFIRMED {
         return Height(be(t, false, 0, v.at + 32, 4));
     }
     f.mined

@@ -8,9 +8,12 @@ use super::frame::rec_at;
 use super::logic::both;
 use super::own::all_set;
 use super::reading::Found;
+use super::reason;
 use super::reopen;
 use super::rules::pending;
 use super::scan::has_id;
+use super::state;
+use super::verdict;
 use super::view::be;
 use super::view::cmp_id;
 use super::view::id_at;
@@ -62,7 +65,7 @@ fn confirmed(s: &[u8], base: usize, x: Seen, t: &[u8], p: usize) -> bool
     ensures { λ r. ⌜ ConfirmedIs (now (s .entry)) base x (now (t .entry)) p r ⌝ }
 {
     let f = x.facts;
-    if f.state != 2 {
+    if f.state != state::MINED {
         return false;
     }
     if !f.placed {
@@ -99,7 +102,7 @@ fn in_outputs(s: &[u8], base: usize, x: Seen, id: [u8; 32]) -> bool
     ensures { λ r. ⌜ r ≡ (eqb (x .facts .state) 0 && among? id (listAt idC (x .facts .outs) (view false (now (s .entry)) base) (x .outs))) ⌝ }
 {
     let f = x.facts;
-    if f.state != 0 {
+    if f.state != state::QUEUED {
         return false;
     }
     has_id(s, false, base, x.outs, f.outs, id)
@@ -161,7 +164,7 @@ fn all_owned(
     fine(s, at, n, base, x.reads, f.reads, ids, m)
 }
 
-// What becomes of a record: 0 it stays, 1 it is confirmed by the applied entry at `at`, 2 Queued, 3 Conflicted.
+// What becomes of a record (`verdict`), and where the applied entry begins that confirms it.
 pub struct Verdict {
     pub what: u64,
     pub at: usize,
@@ -171,15 +174,18 @@ fn judge(fine: bool, f: Facts) -> u64
     ensures { λ r. ⌜ r ≡ judgeF fine f ⌝ }
 {
     if fine {
-        if both(f.state == 0, f.reason == 0) {
-            return 0;
+        if both(f.state == state::QUEUED, f.reason == reason::NONE) {
+            return verdict::STAYS;
         }
-        return 2;
+        return verdict::QUEUED;
     }
-    if both(f.state == 3, f.reason == 5) {
-        return 0;
+    if both(
+        f.state == state::CONFLICTED,
+        f.reason == reason::INPUTS_UNAVAILABLE,
+    ) {
+        return verdict::STAYS;
     }
-    3
+    verdict::CONFLICTED
 }
 
 // The verdict on the record read at base, of the n records at `at`; the flags of the ids that it wants begin at g, where there are
@@ -223,7 +229,7 @@ pub fn verdict_of(t: &[u8], c: u64) -> Verdict
     ensures { λ r. ⌜ r ≡ verdictOf c ⌝ }
 {
     let what = c % 4;
-    if what == 1 {
+    if what == verdict::CONFIRMED {
         return Verdict {
             what: what,
             at: 68 * (c / 4) as usize,
@@ -269,7 +275,7 @@ pub fn any_touched(vs: &[u64]) -> bool
 {
     let mut j: usize = 0;
     while j < vs.len() {
-        if vs[j] % 4 != 0 {
+        if vs[j] % 4 != verdict::STAYS {
             return true;
         }
         j += 1;
