@@ -33,6 +33,8 @@ use Rattle.queue.specs.declared.frame.PlaceR.{PlaceR}
 use Rattle.queue.specs.declared.frame.BodyR.{BodyR}
 use Rattle.queue.specs.declared.frame.RestR.{RestR}
 use Rattle.queue.specs.declared.frame.Seen.{Seen}
+use Rattle.queue.specs.declared.frame.Time.{Time}
+use Rattle.queue.specs.declared.frame.Finish.{Finish}
 use Rattle.queue.specs.declared.frame.Lim.{Lim}
 use Rattle.queue.specs.declared.frame.SharesR.{SharesR}
 use Rattle.queue.specs.declared.frame.LimitsR.{LimitsR}
@@ -471,6 +473,14 @@ factsFrom w a b t r = record {
 facts-from : (w a b : ℕ) (t : TermsR) (r : RestR) → factsFrom w a b t r ≡ facts w a b (t .created .0) (t .timed) (t .due .0) (t .heighted) (t .dueheight .0) (t .priority) (t .label) (t .size) (r .placed) (r .mined .0) (r .mark) (r .finish .0) (r .held .holder) (r .held .ins) (r .held .outs) (r .held .reads) (r .held .bytes)
 unfolding facts
 facts-from w a b t r = refl
+
+-- the same, numbers read once more
+pub facts-late : (w a b : ℕ) (t : TermsR) (r : RestR) {c : Time} {p z : ℕ} {f : Finish} → c .0 ≡ t .created .0 → p ≡ t .priority → z ≡ t .size → f .0 ≡ r .finish .0
+    → _≡_ {A = Facts} (record { caller = w; state = a; reason = b; created = c; timed = t .timed; due = t .due; heighted = t .heighted; dueheight = t .dueheight; priority = p; label = t .label; size = z; placed = r .placed; mined = r .mined; mark = r .mark; finish = f; holder = r .held .holder; ins = r .held .ins; outs = r .held .outs; reads = r .held .reads; bytes = r .held .bytes }) (factsFrom w a b t r)
+facts-late w a b t r {c} {p} {z} {f} e g h i =
+    let u : c ≡ t .created = ap (λ (n : ℕ). record { 0 = n }) e in
+    let v : f ≡ r .finish = ap (λ (n : ℕ). record { 0 = n }) i in
+    rw (u, g, h, v)
 
 facts-of : (x : Rec) → factsOf x ≡ facts (x .caller) (x .state) (x .reason) (x .terms .created) (isSome (x .terms .due)) (optNum (x .terms .due)) (isSome (x .terms .dueHeight)) (optNum (x .terms .dueHeight)) (x .terms .priority) (labelLen (x .terms .label)) (x .terms .size) (isSome (x .place)) (placeHeight (x .place)) (x .mark) (x .finish) (isSome (x .body)) (length (inputs (x .body))) (length (outputs (x .body))) (length (reads (x .body))) (length (content (x .body)))
 unfolding facts factsOf

@@ -107,6 +107,7 @@ pub struct TermsR {
     pub priority: u64,
     pub label: u64,
     pub size: u64,
+    pub at: usize,
     pub next: usize,
 }
 
@@ -463,6 +464,7 @@ fn terms_at(s: &[u8], form: Form, base: usize, at: usize) -> TermsR
         priority: d.value,
         label: e.value,
         size: g.value,
+        at: c.next,
         next: h.next,
     }
 }

@@ -10,6 +10,7 @@ use super::frame::OptN;
 use super::frame::PlaceR;
 use super::frame::RestR;
 use super::frame::Seen;
+use super::frame::TERMS;
 use super::frame::TermsR;
 use super::frame::Time;
 use super::frame::counted;
@@ -27,14 +28,15 @@ ghost use lib.ListN.{length, getD};
 ghost use Rattle.queue.specs.Frames.{labelC, termsC, placeC, bodyC, restC, recC};
 ghost use Rattle.queue.specs.Reads.{Reads, flagC};
 ghost use Rattle.queue.specs.Facts.{NumAt, OptAt, PlaceAs, TermsAs, BodyAs, RestAs, SeenAs};
-ghost use Rattle.queue.specs.Near.{Near};
+ghost use Rattle.queue.specs.Near.{Near, TermsNear, RestNear, LateIs};
+ghost use Rattle.queue.specs.ReadLaws.{beAt};
 ghost use Rattle.queue.specs.paper.Sound.{labelLen};
 ghost use Rattle.queue.specs.paper.Kinds.{newest};
 ghost use Rattle.queue.specs.View.{view};
 
 fn num_near(s: &[u8], base: usize, at: usize, n: usize) -> NumR
     requires { ⌜ (n ≤ 8) × Near (view false (now s) base) at n ⌝ }
-    ensures { λ r. ⌜ NumAt n (view false (now (s .entry)) base) at (r .ok) (r .next) (r .value) × (r .next ≡ at + n) ⌝ }
+    ensures { λ r. ⌜ NumAt n (view false (now (s .entry)) base) at (r .ok) (r .next) (r .value) × (r .next ≡ at + n) × (r .value ≡ beAt n (view false (now (s .entry)) base) at) ⌝ }
 {
     let v = be(s, false, base, at, n);
     NumR {
@@ -116,7 +118,7 @@ fn label_near(s: &[u8], base: usize, at: usize) -> NumR
 
 fn terms_near(s: &[u8], base: usize, at: usize) -> TermsR
     requires { ⌜ Near (view false (now s) base) at 307 ⌝ }
-    ensures { λ r. ⌜ Reads termsC (view false (now (s .entry)) base) at (r .ok) (r .next) (TermsAs r) × (r .next ≤ at + 307) ⌝ }
+    ensures { λ r. ⌜ Reads termsC (view false (now (s .entry)) base) at (r .ok) (r .next) (TermsAs r) × (r .next ≤ at + 307) × TermsNear (view false (now (s .entry)) base) at r ⌝ }
 {
     let a = num_near(s, base, at, 8);
     let b = opt_near(s, base, a.next, 8);
@@ -135,6 +137,7 @@ fn terms_near(s: &[u8], base: usize, at: usize) -> TermsR
         priority: d.value,
         label: e.value,
         size: g.value,
+        at: c.next,
         next: g.next + 8,
     }
 }
@@ -204,7 +207,7 @@ fn body_near(s: &[u8], base: usize, at: usize) -> BodyR
 
 fn rest_near(s: &[u8], base: usize, at: usize) -> RestR
     requires { ⌜ Near (view false (now s) base) at 46 ⌝ }
-    ensures { λ r. ⌜ Reads restC (view false (now (s .entry)) base) at (r .ok) (r .next) (RestAs newest (view false (now (s .entry)) base) at r) ⌝ }
+    ensures { λ r. ⌜ Reads restC (view false (now (s .entry)) base) at (r .ok) (r .next) (RestAs newest (view false (now (s .entry)) base) at r) × RestNear (view false (now (s .entry)) base) r ⌝ }
 {
     let a = place_near(s, base, at);
     let b = num_near(s, base, a.next, 1);
@@ -225,6 +228,30 @@ fn rest_near(s: &[u8], base: usize, at: usize) -> RestR
     }
 }
 
+// Numbers of terms and rest, read once more behind all branches: the compiler then makes one load of each, and the first reading goes.
+pub struct Late {
+    pub created: Time,
+    pub priority: u64,
+    pub size: u64,
+    pub finish: Finish,
+}
+
+fn late_near(s: &[u8], base: usize, t: TermsR, e: RestR) -> Late
+    requires { ⌜ TermsNear (view false (now s) base) 36 t × RestNear (view false (now s) base) e ⌝ }
+    ensures { λ r. ⌜ LateIs t e r ⌝ }
+{
+    let a = be(s, false, base, TERMS, 8);
+    let b = be(s, false, base, t.at, 8);
+    let c = be(s, false, base, t.next - 12, 4);
+    let d = be(s, false, base, e.body - 8, 8);
+    Late {
+        created: Time(a),
+        priority: b,
+        size: c,
+        finish: Finish(d),
+    }
+}
+
 pub fn rec_near(s: &[u8], base: usize) -> Seen
     requires { ⌜ Near (view false (now s) base) 0 400 × (getD (view false (now s) base) 0 0 ≡ 2) ⌝ }
     ensures { λ r. ⌜ Reads recC (view false (now (s .entry)) base) 0 (r .ok) (r .size) (SeenAs (view false (now (s .entry)) base) r) ⌝ }
@@ -236,11 +263,12 @@ pub fn rec_near(s: &[u8], base: usize) -> Seen
     let t = terms_near(s, base, d.next);
     let e = rest_near(s, base, t.next);
     let h = e.held;
-    let created = t.created;
+    let l = late_near(s, base, t, e);
+    let created = l.created;
     let due = t.due;
     let dueheight = t.dueheight;
     let mined = e.mined;
-    let finish = e.finish;
+    let finish = l.finish;
     let facts = Facts {
         caller: w.value,
         state: c.value,
@@ -250,9 +278,9 @@ pub fn rec_near(s: &[u8], base: usize) -> Seen
         due: due,
         heighted: t.heighted,
         dueheight: dueheight,
-        priority: t.priority,
+        priority: l.priority,
         label: t.label,
-        size: t.size,
+        size: l.size,
         placed: e.placed,
         mined: mined,
         mark: e.mark,

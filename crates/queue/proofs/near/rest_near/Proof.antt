@@ -1,15 +1,18 @@
 -- Filled from its answers by tools/proofkit.py: change those, and fill it again.
 use Rattle.queue.proofs.FrameLaws.{rest-read}
+use Rattle.queue.proofs.NearLaws.{finish-back}
+use Rattle.queue.specs.View.{view}
 use Rattle.queue.specs.paper.Kinds.{newest}
 use borrow.Author.Needs.{needs}
+use mathlib.Core.Bool.{false}
 use mathlib.Core.Path.{refl}
 use native.Mathlib.Omega.{arith}
 use Rattle.queue.proofs.near.rest_near.Statement.{statement}
 use Rattle.queue.proofs.near.rest_near.Tie as tie
 use Rattle.queue.proofs.near.rest_near.Reads as reads
 use Rattle.queue.proofs.near.rest_near.Lts as lts
-use Rattle.queue.proofs.near.body_near.Reads as body-near-reads
 use Rattle.queue.proofs.logic.all4.Reads as all4-reads
+use Rattle.queue.proofs.near.body_near.Reads as body-near-reads
 use Rattle.queue.proofs.near.num_near.Reads as num-near-reads
 use Rattle.queue.proofs.near.place_near.Reads as place-near-reads
 
@@ -29,7 +32,7 @@ all4-requires : tie.Need-all4-requires
 all4-requires c κs = search needs
 
 returns : tie.Need-returns
-returns c = rest-read newest _ _ (c .before .before .before .before .before .place-near .ensures .0) (c .before .before .before .before .num-near .ensures .0) (c .before .before .before .num-near2 .ensures .0) (c .before .before .body-near .ensures) (c .before .all4 .ensures) refl refl refl refl refl refl
+returns c = (rest-read newest _ _ (c .before .before .before .before .before .place-near .ensures .0) (c .before .before .before .before .num-near .ensures .0) (c .before .before .before .num-near2 .ensures .0) (c .before .before .body-near .ensures) (c .before .all4 .ensures) refl refl refl refl refl refl, record { finish = finish-back (view false (c .before .before .before .before .before .before .before .args .s .now) (c .before .before .before .before .before .before .before .args .base)) (c .before .before .before .before .num-near .result .next) (c .before .before .before .num-near2 .result .next) (c .before .before .before .num-near2 .ensures .1) (c .before .before .before .num-near2 .ensures .2); finishFrom = omega (arith, c .before .before .before .num-near2 .ensures .1); finishIn = omega (arith, c .before .before .before .num-near2 .ensures .1, c .before .before .before .before .num-near .ensures .1, c .before .before .before .before .before .place-near .ensures .1, c .before .before .before .before .before .before .before .pre .1) })
 
 pub rest-near-spec : {M : Type 1} → statement M
 rest-near-spec =

@@ -1,8 +1,11 @@
 -- Filled from its answers by tools/proofkit.py: change those, and fill it again.
+use Prim.Native.Nat.{_+_}
 use Rattle.queue.proofs.FrameLaws.{priority-yes, terms-read}
-use Rattle.queue.proofs.NearLaws.{span-near}
+use Rattle.queue.proofs.NearLaws.{size-back, span-near}
+use Rattle.queue.specs.View.{view}
 use Rattle.queue.specs.paper.Kinds.{newest}
 use borrow.Author.Needs.{needs}
+use mathlib.Core.Bool.{false}
 use mathlib.Core.Path.{refl}
 use native.Mathlib.Omega.{arith}
 use Rattle.queue.proofs.near.terms_near.Statement.{statement}
@@ -42,7 +45,7 @@ add-t11 : tie.Need-add-t11
 add-t11 c = omega (arith, c .before .before .num-near3 .ensures .1, c .before .before .before .before .label-near .ensures .1, c .before .before .before .before .before .num-near2 .ensures .1, c .before .before .before .before .before .before .opt-near2 .ensures .1, c .before .before .before .before .before .before .before .opt-near .ensures .1, c .before .before .before .before .before .before .before .before .num-near .ensures .1, c .before .before .before .before .before .before .before .before .before .before .pre .0)
 
 returns : tie.Need-returns
-returns c = (terms-read newest _ (c .before .before .before .before .before .before .before .before .num-near .ensures .0) (c .before .before .before .before .before .before .before .opt-near .ensures .0) (c .before .before .before .before .before .before .opt-near2 .ensures .0) (priority-yes newest refl (c .before .before .before .before .before .num-near2 .ensures .0)) (c .before .before .before .before .label-near .ensures .0) (span-near (omega (arith, c .before .before .before .before .label-near .ensures .1, c .before .before .before .before .before .num-near2 .ensures .1, c .before .before .before .before .before .before .opt-near2 .ensures .1, c .before .before .before .before .before .before .before .opt-near .ensures .1, c .before .before .before .before .before .before .before .before .num-near .ensures .1, c .before .before .before .before .before .before .before .before .before .before .pre .1)) (c .before .before .before .before .before .before .before .before .before .before .pre .2)) (c .before .before .num-near3 .ensures .0) (span-near (omega (arith, c .before .before .num-near3 .ensures .1, c .before .before .before .before .label-near .ensures .1, c .before .before .before .before .before .num-near2 .ensures .1, c .before .before .before .before .before .before .opt-near2 .ensures .1, c .before .before .before .before .before .before .before .opt-near .ensures .1, c .before .before .before .before .before .before .before .before .num-near .ensures .1, c .before .before .before .before .before .before .before .before .before .before .pre .1)) (c .before .before .before .before .before .before .before .before .before .before .pre .2)) (c .before .all8 .ensures), omega (arith, c .before .before .num-near3 .ensures .1, c .before .before .before .before .label-near .ensures .1, c .before .before .before .before .before .num-near2 .ensures .1, c .before .before .before .before .before .before .opt-near2 .ensures .1, c .before .before .before .before .before .before .before .opt-near .ensures .1, c .before .before .before .before .before .before .before .before .num-near .ensures .1))
+returns c = (terms-read newest _ (c .before .before .before .before .before .before .before .before .num-near .ensures .0) (c .before .before .before .before .before .before .before .opt-near .ensures .0) (c .before .before .before .before .before .before .opt-near2 .ensures .0) (priority-yes newest refl (c .before .before .before .before .before .num-near2 .ensures .0)) (c .before .before .before .before .label-near .ensures .0) (span-near (omega (arith, c .before .before .before .before .label-near .ensures .1, c .before .before .before .before .before .num-near2 .ensures .1, c .before .before .before .before .before .before .opt-near2 .ensures .1, c .before .before .before .before .before .before .before .opt-near .ensures .1, c .before .before .before .before .before .before .before .before .num-near .ensures .1, c .before .before .before .before .before .before .before .before .before .before .pre .1)) (c .before .before .before .before .before .before .before .before .before .before .pre .2)) (c .before .before .num-near3 .ensures .0) (span-near (omega (arith, c .before .before .num-near3 .ensures .1, c .before .before .before .before .label-near .ensures .1, c .before .before .before .before .before .num-near2 .ensures .1, c .before .before .before .before .before .before .opt-near2 .ensures .1, c .before .before .before .before .before .before .before .opt-near .ensures .1, c .before .before .before .before .before .before .before .before .num-near .ensures .1, c .before .before .before .before .before .before .before .before .before .before .pre .1)) (c .before .before .before .before .before .before .before .before .before .before .pre .2)) (c .before .all8 .ensures), omega (arith, c .before .before .num-near3 .ensures .1, c .before .before .before .before .label-near .ensures .1, c .before .before .before .before .before .num-near2 .ensures .1, c .before .before .before .before .before .before .opt-near2 .ensures .1, c .before .before .before .before .before .before .before .opt-near .ensures .1, c .before .before .before .before .before .before .before .before .num-near .ensures .1), record { created = c .before .before .before .before .before .before .before .before .num-near .ensures .2; createdIn = omega (arith, c .before .before .before .before .before .before .before .before .before .before .pre .1); priority = c .before .before .before .before .before .num-near2 .ensures .2; priorityIn = omega (arith, c .before .before .before .before .before .before .opt-near2 .ensures .1, c .before .before .before .before .before .before .before .opt-near .ensures .1, c .before .before .before .before .before .before .before .before .num-near .ensures .1, c .before .before .before .before .before .before .before .before .before .before .pre .1); size = size-back (view false (c .before .before .before .before .before .before .before .before .before .before .args .s .now) (c .before .before .before .before .before .before .before .before .before .before .args .base)) (c .before .before .before .before .label-near .result .next + 8) (c .before .before .num-near3 .result .next) (c .before .before .num-near3 .ensures .1) (c .before .before .num-near3 .ensures .2); sizeFrom = omega (arith, c .before .before .num-near3 .ensures .1); sizeIn = omega (arith, c .before .before .num-near3 .ensures .1, c .before .before .before .before .label-near .ensures .1, c .before .before .before .before .before .num-near2 .ensures .1, c .before .before .before .before .before .before .opt-near2 .ensures .1, c .before .before .before .before .before .before .before .opt-near .ensures .1, c .before .before .before .before .before .before .before .before .num-near .ensures .1, c .before .before .before .before .before .before .before .before .before .before .pre .1) })
 
 pub terms-near-spec : {M : Type 1} → statement M
 terms-near-spec =
