@@ -18,7 +18,7 @@ use Rattle.queue.specs.Reads.{Reads, whole, listAt, behind}
 use Rattle.queue.specs.ReadLaws.{Turn, turn, none-left, whole-step, whole-bad, false-true}
 use Rattle.queue.specs.Facts.{factsOf, SeenAs}
 use Rattle.queue.specs.Rules.{weight, sum}
-use Rattle.queue.specs.Areas.{zero?}
+use Rattle.queue.specs.Areas.{zero?, zeroIn}
 use Rattle.queue.specs.paper.Records.{Bytes, Id, Rec}
 use Rattle.queue.specs.paper.Lists.{any?, total}
 use Rattle.queue.specs.paper.Ids.{cmpL}
@@ -129,7 +129,7 @@ unfolding zero?
 zero-over s i to ok h = let z : to - i ≡ 0 = omega arith in rw z (and-one ok)
 
 -- the zeros of a part are those of its two parts
-pub zero-parts : (s : Bytes) (i to n : ℕ) → i + n ≤ to → to ≤ length s → zero? (take (to - i) (drop i s)) ≡ (zero? (take (i + n - i) (drop i s)) && zero? (take (to - (i + n)) (drop (i + n) s)))
+pub zero-parts : (s : Bytes) (i to n : ℕ) → i + n ≤ to → to ≤ length s → zeroIn s i to ≡ (zeroIn s i (i + n) && zeroIn s (i + n) to)
 unfolding zero?
 zero-parts s i to zero h k = let z : i + 0 - i ≡ 0 = omega arith in let e : i + 0 ≡ i = omega arith in rw (z, e)
 zero-parts s i to (suc n) h k =
@@ -139,3 +139,40 @@ zero-parts s i to (suc n) h k =
     over : (b x y : Bool) → (cond b x false && y) ≡ cond b (x && y) false
     over true x y = refl
     over false x y = refl
+
+-- two parts side by side
+abbrev pub zeroTwo : Bytes → ℕ → ℕ → ℕ → Bool
+zeroTwo s from n i = zeroIn s (from + i) (from + n) && zeroIn s (from + n + i) (from + n + n)
+
+pub two-start : (s : Bytes) (from n : ℕ) → (true && zeroTwo s from n 0) ≡ (zeroIn s from (from + n) && zeroIn s (from + n) (from + n + n))
+two-start s from n = let e : from + 0 ≡ from = omega arith in let f : from + n + 0 ≡ from + n = omega arith in rw (e, f)
+
+pub two-go : (s : Bytes) (from n i bits : ℕ) → i < n → from + n + n ≤ length s → (eqb bits 0 && zeroTwo s from n i) ≡ (eqb (bitOr bits (bitOr (getD s (from + i) 0) (getD s (from + n + i) 0))) 0 && zeroTwo s from n (i + 1))
+two-go s from n i bits h k =
+    let e : from + (i + 1) ≡ from + i + 1 = omega arith in
+    let f : from + n + (i + 1) ≡ from + n + i + 1 = omega arith in
+    rw (e, f, zero-cut s (from + i) (from + n) (omega arith) (omega arith), zero-cut s (from + n + i) (from + n + n) (omega arith) k, or-zero bits (bitOr (getD s (from + i) 0) (getD s (from + n + i) 0)), or-zero (getD s (from + i) 0) (getD s (from + n + i) 0))
+    (shuffle (eqb bits 0) (eqb (getD s (from + i) 0) 0) (eqb (getD s (from + n + i) 0) 0) _ _)
+  where
+    shuffle : (p x y a b : Bool) → (p && (cond x a false && cond y b false)) ≡ ((p && (x && y)) && (a && b))
+    shuffle true true true a b = refl
+    shuffle true true false true b = refl
+    shuffle true true false false b = refl
+    shuffle true false y a b = refl
+    shuffle false x y a b = refl
+
+pub two-end : (s : Bytes) (from n i bits : ℕ) → n ≤ i → (eqb bits 0 && zeroTwo s from n i) ≡ eqb bits 0
+unfolding zero?
+two-end s from n i bits h =
+    let e : from + n - (from + i) ≡ 0 = omega arith in
+    let f : from + n + n - (from + n + i) ≡ 0 = omega arith in
+    rw (e, f) (and-one (eqb bits 0))
+
+pub zero-three : (s : Bytes) (from a n to : ℕ) {x y z : Bool} → from ≤ a → a + n + n ≤ to → to ≤ length s → x ≡ zeroIn s from a → y ≡ (zeroIn s a (a + n) && zeroIn s (a + n) (a + n + n)) → z ≡ zeroIn s (a + n + n) to → (x && (y && z)) ≡ zeroIn s from to
+zero-three s from a n to h k l e f g =
+    let i : from + (a - from) ≡ a = omega arith in
+    let j : a + (n + n) ≡ a + n + n = omega arith in
+    let u = zero-parts s a (a + n + n) n (omega arith) (omega arith) in
+    let v = rw j at (zero-parts s a to (n + n) (omega arith) l) in
+    let w = rw i at (zero-parts s from to (a - from) (omega arith) l) in
+    rw (e, f, g, w, v, u)

@@ -26,6 +26,10 @@ unfoldable pub zero? : Bytes → Bool
 zero? [] = true
 zero? (b ∷ s) = cond (eqb b 0) (zero? s) false
 
+-- from one place to another
+abbrev pub zeroIn : Bytes → ℕ → ℕ → Bool
+zeroIn s from to = zero? (take (to - from) (drop from s))
+
 -- the area: the queue's bytes, and zeros up to what its limits need
 unfoldable pub layout : Queue → Bytes
 layout q = queueC .enc q ++ replicate (need (q .limits) - length (queueC .enc q)) 0

@@ -36,7 +36,7 @@ ghost use Rattle.queue.specs.Rules.{sum};
 ghost use Rattle.queue.specs.Sums.{noSums, Under, Added, unread?, Checked};
 ghost use Rattle.queue.specs.Filter.{hashL, hashN, heldBy, Passed, New, NewSeen};
 ghost use Rattle.queue.specs.paper.Ids.{same?};
-ghost use Rattle.queue.specs.Areas.{zero?};
+ghost use Rattle.queue.specs.Areas.{zero?, zeroIn};
 ghost use Rattle.queue.specs.paper.Lists.{all?};
 ghost use Rattle.queue.specs.paper.Sound.{among?, apart?, readApart?};
 
@@ -394,16 +394,33 @@ fn zeros_part(s: &[u8], from: usize, to: usize) -> bool
     bits == 0
 }
 
-// The second part begins at a multiple of 64: of an area that does so, too, its bytes are read many at a time in one step.
+// The same of n bytes and the n behind them, which are read side by side: more of them in each turn.
+fn zeros_two(s: &[u8], from: usize, n: usize) -> bool
+    requires { ⌜ from + n + n ≤ length (now s) ⌝ }
+    ensures { λ r. ⌜ r ≡ (zeroIn (now (s .entry)) from (from + n) && zeroIn (now (s .entry)) (from + n) (from + n + n)) ⌝ }
+{
+    let mut bits: u8 = 0;
+    let mut i: usize = 0;
+    while i < n {
+        bits = bits | (s[from + i] | s[from + n + i]);
+        i += 1;
+    }
+    bits == 0
+}
+
+// Most of them from a multiple of 64 on: of an area that begins at one of 16 no word is read across two lines of the cache.
 pub fn zeros(s: &[u8], from: usize, to: usize) -> bool
     requires { ⌜ (from ≤ to) × (to ≤ length (now s)) ⌝ }
     ensures { λ r. ⌜ r ≡ zero? (take (to - from) (drop from (now (s .entry)))) ⌝ }
 {
-    let n = 64 - from % 64;
-    if to - from <= n {
+    let k = 64 - from % 64;
+    if to - from <= k {
         return zeros_part(s, from, to);
     }
-    let a = zeros_part(s, from, from + n);
-    let b = zeros_part(s, from + n, to);
-    both(a, b)
+    let a = from + k;
+    let n = (to - a) / 128 * 64;
+    let x = zeros_part(s, from, a);
+    let y = zeros_two(s, a, n);
+    let z = zeros_part(s, a + n + n, to);
+    both(x, both(y, z))
 }
