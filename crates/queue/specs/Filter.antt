@@ -26,7 +26,7 @@ unfoldable pub hashL : Id → ℕ
 hashL x = (beAt 8 (view false x 0) 0 + beAt 8 (view false x 0) 24) % 2 ^ 64 % 274877906899
 
 unfoldable pub hashN : ℕ → ℕ
-hashN n = n % 274877906899 * 41475557 / 8192
+hashN n = n % 4294967291 * 2654435769 % 274877906899
 
 unfoldable pub marked : List ℕ → ℕ → Bool
 marked t h = eqb (bitOr (getD t (slotL (length t) h) 0) (maskL h)) (getD t (slotL (length t) h) 0)

@@ -60,11 +60,11 @@ pub fn hash(id: [u8; 32]) -> u64
     std::num::wrapping_add_u64(a, b) % 274877906899
 }
 
-// A number of a number, spread, so that numbers that count up are far from each other.
+// A number of a number, spread over 38 bits, so that numbers that count up seldom meet in a filter.
 pub fn hash_number(n: u64) -> u64
     ensures { λ r. ⌜ r ≡ hashN n ⌝ }
 {
-    n % 274877906899 * 41475557 / 8192
+    n % 4294967291 * 2654435769 % 274877906899
 }
 
 // Another number of an id: its four words of 8 bytes added, and spread, so that ids that count up are far from each other.
