@@ -97,6 +97,7 @@ pub struct Items {
     pub next: usize,
 }
 
+// Terms, and `at`, where the priority begins.
 pub struct TermsR {
     pub ok: bool,
     pub created: Time,
