@@ -26,7 +26,7 @@ use Rattle.queue.specs.ListLaws.{one-le}
 use Rattle.queue.specs.Fronts.{frontLen, tipOf, tipSize, frontBytes, queueOf}
 use Rattle.queue.specs.Spots.{recsIn, SpotIn}
 use Rattle.queue.specs.Plain.{rec-plain}
-use Rattle.queue.specs.Reopens.{leadBytes}
+use Rattle.queue.specs.Plans.{leadBytes}
 use Rattle.queue.specs.Admitting.{newOf, optLen, labelSize, termsLen, heldLen, newLen, newTerms, heldOf, TermsFit, HeldFit, withR, WithFrom, roomOf, PendingsAre, FullIs, RoomIs, entryNewLen}
 use Rattle.queue.specs.paper.Records.{Bytes, Id, Limits, Rec, Queue}
 use Rattle.queue.specs.paper.Lists.{one, concat}

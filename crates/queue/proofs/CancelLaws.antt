@@ -224,7 +224,7 @@ module _ {s : Bytes} {a : Area} {id : Id} {at : ℕ} {x : Seen} (w : HeldIn s a 
       done-fit : Fit (ended (named? id) 4 1 (w .q))
       done-fit = leaves-kept (w .q) (ended (named? id) 4 1 (w .q)) (cancel id (w .q)) Whole (finished 4 1 (w .q .counter + 1) (w .r)) (cancel-leaves id (w .q) (fit (w .read))) (cancels room) .fit
 
-      pub held-from : EndedFrom s a Named id 4 1 m
+      pub held-from : EndedFrom s a Named id m
       unfolding picked ended committed
       held-from = record {
         q = w .q;
@@ -241,7 +241,7 @@ module _ {s : Bytes} {a : Area} {id : Id} {at : ℕ} {x : Seen} (w : HeldIn s a 
       held-4 next out k q e =
           rw (← (one-queue s (w .is) e), cancels room, lt-ltb (length out) (length (entryBytes (finished 4 1 (w .q .counter + 1) (w .r)))) (omega (arith, end-long (w .q .counter + 1))))
 
-      pub held-102 : (next out : Bytes) {next′ out′ : Bytes} {r : ℕ} → x .mark + 3 ≤ length out → EndedTo s a Named id 4 1 next next′ → Put out 0 (endBytes s at x 4 1) (x .mark + 3) r out′ → CancelTold s id (outcome (Done Whole) next′ out′) next out
+      pub held-102 : (next out : Bytes) {next′ out′ : Bytes} {r : ℕ} → x .mark + 3 ≤ length out → EndedTo s a Named id next next′ → Put out 0 (endBytes s at x 4 1) (x .mark + 3) r out′ → CancelTold s id (outcome (Done Whole) next′ out′) next out
       unfolding picked
       held-102 next out {next′} {out′} k t p q e =
           let n = w .q .counter + 1 in

@@ -187,7 +187,7 @@ module _ {s : Bytes} {a : Area} (w : AreaIn s a) where
       done-fit : 0 < m → Fit (ended (due? (time .0) (height .0)) 5 2 (w .q))
       done-fit p = leaves-kept (w .q) (ended (due? (time .0) (height .0)) 5 2 (w .q)) (expire (time .0) (height .0) (w .q)) Whole ids (expire-leaves (time .0) (height .0) (w .q) (fit (w .read))) (expires p) .fit
 
-      pub due-from : 0 < m → EndedFrom s a (Due time height) id 5 2 m
+      pub due-from : 0 < m → EndedFrom s a (Due time height) id m
       unfolding picked ended committed
       due-from p = record {
         q = w .q;
@@ -210,7 +210,7 @@ module _ {s : Bytes} {a : Area} (w : AreaIn s a) where
       pub due-ids : (out : Bytes) {out′ : Bytes} {r : ℕ} → 4 + 32 * m ≤ length out → Put out 0 (be 4 m) 4 r out′ → r + length (concat (pickedIds (Due time height) id (listAt (formC false recC) (a .open .head .count) s (a .open .start)))) ≤ length out′
       due-ids out k p = omega (arith, p .next, kept p, listed-long)
 
-      pub due-102 : (next out : Bytes) {next′ out′ out″ : Bytes} {r r′ : ℕ} → (m ≡ 0 → ⊥) → 0 < m → 4 + 32 * m ≤ length out → EndedTo s a (Due time height) id 5 2 next next′ → Put out 0 (be 4 m) 4 r out′
+      pub due-102 : (next out : Bytes) {next′ out′ out″ : Bytes} {r r′ : ℕ} → (m ≡ 0 → ⊥) → 0 < m → 4 + 32 * m ≤ length out → EndedTo s a (Due time height) id next next′ → Put out 0 (be 4 m) 4 r out′
           → Put out′ r (concat (pickedIds (Due time height) id (listAt (formC false recC) (a .open .head .count) s (a .open .start)))) (length (concat (pickedIds (Due time height) id (listAt (formC false recC) (a .open .head .count) s (a .open .start))))) r′ out″
           → ExpireTold s (time .0) (height .0) (outcome (Done Whole) next′ out″) next out
       unfolding idsBytes picked

@@ -1,6 +1,7 @@
 pub mod LoopLaws
 pub mod FrameLaws
 pub mod NearLaws
+pub mod NextLaws
 pub mod PutLaws
 pub mod Turns
 pub mod ScanLaws
@@ -25,6 +26,8 @@ pub mod CallLaws
 pub mod CancelLaws
 pub mod ExpireLaws
 pub mod PieceLaws
+pub mod PlanLaws
+pub mod PlannedLaws
 pub mod FindLaws
 pub mod ReopenLaws
 pub mod SpotLaws

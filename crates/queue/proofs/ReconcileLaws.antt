@@ -6,7 +6,7 @@ use mathlib.Core.List.{List, [], _∷_, _++_}
 use mathlib.Core.Logic.{_⊎_}
 use Prim.Native.Nat.{ℕ, zero, suc, _+_, _-_, _*_, _/_, _%_, _^_, _≤_, _<_, min}
 use native.Mathlib.Omega.{arith}
-use native.Mathlib.Nat.{min-eq-left, min-eq-right, min-le-left}
+use native.Mathlib.Nat.{mod-lt, min-eq-left, min-eq-right, min-le-left}
 use lib.Dec.{ltb, leb, eqb}
 use lib.ListN.{length, take, drop, replicate, length-append, length-take}
 use lib.Seq.{length-take-le}
@@ -41,9 +41,10 @@ use Rattle.queue.specs.SelectAs.{Row, rows, Even, Table, ahead?, idAt}
 use Rattle.queue.specs.Touching.{appliedIn, ownIds, InEntry, Judged, changed?, changes?}
 use Rattle.queue.specs.Releasing.{nextR, nextV, nextL, minedOf, Stands, StandsAt, bytesAt, MinedRow, FallingRows, MinedRows, MinedGathered, walkR, walkC}
 use Rattle.queue.specs.Rebuilding.{keptOf, keptL, keptIn}
+use Rattle.queue.specs.Plans.{plannedQ, PlanFor, Planned}
 use Rattle.queue.specs.Decided.{decided-number}
 use Rattle.queue.specs.paper.Decisions.{minedHolder?, decisions}
-use Rattle.queue.specs.Reconciling.{asked, LentTo, JudgedIn, anyTouched, wholeQ, GoneAre, DecidedAre, ChangedIs, cursorKind, cursorTo, CursorTold, WholeTo, FloorFor, goneBytes, ReconcileTold}
+use Rattle.queue.specs.Reconciling.{asked, LentTo, JudgedIn, anyTouched, wholeQ, GoneAre, DecidedAre, ChangedIs, cursorKind, cursorTo, CursorTold, WholePlan, WholeTo, FloorFor, goneBytes, ReconcileTold}
 use Rattle.queue.specs.paper.Records.{Bytes, Id, Limits, Rec, Queue}
 use Rattle.queue.specs.paper.Lists.{isSome, one, any?, count, filter, find, sort, map, concat, maybe, isEmpty?}
 use Rattle.queue.specs.paper.Sound.{need, finishRight?, holder?, mined?, content}
@@ -61,8 +62,7 @@ use Rattle.queue.specs.declared.head.Marks.{Marks}
 use Rattle.queue.specs.declared.rules.Query.the-variants.{Tombstones}
 use Rattle.queue.proofs.PutLaws.{then, recast, kept, over-splice, length-be}
 use Rattle.queue.proofs.ByteLaws.{be-same}
-use Rattle.queue.proofs.FrontLaws.{area-done}
-use Rattle.queue.proofs.WriteLaws.{fit, one-queue, same-queue, the-limits, shares-sixteen, queue-long, long-need}
+use Rattle.queue.proofs.WriteLaws.{fit, one-queue, same-queue, the-limits}
 use Rattle.queue.proofs.ReadingLaws.{key}
 use Rattle.queue.proofs.SelectLaws.{rows-places, rows-take, even-to, ids-size}
 use Rattle.queue.proofs.ReleaseLaws.{sort-mined, mined-placed, walk-ids, walk-columns}
@@ -125,9 +125,6 @@ judged-next t caught own es (r ∷ l) (c ∷ v) j = two (ap (maybe r (λ y. y)) 
   where
     two : {a a′ : Rec} {b b′ : List Rec} → a ≡ a′ → b ≡ b′ → (a ∷ b) ≡ (a′ ∷ b′)
     two e f = cc
-
-pub few-records : {s : Bytes} {a : Area} → AreaIn s a → a .open .head .count ≤ 3072
-few-records w = let g = fit (w .read) .sound in omega (arith, w .read .store .count, g .few, g .range .P-high, g .range .T-high)
 
 pub verdicts-fit : {s : Bytes} {a : Area} {B : Block} {t ids : Bytes} {vs : List ℕ} → AreaIn s a → JudgedIn s a B t ids vs → (length vs ≡ a .open .head .count) × All (InEntry t) vs
 verdicts-fit {s} {a} {B} {t} {ids} {vs} w j =
@@ -244,7 +241,7 @@ module _ {s : Bytes} {a : Area} (w : AreaIn s a) {B : Block} {t ids : Bytes} (L 
     none-gone [] e = refl
     none-gone (i ∷ x) e = absurd (let y : ⊥ = omega arith in y)
 
-    pub kept-is : {fl : ℕ} → FloorFor s a (length gone) fl → keptIn s a t vs gone fl ≡ trimmed (w .q .limits .T) (toRelease C (w .q)) (map (releaseOne (w .q .counter) (toRelease C (w .q))) (touchedRecs C (w .q)))
+    kept-is : {fl : ℕ} → FloorFor s a (length gone) fl → keptIn s a t vs gone fl ≡ trimmed (w .q .limits .T) (toRelease C (w .q)) (map (releaseOne (w .q .counter) (toRelease C (w .q))) (touchedRecs C (w .q)))
     unfolding keptL keptOf touchedRecs
     kept-is {fl} F =
         let st = w .read .store in
@@ -258,6 +255,11 @@ module _ {s : Bytes} {a : Area} (w : AreaIn s a) {B : Block} {t ids : Bytes} (L 
         three : {c c′ : ℕ} {x x′ : List Id} {l l′ : List Rec} → c ≡ c′ → x ≡ x′ → l ≡ l′ → filter (λ y. holder? y || leb fl (y .finish)) (map (releaseOne c x) l) ≡ filter (λ y. holder? y || leb fl (y .finish)) (map (releaseOne c′ x′) l′)
         three e f g = cc
 
+    -- the rows for it
+    pub whole-plan : {fl kept : ℕ} {rows : List ℕ} → FloorFor s a (length gone) fl → Planned s a t vs rows (keptIn s a t vs gone fl) kept → WholePlan s a C t vs rows kept
+    unfolding wholeQ committed
+    whole-plan {fl} F P q e = rw (← (one-queue s (w .is) e)) (record { fit = P .fit; are = P .are ∙ kept-is F; count = P .count ∙ ap length (kept-is F); few = P .few })
+
     module _ (room : a .open .head .counter .0 + length gone < 18446744073709551616) where
       fits-top : ltb top (w .q .counter + length (toRelease C (w .q))) ≡ false
       fits-top = let N : w .q .counter ≡ a .open .head .counter .0 = w .read .store .head .counter in le-ltb top (w .q .counter + length (toRelease C (w .q))) (omega (arith, many-gone))
@@ -270,48 +272,37 @@ module _ {s : Bytes} {a : Area} (w : AreaIn s a) {B : Block} {t ids : Bytes} (L 
         whole-fit : Fit (wholeQ C (w .q))
         whole-fit = leaves-kept (w .q) (wholeQ C (w .q)) (reconcile C (w .q)) Whole (true, toRelease C (w .q)) (reconcile-leaves C (w .q) (fit (w .read)) (L .ok)) whole-done .fit
 
-        abbrev pub LimsW : Limits
-        LimsW = limitsIn (a .open .head .limits)
+        abbrev pub marksW : ℕ → Marks
+        marksW kept = record { persisted = B .height; revision = (a .open .head .revision + 1) % 2 ^ 64; cursor = B .height; tip = true; counter = record { 0 = a .open .head .counter .0 + length gone }; count = kept }
 
-        abbrev pub recsW : ℕ → List Rec
-        recsW fl = keptIn s a t vs gone fl
-
-        module _ {fl revision many : ℕ} (F : FloorFor s a (length gone) fl) (e : revision ≡ (a .open .head .revision + 1) % 2 ^ 64) (n : many ≡ length (recsW fl)) where
-          abbrev pub marksW : Marks
-          marksW = record { persisted = B .height; revision = revision; cursor = B .height; tip = true; counter = record { 0 = a .open .head .counter .0 + length gone }; count = many }
-
-          whole-is : queueOf LimsW marksW (B .tip) (recsW fl) ≡ wholeQ C (w .q)
+        module _ {rows : List ℕ} {kept : ℕ} (P : WholePlan s a C t vs rows kept) where
+          whole-is : plannedQ s a (marksW kept) (B .tip) t vs rows ≡ wholeQ C (w .q)
           unfolding wholeQ committed
           whole-is =
               let st = w .read .store in
-              same-queue refl (sym (the-limits (w .read))) (e ∙ ap (λ v. (v + 1) % 2 ^ 64) (sym (st .head .revision))) refl refl
-              (ap (λ v. v + length gone) (sym (st .head .counter)) ∙ ap (λ v. w .q .counter + v) many-gone) (kept-is F)
+              same-queue refl (sym (the-limits (w .read))) (ap (λ v. (v + 1) % 2 ^ 64) (sym (st .head .revision))) refl refl
+              (ap (λ v. v + length gone) (sym (st .head .counter)) ∙ ap (λ v. w .q .counter + v) many-gone) (P (w .q) (w .is) .are)
 
           whole-need : length (queueC .enc (wholeQ C (w .q))) ≤ need (w .q .limits)
           unfolding wholeQ committed
           whole-need = fits-need (wholeQ C (w .q)) (fit-sound _ whole-fit) (fit-ok _ whole-fit)
 
-          whole-fits : length (queueC .enc (queueOf LimsW marksW (B .tip) (recsW fl))) ≤ need LimsW
-          whole-fits = let u = ap (λ v. length (queueC .enc v)) whole-is in let v = ap need (the-limits (w .read)) in let y = whole-need in omega arith
+          pub whole-for : PlanFor s a (marksW kept) (B .tip) t vs rows
+          whole-for =
+              let p = P (w .q) (w .is) in
+              let h = w .read .store .head in
+              record {
+                area = w;
+                bytes = L .small;
+                fit = p .fit;
+                count = p .count ∙ sym (ap length (p .are));
+                small = record { persisted = L .ok .height; revision = mod-lt _ (omega arith); cursor = L .ok .height; counter = room; count = omega (arith, p .few, h .countSmall) };
+                long = L .long;
+                fits = let u = ap (λ v. length (queueC .enc v)) whole-is in omega (arith, whole-need, w .read .need);
+              }
 
-          pub whole-room : 142 + length (encs recC (recsW fl)) ≤ a .need
-          whole-room =
-              let q = queue-long LimsW marksW (B .tip) (recsW fl) (shares-sixteen (w .read)) n (L .long) in
-              let v = ap need (the-limits (w .read)) in let y = whole-fits in omega (arith, w .read .need)
-
-          pub whole-put : {d d₁ d₂ d₃ : Bytes} {o y y′ to : ℕ} {q′ : Queue} → readArea s ≡ some q′ → a .need ≤ length d → to ≡ 142
-              → Put d to (encs recC (recsW fl)) (length (encs recC (recsW fl))) o d₁ → Put d₁ 0 (frontBytes LimsW marksW (B .tip)) 142 y d₂ → Put d₂ o (replicate (a .need - o) 0) (a .need - o) y′ d₃
-              → d₃ ≡ over (areaBytes (wholeQ C q′)) d
-          whole-put {d} x g h p1 p2 p3 =
-              area-done LimsW marksW (B .tip) (recsW fl) n whole-fits (w .read .need ∙ ap need (the-limits (w .read))) g p1 (recast p2 refl (sym h) refl) p3
-              ∙ ap (λ v. over (areaBytes v) d) (whole-is ∙ ap (wholeQ C) (one-queue s (w .is) x))
-
-          whole-count : length (trimmed (w .q .limits .T) (toRelease C (w .q)) (map (releaseOne (w .q .counter) (toRelease C (w .q))) (touchedRecs C (w .q)))) ≤ 2 * w .q .limits .P + w .q .limits .T
-          unfolding wholeQ committed
-          whole-count = whole-fit .sound .few
-
-          pub whole-few : many < 4294967296
-          whole-few = let z = fit (w .read) .sound .range in let y = whole-count in omega (arith, n, ap length (kept-is F), z .P-high, z .T-high)
+          pub whole-put : (d : Bytes) {d′ : Bytes} {q′ : Queue} → readArea s ≡ some q′ → d′ ≡ over (areaBytes (plannedQ s a (marksW kept) (B .tip) t vs rows)) d → d′ ≡ over (areaBytes (wholeQ C q′)) d
+          whole-put d x h = h ∙ ap (λ v. over (areaBytes v) d) (whole-is ∙ ap (wholeQ C) (one-queue s (w .is) x))
 
       -- ---- the answer
       still-done : (anyTouched C (w .q) || not (isEmpty? (toRelease C (w .q)))) ≡ false → reconcile C (w .q) ≡ done (cursorKind (w .q .persisted) (B .height .0)) (cursorTo (B .height .0) (B .tip) (w .q)) (false, [])

@@ -1,43 +1,39 @@
--- Reopening: lent ids, the listed, a reopened record's bytes, the walk that writes, and the call exit by exit. Assumes nothing.
+-- Reopening: lent ids, the listed, their rows, and the call exit by exit. Assumes nothing.
 use mathlib.Core.Path.{_≡_, refl, ap, sym, _∙_}
-use mathlib.Core.Bool.{Bool, true, false, cond, not, _&&_, _||_}
+use mathlib.Core.Bool.{Bool, true, false, cond, not, _&&_}
 use mathlib.Core.Option.{Option, none, some}
-use mathlib.Core.List.{List, [], _∷_, _++_, append-assoc, append-nil}
+use mathlib.Core.List.{List, [], _∷_, _++_, append-nil}
 use Prim.Native.Nat.{ℕ, zero, suc, _+_, _-_, _*_, _/_, _%_, _^_, _≤_, _<_}
 use native.Mathlib.Omega.{arith}
-use native.Mathlib.Nat.{div-add-mod'}
-use lib.Dec.{ltb, leb, eqb}
-use lib.ListN.{length, drop, take, replicate, length-append, length-drop, take-append-drop}
-use lib.Seq.{drop-drop, length-take-le}
+use native.Mathlib.Nat.{add-zero, mod-lt, div-add-mod'}
+use lib.Dec.{ltb, eqb}
+use lib.ListN.{length, drop, take, length-drop, take-append-drop}
 use borrow.Author.Tests.{lt-ltb, le-ltb, eq-eqb, ne-eqb}
-use Rattle.queue.specs.ListLaws.{map-length}
-use Rattle.queue.specs.Codec as codec
-use Rattle.queue.specs.Codec.{Got, fail, got, Codec, cases, All, beC, encs, decs, vec-fwd}
-use Rattle.queue.specs.Splice.{Put, splice, be}
-use Rattle.queue.specs.Frames.{idC, termsC, placeC, bodyC, recC}
+use Rattle.queue.specs.Codec.{got, Codec, cases, All, encs, decs, vec-fwd}
+use Rattle.queue.specs.Frames.{idC, recC}
 use Rattle.queue.specs.View.{view}
 use Rattle.queue.specs.Reads.{Reads, whole, listAt, isGot, valOf}
 use Rattle.queue.specs.ReadLaws as readlaws
-use Rattle.queue.specs.ReadLaws.{Turn, turn, false-true, none-left}
-use Rattle.queue.specs.Forms.{formC, Framed, queueC, turn-in}
+use Rattle.queue.specs.ReadLaws.{turn, none-left}
+use Rattle.queue.specs.Forms.{formC, queueC}
 use Rattle.queue.specs.Areas.{readArea}
 use Rattle.queue.specs.Bound.{fits-need}
 use Rattle.queue.specs.Sounds.{Fit, fit-sound, fit-ok}
 use Rattle.queue.specs.Keeps.{Kept, Leaves, leaves-kept, reopen-leaves}
-use Rattle.queue.specs.Plain.{terms-plain, body-plain, rec-plain, ids-plain}
-use Rattle.queue.specs.Facts.{termsAt, factsOf, SeenAs, limitsIn}
+use Rattle.queue.specs.Plain.{ids-plain}
+use Rattle.queue.specs.Facts.{factsOf, SeenAs}
 use Rattle.queue.specs.Opens.{AreaAs, AreaIs}
 use Rattle.queue.specs.Arguments.{Small, items-ok, ids-ok}
-use Rattle.queue.specs.Fronts.{frontLen, tipOf, tipSize, frontBytes, queueOf}
-use Rattle.queue.specs.Writes.{TipIs}
+use Rattle.queue.specs.Writes.{TipIs, marksAfter}
 use Rattle.queue.specs.CallsAs.{AreaIn}
-use Rattle.queue.specs.Reopens.{IdsIn, idsAt, listedS, again, againQ, stateF, reasonF, leadBytes, reopenedBytes, reopenedLen, againBytes, PartsIn, AgainFrom, AgainTo, ReopenTold}
-use Rattle.queue.specs.paper.Records.{Bytes, Id, Limits, Rec, Queue, queued, cancelled, expired}
+use Rattle.queue.specs.Spots.{recsIn}
+use Rattle.queue.specs.Plans.{Packs, RowAdded, made, RowFit, plannedQ, PlanFor, Planned}
+use Rattle.queue.specs.Reopens.{IdsIn, IdsRise, idsAt, listedS, again, againQ, AgainFrom, AgainTo, ReopenTold}
+use Rattle.queue.specs.paper.Records.{Bytes, Id, Rec, Queue}
 use Rattle.queue.specs.paper.Lists.{any?, map, concat}
 use Rattle.queue.specs.paper.Ids.{cmpL, rise?}
-use Rattle.queue.specs.paper.Kinds.{newest}
-use Rattle.queue.specs.paper.Sound.{need, holder?, mined?, among?}
-use Rattle.queue.specs.paper.Area.{flagged, termsBytes, placeBytes, heldBytes, recBytes, areaBytes, over, recUnder}
+use Rattle.queue.specs.paper.Sound.{need, mined?, among?}
+use Rattle.queue.specs.paper.Area.{areaBytes, over}
 use Rattle.queue.specs.paper.Changing.{Out, refused, done, committed, reopened, listed?, reopen}
 use Rattle.queue.specs.Checked.{Outcome, outcome, told, reopenOf}
 use Rattle.queue.specs.paper.Calls.{nothingBytes, pieces, items, whole?}
@@ -46,16 +42,11 @@ use Rattle.queue.specs.declared.Answer.the-variants.{Refused, Done}
 use Rattle.queue.specs.declared.frame.Seen.{Seen}
 use Rattle.queue.specs.declared.frame.Facts.{Facts}
 use Rattle.queue.specs.declared.area.Area.{Area}
-use Rattle.queue.specs.declared.head.Marks.{Marks}
-use Rattle.queue.proofs.FrameLaws.{caller-byte}
-use Rattle.queue.proofs.Turns.{Scan, start, here, on, stop, end, SeenIn, ReadsRec, seen, see}
-use Rattle.queue.proofs.PutLaws as puts
-use Rattle.queue.proofs.PutLaws.{Left, begun, onward, kept, recast, length-be}
-use Rattle.queue.proofs.ByteLaws.{be-same, between}
-use Rattle.queue.proofs.FinishLaws.{cut-one, raw-after, raw-within, id-long}
-use Rattle.queue.proofs.FrontLaws.{area-done}
-use Rattle.queue.proofs.WriteLaws.{fit, one-queue, same-queue, the-limits, shares-sixteen, tip-of, queue-long, long-need}
+use Rattle.queue.proofs.Turns.{Scan, start, here, on, stop, end, ReadsRec, seen, see}
+use Rattle.queue.proofs.FinishLaws.{raw-after}
+use Rattle.queue.proofs.WriteLaws.{fit, one-queue, same-queue, the-limits, tip-of}
 use Rattle.queue.proofs.CallLaws.{small-all}
+use Rattle.queue.proofs.PlanLaws.{row, made-same, made-again, visit-turn, PlanLoop, plan-loop, plan-next, plan-close}
 
 -- ---- lent ids
 pub pieces-join : (k : ℕ) (s : Bytes) → length s ≡ k * 32 → concat (pieces 32 k s) ≡ s
@@ -173,192 +164,80 @@ module _ (ids : List Id) {s : Bytes} {n at i left : ℕ} (x : Scan (formC false 
   unfolding anyF
   any-end z = end x z
 
--- ---- a reopened record's bytes
-pub parts-in : {s : Bytes} {i : ℕ} {ok : Bool} {x : Seen} {r : Rec} → SeenIn false s i ok (x .size) x r → PartsIn s i x
-parts-in w = record { id = id-long w; up = w .0 .up; upPlace = w .0 .upPlace; upBody = w .0 .upBody; within = raw-within w }
+-- ---- the rows
+again-made : (ids : List Id) (n i : ℕ) (r : Rec) {hit : Bool} → hit ≡ listed? ids r → again ids r ∷ [] ≡ made [] [] n (row i 0 0 (cond hit 4 0)) r
+unfolding again
+again-made ids n i r {hit} e = cases hit
+    (λ t. rw (t, sym e ∙ t) (sym (made-again [] [] n i 0 r)))
+    (λ t. rw (t, sym e ∙ t) (sym (made-same [] [] n i 0 r)))
 
-state-small : (m : ℕ) (h : Bool) → cond (eqb m 0) (cond h 0 5) (cond (eqb m 4) 4 5) < 256
-state-small m h = cases (eqb m 0)
-    (λ t. cases h (λ u. rw (t, u) (omega arith)) (λ u. rw (t, u) (omega arith)))
-    (λ t. cases (eqb m 4) (λ u. rw (t, u) (omega arith)) (λ u. rw (t, u) (omega arith)))
+pub record ListPlan (s : Bytes) (at n num : ℕ) (ids : List Id) (d : List ℕ) (i left k : ℕ) : Type 0 where
+  pub loop : PlanLoop s at n num [] [] (map (again ids) (listAt (formC false recC) n s at)) d i left k (n - left) (map (again ids) (listAt (formC false recC) left s i))
 
-reason-small : (m : ℕ) (h : Bool) → cond (eqb m 0) (cond h 4 3) (cond (eqb m 4) 1 (cond (eqb m 5) 2 3)) < 256
-reason-small m h = cases (eqb m 0)
-    (λ t. cases h (λ u. rw (t, u) (omega arith)) (λ u. rw (t, u) (omega arith)))
-    (λ t. cases (eqb m 4) (λ u. rw (t, u) (omega arith)) (λ u. cases (eqb m 5) (λ v. rw (t, u, v) (omega arith)) (λ v. rw (t, u, v) (omega arith))))
+pub list-plan : {s : Bytes} {a : Area} (num : ℕ) (ids : List Id) (d : List ℕ) → AreaIn s a → length d ≡ 3072 → ListPlan s (a .open .start) (a .open .head .count) num ids d (a .open .start) (a .open .head .count) 0
+list-plan {s} {a} num ids d w l = record { loop = rw (let y : a .open .head .count - a .open .head .count ≡ 0 = omega arith in y) (plan-loop num [] [] (map (again ids) (recsIn s a)) d w l) }
 
-rejoin : (i c a b t z f : Bytes) → (((((i ++ c) ++ a) ++ b) ++ t) ++ z) ++ f ≡ i ++ (c ++ (a ++ (b ++ (t ++ (z ++ f)))))
-rejoin i c a b t z f = simp append-assoc
+module _ {s : Bytes} {at n num : ℕ} {ids : List Id} {d : List ℕ} {i left k : ℕ} (g : ListPlan s at n num ids d i left k) where
+  module _ {ok hit : Bool} {x : Seen} (p : 0 < left) (r : ReadsRec false s i ok (x .size) x) (e : hit ≡ listedS ids x) {what : ℕ} (ew : what ≡ cond hit 4 0) where
+    what-few : what < 7
+    what-few = cases hit (λ b. let y : what ≡ 4 = ew ∙ rw b in omega arith) (λ b. let y : what ≡ 0 = ew ∙ rw b in omega arith)
 
-regroup : (i c a b t z f : Bytes) → (((((((2 ∷ []) ++ i) ++ c) ++ a) ++ b) ++ t) ++ z) ++ f ≡ 2 ∷ (i ++ (c ++ (a ++ (b ++ (t ++ (z ++ f))))))
-regroup i c a b t z f = ap (λ (k : Bytes). 2 ∷ k) (rejoin i c a b t z f)
+    what-not : what ≡ 1 → ⊥
+    what-not o = cases hit (λ b. let y : what ≡ 4 = ew ∙ rw b in let z : ⊥ = omega arith in z) (λ b. let y : what ≡ 0 = ew ∙ rw b in let z : ⊥ = omega arith in z)
 
-glue : {c c′ a a′ b b′ t t′ z z′ f f′ : Bytes} (i : Bytes) → c ≡ c′ → a ≡ a′ → b ≡ b′ → t ≡ t′ → z ≡ z′ → f ≡ f′
-    → (((((((2 ∷ []) ++ i) ++ c) ++ a) ++ b) ++ t) ++ z) ++ f ≡ (((((((2 ∷ []) ++ i) ++ c′) ++ a′) ++ b′) ++ t′) ++ z′) ++ f′
-glue i w e f g h k = cc
+    pub listed-packs : i < 4294967296 → Packs (row i 0 0 what)
+    listed-packs w = record { place = w; index = omega arith; rank = omega arith; what = let y = what-few in omega arith }
 
-two-zeros : be 2 0 ≡ 0 ∷ 0 ∷ []
-two-zeros = refl
+    pub listed-go : {d′ : List ℕ} {k′ : ℕ} → num < 18446744073709551616 → RowAdded (row i 0 0 what) k d k′ d′ → ListPlan s at n num ids d′ (i + x .size) (left - 1) k′
+    listed-go w A =
+        let T = visit-turn (g .loop .visit) p r in
+        let h : hit ≡ listed? ids (T .item) = e ∙ listed-is ids (T .is .0) in
+        let f : not (eqb what 7) ≡ true = let y = what-few in ap not (ne-eqb what 7 (λ z. let u : ⊥ = omega arith in u)) in
+        let m : n - left + 1 ≡ n - (left - 1) = omega (arith, g .loop .visit .few) in
+        record {
+          loop = counted m (plan-next (g .loop) p r A refl (record { entry = λ o. absurd (what-not o); number = omega arith })
+              (ap (map (again ids)) (T .list)
+              ∙ ap (λ (z : List Rec). z ++ map (again ids) (listAt (formC false recC) (left - 1) s (i + x .size))) (again-made ids num i (T .item) h ∙ ap (λ z. made [] [] num (row i 0 0 z) (T .item)) (sym ew)))
+              (sym (ap (λ b. cond b 1 0) f)));
+        }
+      where
+        counted : {d′ : List ℕ} {j l k′ m m′ : ℕ} {all rest : List Rec} → m ≡ m′ → PlanLoop s at n num [] [] all d′ j l k′ m rest → PlanLoop s at n num [] [] all d′ j l k′ m′ rest
+        counted e g = rw (← e) g
 
-abbrev reopenedState : Rec → ℕ
-reopenedState r = cond (eqb (r .mark) 0) (cond (holder? r) queued expired) (cond (eqb (r .mark) cancelled) cancelled expired)
-
-abbrev reopenedReason : Rec → ℕ
-reopenedReason r = cond (eqb (r .mark) 0) (cond (holder? r) 4 3) (cond (eqb (r .mark) cancelled) 1 (cond (eqb (r .mark) expired) 2 3))
-
-shape : (r : Rec) → 2 ∷ (r .id ++ (codec.be 1 (r .caller) ++ (codec.be 1 (reopenedState r) ++ (codec.be 1 (reopenedReason r) ++ (termsBytes (r .terms) ++ ((0 ∷ 0 ∷ []) ++ (codec.be 8 (r .finish) ++ flagged heldBytes (r .body)))))))) ≡ recBytes (reopened r)
-unfolding recUnder reopened placeBytes
-shape r = refl
-
-module _ (s : Bytes) (base : ℕ) {x : Seen} {r : Rec} (w : SeenAs (view false s base) x r) where
-  pub terms-part : take (x .after - termsAt) (drop (base + termsAt) s) ≡ termsBytes (r .terms)
-  unfolding view
-  terms-part = ap (take (x .after - termsAt)) (sym (drop-drop termsAt base s)) ∙ between (drop base s) (termsC .enc (r .terms)) termsAt (x .after) (w .terms) (w .up) (omega (arith, w .upPlace, w .upBody, w .end)) .0 ∙ terms-plain (r .terms)
-
-  one-byte : length (beC 1 .enc (r .mark)) ≡ 1
-  unfolding beC
-  one-byte = codec.be-length 1 (r .mark)
-
-  pub tail-part : take (x .size - (x .mark + 1)) (drop (base + (x .mark + 1)) s) ≡ codec.be 8 (r .finish) ++ flagged heldBytes (r .body)
-  unfolding view beC
-  tail-part =
-      let k = cut-one (drop base s) (beC 1 .enc (r .mark)) (beC 8 .enc (r .finish) ++ drop (x .body) (drop base s)) (x .mark) (w .marks) one-byte in
-      let e : drop (x .mark + 1) (drop base s) ≡ (codec.be 8 (r .finish) ++ bodyC .enc (r .body)) ++ drop (x .size) (drop base s) = k ∙ ap (λ (y : Bytes). codec.be 8 (r .finish) ++ y) (w .body) ∙ sym (append-assoc (codec.be 8 (r .finish)) (bodyC .enc (r .body)) (drop (x .size) (drop base s))) in
-      ap (take (x .size - (x .mark + 1))) (sym (drop-drop (x .mark + 1) base s))
-      ∙ between (drop base s) (codec.be 8 (r .finish) ++ bodyC .enc (r .body)) (x .mark + 1) (x .size) e (omega (arith, w .upBody)) (w .end) .0
-      ∙ ap (λ (y : Bytes). codec.be 8 (r .finish) ++ y) (body-plain newest (r .body))
-
-  state-is : stateF (x .facts) ≡ reopenedState r
-  unfolding stateF factsOf
-  state-is = ap (λ (f : Facts). cond (eqb (f .mark) 0) (cond (f .holder) 0 5) (cond (eqb (f .mark) 4) 4 5)) (w .facts)
-
-  reason-is : reasonF (x .facts) ≡ reopenedReason r
-  unfolding reasonF factsOf
-  reason-is = ap (λ (f : Facts). cond (eqb (f .mark) 0) (cond (f .holder) 4 3) (cond (eqb (f .mark) 4) 1 (cond (eqb (f .mark) 5) 2 3))) (w .facts)
-
-  state-byte : be 1 (stateF (x .facts)) ≡ codec.be 1 (reopenedState r)
-  unfolding stateF
-  state-byte = be-same 1 (stateF (x .facts)) (state-small (x .facts .mark) (x .facts .holder)) ∙ ap (codec.be 1) state-is
-
-  reason-byte : be 1 (reasonF (x .facts)) ≡ codec.be 1 (reopenedReason r)
-  unfolding reasonF
-  reason-byte = be-same 1 (reasonF (x .facts)) (reason-small (x .facts .mark) (x .facts .holder)) ∙ ap (codec.be 1) reason-is
-
-  pub reopened-is : reopenedBytes s base x ≡ recC .enc (reopened r)
-  unfolding reopenedBytes leadBytes
-  reopened-is =
-      glue (x .id) (caller-byte w) state-byte reason-byte terms-part two-zeros tail-part
-      ∙ regroup (x .id) (codec.be 1 (r .caller)) (codec.be 1 (reopenedState r)) (codec.be 1 (reopenedReason r)) (termsBytes (r .terms)) (0 ∷ 0 ∷ []) (codec.be 8 (r .finish) ++ flagged heldBytes (r .body))
-      ∙ ap (λ (i : Bytes). 2 ∷ (i ++ (codec.be 1 (r .caller) ++ (codec.be 1 (reopenedState r) ++ (codec.be 1 (reopenedReason r) ++ (termsBytes (r .terms) ++ ((0 ∷ 0 ∷ []) ++ (codec.be 8 (r .finish) ++ flagged heldBytes (r .body))))))))) (w .id)
-      ∙ shape r ∙ sym (rec-plain (reopened r))
-
-pick : (a b : Bool) (x y : Bytes) (u v : Rec) → a ≡ b → x ≡ recC .enc u → y ≡ recC .enc v → cond a x y ≡ recC .enc (cond b u v)
-pick a b x y u v e f g = rw (← e) (go a)
-  where
-    go : (a : Bool) → cond a x y ≡ recC .enc (cond a u v)
-    go true = f
-    go false = g
-
-pub again-is : (ids : List Id) (s : Bytes) (i : ℕ) {x : Seen} {r : Rec} {ok hit : Bool} → hit ≡ listedS ids x → SeenIn false s i ok (x .size) x r → againBytes s i x hit ≡ recC .enc (again ids r)
-unfolding againBytes again view
-again-is ids s i {x} {r} {ok} {hit} e w = pick hit (listed? ids r) (reopenedBytes s i x) (take (x .size) (drop i s)) (reopened r) r (e ∙ listed-is ids (w .0)) (reopened-is s i (w .0)) (w .1 .bytes)
-
--- how long they are
-pub reopened-long : (s : Bytes) (base : ℕ) (x : Seen) → PartsIn s base x → length (reopenedBytes s base x) ≡ reopenedLen x
-unfolding reopenedBytes leadBytes
-reopened-long s base x p =
-    let a = length-take-le (x .after - termsAt) (drop (base + termsAt) s) (omega (arith, length-drop (base + termsAt) s, p .upPlace, p .upBody, p .within)) in
-    let b = length-take-le (x .size - (x .mark + 1)) (drop (base + (x .mark + 1)) s) (omega (arith, length-drop (base + (x .mark + 1)) s, p .upBody, p .within)) in
-    let u = length-be 1 (x .facts .caller) in let c = length-be 1 (stateF (x .facts)) in let d = length-be 1 (reasonF (x .facts)) in let e = length-be 2 0 in
-    simp length-append (omega (arith, p .id, p .up))
-
-pub again-yes : (s : Bytes) (base : ℕ) (x : Seen) {hit : Bool} → hit ≡ true → againBytes s base x hit ≡ reopenedBytes s base x
-unfolding againBytes
-again-yes s base x e = rw e
-
-pub again-no : (s : Bytes) (base : ℕ) (x : Seen) {hit : Bool} → hit ≡ false → againBytes s base x hit ≡ take (x .size) (drop base s)
-unfolding againBytes
-again-no s base x e = rw e
-
-pub yes-room : (s : Bytes) (base : ℕ) (x : Seen) {hit : Bool} (o k : ℕ) → hit ≡ true → PartsIn s base x → o + length (againBytes s base x hit) ≤ k → o + reopenedLen x ≤ k
-yes-room s base x o k e p h = let a = ap length (again-yes s base x e) in let b = reopened-long s base x p in omega arith
-
-pub no-room : (s : Bytes) (base : ℕ) (x : Seen) {hit : Bool} (o k : ℕ) → hit ≡ false → PartsIn s base x → o + length (againBytes s base x hit) ≤ k → o + x .size ≤ k
-no-room s base x o k e p h =
-    let a = ap length (again-no s base x e) in
-    let b = length-take-le (x .size) (drop base s) (omega (arith, length-drop base s, p .within)) in omega arith
-
--- ---- the walk that writes
-module _ (s : Bytes) (at n : ℕ) (ids : List Id) (to : ℕ) (d₀ : Bytes) where
-  pub record Opening (dst : Bytes) (i left o : ℕ) : Type 0 where
-    pub within : i ≤ length s
-    pub all : whole (formC false recC) left s i ≡ true
-    pub long : length dst ≡ length d₀
-    pub rest : Left d₀ to (encs recC (map (again ids) (listAt (formC false recC) n s at))) dst o (encs recC (map (again ids) (listAt (formC false recC) left s i)))
-
-  pub opening : at ≤ length s → whole (formC false recC) n s at ≡ true → Opening d₀ at n to
-  opening h w = record { within = h; all = w; long = refl; rest = begun _ _ _ }
-
-  module _ {dst : Bytes} {i left o : ℕ} (g : Opening dst i left o) where
-    pub open-turn : {ok : Bool} {x : Seen} → 0 < left → ReadsRec false s i ok (x .size) x → Turn (formC false recC) s left i (i + x .size) (SeenIn false s i ok (x .size) x)
-    open-turn {ok} {x} p r = rw (raw-after s i (x .size)) (turn-in false left (g .within) (g .all) p r)
-
-    module _ {ok hit : Bool} {x : Seen} (p : 0 < left) (r : ReadsRec false s i ok (x .size) x) (e : hit ≡ listedS ids x) where
-      split : encs recC (map (again ids) (listAt (formC false recC) left s i)) ≡ againBytes s i x hit ++ encs recC (map (again ids) (listAt (formC false recC) (left - 1) s (i + x .size)))
-      unfolding encs
-      split =
-          let t = open-turn p r in
-          ap (λ y. encs recC (map (again ids) y)) (t .list) ∙ ap (λ (y : Bytes). y ++ encs recC (map (again ids) (listAt (formC false recC) (left - 1) s (i + x .size)))) (sym (again-is ids s i e (t .is)))
-
-      pub open-room : to + length (encs recC (map (again ids) (listAt (formC false recC) n s at))) ≤ length d₀ → o + length (againBytes s i x hit) ≤ length dst
-      open-room h = omega (arith, g .rest .pos, g .long, ap length split, length-append (againBytes s i x hit) (encs recC (map (again ids) (listAt (formC false recC) (left - 1) s (i + x .size)))))
-
-      pub open-go : {dst′ : Bytes} {m q : ℕ} → Put dst o (againBytes s i x hit) m q dst′ → Opening dst′ (i + x .size) (left - 1) q
-      open-go w = let t = open-turn p r in record { within = t .within; all = t .rest; long = kept w ∙ g .long; rest = onward (rw split at (g .rest)) w }
-
-    pub open-end : left ≡ 0 → Put d₀ to (encs recC (map (again ids) (listAt (formC false recC) n s at))) (length (encs recC (map (again ids) (listAt (formC false recC) n s at)))) o dst
-    unfolding encs
-    open-end z = let l = none-left (formC false recC) s left i z in puts.done (rw (l .0) at (g .rest))
+pub listed-end : {s : Bytes} {a : Area} {num : ℕ} {ids : List Id} {d : List ℕ} {i left k : ℕ} → ListPlan s (a .open .start) (a .open .head .count) num ids d i left k → AreaIn s a → num ≡ a .open .head .counter .0 → left ≡ 0
+    → Planned s a [] [] (take k d) (map (again ids) (recsIn s a)) (a .open .head .count) × (k ≤ 3072)
+listed-end {s} {a} {num} {ids} {d} {i} {left} {k} g w e z =
+    let h = plan-close (g .loop) w e z (ap (map (again ids)) (none-left (formC false recC) s left i z .0)) in
+    (rw (let y : a .open .head .count - left ≡ a .open .head .count = omega arith in y) at (h .0), h .1)
 
 -- ---- the whole area
 module _ {s : Bytes} {a : Area} {ids : List Id} (w : AgainFrom s a ids) where
-  abbrev pub Lims : Limits
-  Lims = limitsIn (a .open .head .limits)
+  pub area-again : AreaIn s a
+  area-again = record { q = w .q; is = w .is; read = w .read }
 
-  abbrev pub recsNow : List Rec
-  recsNow = map (again ids) (listAt (formC false recC) (a .open .head .count) s (a .open .start))
-
-  pub records-asks : (a .open .start ≤ length s) × (whole (formC false recC) (a .open .head .count) s (a .open .start) ≡ true)
-  records-asks = let g = w .read .store in (omega (arith, g .up, g .ends), g .all)
-
-  many : a .open .head .count ≡ length recsNow
-  many = sym (map-length (again ids) (listAt (formC false recC) (a .open .head .count) s (a .open .start)) ∙ ap length (w .read .store .list) ∙ w .read .store .count)
-
-  module _ (tip : Id) {revision : ℕ} (r : revision ≡ (a .open .head .revision + 1) % 2 ^ 64) (t : TipIs s (a .open .head) tip) (l : length tip ≡ 32) where
-    abbrev pub marksNow : Marks
-    marksNow = record { persisted = a .open .head .cursor; revision = revision; cursor = a .open .head .cursor; tip = a .open .head .tip; counter = a .open .head .counter; count = a .open .head .count }
-
-    opened-is : queueOf Lims marksNow tip recsNow ≡ againQ ids (w .q)
+  module _ (tip : Id) {kept : ℕ} {rows : List ℕ} (t : TipIs s (a .open .head) tip) (P : Planned s a [] [] rows (map (again ids) (recsIn s a)) kept) where
+    opened-is : plannedQ s a (marksAfter (a .open .head) 0 kept) tip [] [] rows ≡ againQ ids (w .q)
     unfolding againQ committed
     opened-is =
         let st = w .read .store in
-        same-queue (sym (st .head .cursor)) (sym (the-limits (w .read))) (r ∙ ap (λ v. (v + 1) % 2 ^ 64) (sym (st .head .revision))) (sym (st .head .cursor)) (tip-of (w .read) tip t)
-        (sym (st .head .counter)) (ap (map (again ids)) (st .list))
+        same-queue (sym (st .head .cursor)) (sym (the-limits (w .read))) (ap (λ v. (v + 1) % 2 ^ 64) (sym (st .head .revision))) (sym (st .head .cursor)) (tip-of (w .read) tip t)
+        (add-zero (a .open .head .counter .0) ∙ sym (st .head .counter)) (P .are ∙ ap (map (again ids)) (st .list))
 
-    opened-fits : length (queueC .enc (queueOf Lims marksNow tip recsNow)) ≤ need Lims
-    opened-fits = let u = ap (λ v. length (queueC .enc v)) opened-is in let v = ap need (the-limits (w .read)) in let y = w .fits in omega arith
+    pub opened-plan : length tip ≡ 32 → PlanFor s a (marksAfter (a .open .head) 0 kept) tip [] [] rows
+    opened-plan l =
+        let h = w .read .store .head in
+        record {
+          area = area-again;
+          bytes = tt;
+          fit = P .fit;
+          count = P .count ∙ sym (ap length (P .are));
+          small = record { persisted = h .cursorSmall; revision = mod-lt _ (omega arith); cursor = h .cursorSmall; counter = omega (arith, h .counterSmall); count = omega (arith, P .few, h .countSmall) };
+          long = l;
+          fits = let u = ap (λ v. length (queueC .enc v)) opened-is in omega (arith, w .fits, w .read .need);
+        }
 
-    pub opened-room : frontLen + tipSize (a .open .head .tip) + length (encs recC recsNow) ≤ a .need
-    opened-room =
-        let q = queue-long Lims marksNow tip recsNow (shares-sixteen (w .read)) many l in
-        let v = ap need (the-limits (w .read)) in let y = opened-fits in omega (arith, w .read .need)
-
-    pub opened-done : {d d₁ d₂ d₃ : Bytes} {o y y′ to : ℕ} {q′ : Queue} → readArea s ≡ some q′ → a .need ≤ length d → to ≡ frontLen + tipSize (a .open .head .tip)
-        → Put d to (encs recC recsNow) (length (encs recC recsNow)) o d₁ → Put d₁ 0 (frontBytes Lims marksNow tip) (frontLen + tipSize (a .open .head .tip)) y d₂ → Put d₂ o (replicate (a .need - o) 0) (a .need - o) y′ d₃
-        → d₃ ≡ over (areaBytes (againQ ids q′)) d
-    opened-done {d} e g h p1 p2 p3 =
-        area-done Lims marksNow tip recsNow many opened-fits (w .read .need ∙ ap need (the-limits (w .read))) g p1 (recast p2 refl (sym h) refl) p3
-        ∙ ap (λ v. over (areaBytes v) d) (opened-is ∙ ap (againQ ids) (one-queue s (w .is) e))
+    pub opened-done : (d : Bytes) {d′ : Bytes} {q′ : Queue} → readArea s ≡ some q′ → d′ ≡ over (areaBytes (plannedQ s a (marksAfter (a .open .head) 0 kept) tip [] [] rows)) d → d′ ≡ over (areaBytes (againQ ids q′)) d
+    opened-done d e h = h ∙ ap (λ v. over (areaBytes v) d) (opened-is ∙ ap (againQ ids) (one-queue s (w .is) e))
 
 -- ---- the call
 pub reopen-3 : (cur next ids : Bytes) → readArea cur ≡ none → outcome (Refused 3) next [] ≡ reopenOf cur next ids

@@ -25,7 +25,7 @@ use Rattle.queue.specs.paper.Ids.{below?}
 use Rattle.queue.specs.paper.Sound.{holder?, mined?, content, tombstones}
 use Rattle.queue.specs.paper.Changing.{finished, higher, forget, minedHeight, newer?, releases, onePast, placeIn, releaseOne, trimmed}
 use Rattle.queue.specs.declared.rules.Query.the-variants.{Tombstones}
-use Rattle.queue.proofs.FinishLaws.{floors-of, new-none, new-one, zero-leb}
+use Rattle.queue.proofs.FinishLaws.{floors-of, forget-floor, new-none, new-one, zero-leb}
 
 -- ---- the numbers given
 -- what the number of the k-th released counts for, with the numbers after c: nothing at 0; and the sum of n of them
@@ -158,12 +158,6 @@ module _ (c : ℕ) (l : List Rec) (f : Rec → Rec) (ids : List Id) (keeps : Kee
       omega arith
 
 -- ---- forgetting
-filter-low : (keep low : Rec → Bool) (l : List Rec) → All (λ r. holder? r ≡ false → keep r ≡ low r) l → filter (λ r. holder? r || keep r) l ≡ filter (λ r. holder? r || low r) l
-filter-low keep low [] h = refl
-filter-low keep low (r ∷ l) h = let i = filter-low keep low l (h .1) in cases (holder? r)
-    (λ t. rw (t, i))
-    (λ t. rw (t, h .0 t, i))
-
 filter-every : (floor : ℕ) (l : List Rec) → floor ≡ 0 → l ≡ filter (λ y. holder? y || leb floor (y .finish)) l
 filter-every floor [] e = refl
 filter-every floor (r ∷ l) e = let i = filter-every floor l e in
@@ -178,8 +172,7 @@ pub trim-is : (t c floor : ℕ) (l : List Rec) (f : Rec → Rec) (ids : List Id)
     → (ids ≡ [] → floor ≡ 0)
     → ((ids ≡ [] → ⊥) → ((sum Tombstones l + length ids ≤ t) × (floor ≡ 0)) ⊎ ((x : ℕ) → ltb (above c (length ids) l x) t ≡ leb floor x))
     → trimmed t ids (map (releaseOne c ids) (map f l)) ≡ filter (λ y. holder? y || leb floor (y .finish)) (map (releaseOne c ids) (map f l))
-unfolding forget
 trim-is t c floor l f [] k p e h = filter-every floor (map (releaseOne c []) (map f l)) (e refl)
 trim-is t c floor l f (i ∷ ids) k p e h =
-    filter-low (λ y. ltb (higher (y .finish) (after c l f (i ∷ ids) k p)) t) (λ y. leb floor (y .finish)) (after c l f (i ∷ ids) k p)
+    forget-floor t floor (after c l f (i ∷ ids) k p)
     (floors-of c (length (i ∷ ids)) t floor l (after c l f (i ∷ ids) k p) (released-tombs c l f (i ∷ ids) k p) (released-above c l f (i ∷ ids) k p) (h (some-id i ids)))

@@ -26,10 +26,8 @@ use Rattle.queue.specs.Facts.{limitsIn, HeadAs, head-T}
 use Rattle.queue.specs.Opens.{StoreAs, AreaAs}
 use Rattle.queue.specs.Sounds.{Fit, fit-of, Right}
 use Rattle.queue.specs.Fronts.{frontLen, tipOf, tipSize, headWith, Small, frontBytes, queueOf}
-use Rattle.queue.specs.Finishing.{picked, fateOf, stepL, one?, walkL, Floors, above}
-use Rattle.queue.specs.Rules.{sum}
 use Rattle.queue.specs.Shares.{shares-long}
-use Rattle.queue.specs.Writes.{HeadIn, TipIs, MovedFrom, ended, EndedFrom}
+use Rattle.queue.specs.Writes.{HeadIn, TipIs}
 use Rattle.queue.specs.Plain.{bytes-plain, limits-plain}
 use Rattle.queue.specs.paper.Records.{Bytes, Id, Limits, Rec, Queue}
 use Rattle.queue.specs.paper.Lists.{isSome, all?, count}
@@ -40,18 +38,12 @@ use Rattle.queue.specs.paper.Kinds.{newest}
 use Rattle.queue.specs.paper.Changing.{moved, committed, finishThose, forget}
 use Rattle.queue.specs.declared.frame.HeadR.{HeadR}
 use Rattle.queue.specs.declared.frame.Height.{Height}
-use Rattle.queue.specs.declared.frame.Finish.{Finish}
 use Rattle.queue.specs.declared.area.Area.{Area}
 use Rattle.queue.specs.declared.head.Marks.{Marks}
-use Rattle.queue.specs.declared.finish.Change.{Change}
-use Rattle.queue.specs.declared.finish.Fate.{Fate}
-use Rattle.queue.specs.declared.finish.Fate.the-variants.{Drop, Keep, End}
-use Rattle.queue.specs.declared.rules.Query.the-variants.{Tombstones}
 use Rattle.queue.proofs.PutLaws.{recast, kept}
 use Rattle.queue.proofs.ByteLaws.{between}
 use Rattle.queue.proofs.ShareLaws.{sixteen}
 use Rattle.queue.proofs.OpenLaws.{Ranged, ranged}
-use Rattle.queue.proofs.FinishLaws.{forget-walk, floors}
 use Rattle.queue.proofs.FrontLaws.{head-enc, front-enc, area-done}
 
 -- ---- the tip
@@ -99,7 +91,7 @@ module _ (v : Bytes) (x : Head) (h : HeadR) (w : HeadAs v h x) where
       go (some i) e = false-true (sym t ∙ sym (w .tip) ∙ ap isSome e)
 
 -- ---- the records as they stand
-values : {A : Type 0} (𝓐 : Codec A) (n : ℕ) (s : Bytes) (at : ℕ) → whole 𝓐 n s at ≡ true → drop at s ≡ encs 𝓐 (listAt 𝓐 n s at) ++ behind 𝓐 n s at
+pub values : {A : Type 0} (𝓐 : Codec A) (n : ℕ) (s : Bytes) (at : ℕ) → whole 𝓐 n s at ≡ true → drop at s ≡ encs 𝓐 (listAt 𝓐 n s at) ++ behind 𝓐 n s at
 unfolding whole listAt behind
 values {A} 𝓐 n s at w = go (decs 𝓐 n (drop at s)) refl w
   where
@@ -160,7 +152,7 @@ front-long l m tip n h =
 pub queue-long : (l : Limits) (m : Marks) (tip : Id) (recs : List Rec) → length (l .shares) ≡ 16 → m .count ≡ length recs → length tip ≡ 32 → length (queueC .enc (queueOf l m tip recs)) ≡ frontLen + tipSize (m .tip) + length (encs recC recs)
 queue-long l m tip recs n e h = ap length (sym (front-enc l m tip recs e)) ∙ length-append (frontBytes l m tip) (encs recC recs) ∙ ap (λ k. k + length (encs recC recs)) (front-long l m tip n h)
 
--- ---- another cursor
+-- ---- one queue
 abbrev queue : ℕ → Limits → ℕ → ℕ → Option Id → ℕ → List Rec → Queue
 queue p l r c t n f = record { persisted = p; limits = l; revision = r; cursor = c; tip = t; counter = n; recs = f }
 
@@ -169,39 +161,6 @@ same-queue {p} {p′} {r} {r′} {c} {c′} {n} {n′} {l} {l′} {t} {t′} {f}
 
 pub one-queue : (s : Bytes) {q q′ : Queue} → readArea s ≡ some q → readArea s ≡ some q′ → q ≡ q′
 one-queue s e f = cc
-
-module _ {s : Bytes} {a : Area} {q : Queue} (w : AreaAs s a q) (persisted cursor : Height) (has : Bool) (tip : Id) where
-  abbrev pub marksFor : Marks
-  marksFor = record { persisted = persisted; revision = a .open .head .revision; cursor = cursor; tip = has; counter = a .open .head .counter; count = a .open .head .count }
-
-  pub moved-is : queueOf (limitsIn (a .open .head .limits)) marksFor tip (q .recs) ≡ moved (persisted .0) (cursor .0) (tipOf has tip) q
-  unfolding moved
-  moved-is = same-queue refl (sym (the-limits w)) (sym (w .store .head .revision)) refl refl (sym (w .store .head .counter)) refl
-
-  pub moved-small : persisted .0 < 4294967296 → cursor .0 < 4294967296 → Small marksFor
-  moved-small h k = record { persisted = h; revision = w .store .head .revisionSmall; cursor = k; counter = w .store .head .counterSmall; count = w .store .head .countSmall }
-
-  -- room for the records behind the front
-  pub moved-room : length tip ≡ 32 → length (queueC .enc (moved (persisted .0) (cursor .0) (tipOf has tip) q)) ≤ need (q .limits) → frontLen + tipSize has + (a .open .next - a .open .start) ≤ a .need
-  moved-room h f =
-      let l = queue-long (limitsIn (a .open .head .limits)) marksFor tip (q .recs) (shares-sixteen w) (sym (w .store .count)) h in
-      let e = ap (λ y. length (queueC .enc y)) moved-is in
-      let r = recs-here w .1 in omega (arith, w .need)
-
-  pub moved-done : {d d₁ d₂ d₃ : Bytes} {o r r′ to : ℕ} {q′ : Queue} → readArea s ≡ some q → readArea s ≡ some q′ → length (queueC .enc (moved (persisted .0) (cursor .0) (tipOf has tip) q)) ≤ need (q .limits) → a .need ≤ length d
-      → to ≡ frontLen + tipSize has
-      → Put d to (take (a .open .next - a .open .start) (drop (a .open .start) s)) (a .open .next - a .open .start) o d₁
-      → Put d₁ 0 (frontBytes (limitsIn (a .open .head .limits)) marksFor tip) (frontLen + tipSize has) r d₂ → Put d₂ o (replicate (a .need - o) 0) (a .need - o) r′ d₃
-      → d₃ ≡ over (areaBytes (moved (persisted .0) (cursor .0) (tipOf has tip) q′)) d
-  moved-done {d} {d₁} {d₂} {d₃} {o} {r} {r′} {to} e1 e2 f g t x y z =
-      let L = limitsIn (a .open .head .limits) in
-      let x′ = recast x (recs-here w .0) (sym (recs-here w .1)) refl in
-      let y′ = recast y refl (sym t) refl in
-      let n : a .need ≡ need (limitsIn (a .open .head .limits)) = w .need ∙ ap need (the-limits w) in
-      let fit′ : length (queueC .enc (queueOf (limitsIn (a .open .head .limits)) marksFor tip (q .recs))) ≤ need (limitsIn (a .open .head .limits)) =
-      let u = ap (λ v. length (queueC .enc v)) moved-is in let v = ap need (the-limits w) in omega arith in
-      area-done (limitsIn (a .open .head .limits)) marksFor tip (q .recs) (sym (w .store .count)) fit′ n g x′ y′ z
-      ∙ ap (λ v. over (areaBytes v) d) (moved-is ∙ ap (moved (persisted .0) (cursor .0) (tipOf has tip)) (one-queue s e1 e2))
 
 -- ---- what the floor asks
 all-stamps : (K c : ℕ) (l : List Rec) → All (Right K c) l → All (λ r. holder? r ≡ false → r .finish ≤ c) l
@@ -216,76 +175,3 @@ floor-needs {s} {a} {q} w g h k =
     let f = fit w in
     let t = head-T (st .head) in
     (omega (arith, st .up, st .ends), st .all, st .head .countSmall, h, k, omega (arith, f .sound .range .T-low), st .head .fit .t, rw (st .list, ← (st .head .counter)) (all-stamps _ _ (q .recs) (f .sound .right)), rw (st .list) (omega (arith, f .sound .fewTombs, f .sound .range .T-high)))
-
--- ---- finished and forgotten
-module _ {s : Bytes} {a : Area} {c : Change} {id : Id} {state reason m : ℕ} (w : EndedFrom s a c id state reason m) where
-  abbrev pub list : List Rec
-  list = listAt (formC false recC) (a .open .head .count) s (a .open .start)
-
-  pub floor-asks : (a .open .start ≤ length s) × (whole (formC false recC) (a .open .head .count) s (a .open .start) ≡ true) × (a .open .head .count < 4294967296) × (m ≤ a .open .head .count) × (a .open .head .counter .0 + m < 18446744073709551616) × (0 < a .open .head .limits .t) × (a .open .head .limits .t < 4294967296)
-      × All (λ r. holder? r ≡ false → r .finish ≤ a .open .head .counter .0) (listAt (formC false recC) (a .open .head .count) s (a .open .start)) × (tombstones (listAt (formC false recC) (a .open .head .count) s (a .open .start)) ≤ 1024)
-  floor-asks = floor-needs (w .read) m (w .few) (w .room)
-
-  abbrev pub Limit : Limits
-  Limit = limitsIn (a .open .head .limits)
-
-  abbrev pub FloorIs : ℕ → Type 0
-  FloorIs f = ((sum Tombstones (listAt (formC false recC) (a .open .head .count) s (a .open .start)) + m ≤ a .open .head .limits .t) × (f ≡ 0)) ⊎ ((x : ℕ) → ltb (above (a .open .head .counter .0) m (listAt (formC false recC) (a .open .head .count) s (a .open .start)) x) (a .open .head .limits .t) ≡ leb f x)
-
-  abbrev pub walk : ℕ → List Rec
-  walk f = walkL (picked c id) state reason f (a .open .head .counter .0) (listAt (formC false recC) (a .open .head .count) s (a .open .start))
-
-  pub ended-walk : {f : ℕ} → FloorIs f → forget (w .q .limits .T) (finishThose (picked c id) state reason (w .q .counter) (w .q .recs)) ≡ walk f
-  ended-walk {f} x =
-      let st = w .read .store in
-      let t : w .q .limits .T ≡ a .open .head .limits .t = head-T (st .head) in
-      let n : w .q .counter ≡ a .open .head .counter .0 = st .head .counter in
-      let k : All (λ r. picked c id r ≡ true → holder? r ≡ true) (listAt (formC false recC) (a .open .head .count) s (a .open .start)) = rw (st .list) (w .picks) in
-      rw (t, n, ← (st .list)) (forget-walk (picked c id) state reason (a .open .head .counter .0) (a .open .head .limits .t) f (listAt (formC false recC) (a .open .head .count) s (a .open .start))
-      (floors (picked c id) state reason (a .open .head .counter .0) (a .open .head .limits .t) f (listAt (formC false recC) (a .open .head .count) s (a .open .start)) k (rw (w .hits) at x)))
-
-  module _ (tip : Id) {f revision many : ℕ} (x : FloorIs f) (r : revision ≡ (a .open .head .revision + 1) % 2 ^ 64) (t : TipIs s (a .open .head) tip) (n : many ≡ length (walk f)) (l : length tip ≡ 32) where
-    abbrev pub marksNext : Marks
-    marksNext = record { persisted = a .open .head .cursor; revision = revision; cursor = a .open .head .cursor; tip = a .open .head .tip; counter = record { 0 = a .open .head .counter .0 + m }; count = many }
-
-    ended-is : queueOf Limit marksNext tip (walk f) ≡ ended (picked c id) state reason (w .q)
-    unfolding ended committed
-    ended-is =
-        let st = w .read .store in
-        same-queue (sym (st .head .cursor)) (sym (the-limits (w .read))) (r ∙ ap (λ v. (v + 1) % 2 ^ 64) (sym (st .head .revision))) (sym (st .head .cursor)) (tip-of (w .read) tip t)
-        (ap (λ v. v + m) (sym (st .head .counter)) ∙ ap (λ v. w .q .counter + v) (w .hits ∙ ap (count (picked c id)) (st .list))) (sym (ended-walk x))
-
-    fits′ : length (queueC .enc (queueOf Limit marksNext tip (walk f))) ≤ need Limit
-    fits′ = let u = ap (λ v. length (queueC .enc v)) ended-is in let v = ap need (the-limits (w .read)) in let y = w .fits in omega arith
-
-    pub ended-room : frontLen + tipSize (a .open .head .tip) + length (encs recC (walk f)) ≤ a .need
-    ended-room =
-        let q = queue-long Limit marksNext tip (walk f) (shares-sixteen (w .read)) n l in
-        let v = ap need (the-limits (w .read)) in let y = fits′ in omega (arith, w .read .need)
-
-    pub ended-done : {d d₁ d₂ d₃ : Bytes} {o y y′ to : ℕ} {q′ : Queue} → readArea s ≡ some q′ → a .need ≤ length d → to ≡ frontLen + tipSize (a .open .head .tip)
-        → Put d to (encs recC (walk f)) (length (encs recC (walk f))) o d₁ → Put d₁ 0 (frontBytes Limit marksNext tip) (frontLen + tipSize (a .open .head .tip)) y d₂ → Put d₂ o (replicate (a .need - o) 0) (a .need - o) y′ d₃
-        → d₃ ≡ over (areaBytes (ended (picked c id) state reason q′)) d
-    ended-done {d} e g h p1 p2 p3 =
-        area-done Limit marksNext tip (walk f) n fits′ (w .read .need ∙ ap need (the-limits (w .read))) g p1 (recast p2 refl (sym h) refl) p3
-        ∙ ap (λ v. over (areaBytes v) d) (ended-is ∙ ap (ended (picked c id) state reason) (one-queue s (w .is) e))
-
--- the walk writes no more records than there are
-step-short : (t : Fate) (r : Rec) → length (stepL t r) ≤ 1
-unfolding stepL
-step-short Drop r = omega arith
-step-short Keep r = omega arith
-step-short (End a b n) r = omega arith
-
-pub walk-short : (p : Rec → Bool) (state reason floor num : ℕ) (l : List Rec) → length (walkL p state reason floor num l) ≤ length l
-unfolding walkL
-walk-short p state reason floor num [] = omega arith
-walk-short p state reason floor num (r ∷ l) =
-    let a = walk-short p state reason floor (num + one? (p r)) l in
-    let b = step-short (fateOf (p r) state reason num floor (holder? r) (r .finish)) r in
-    omega (arith, length-append (stepL (fateOf (p r) state reason num floor (holder? r) (r .finish)) r) (walkL p state reason floor (num + one? (p r)) l))
-
-pub ended-few : {s : Bytes} {a : Area} {c : Change} {id : Id} {state reason m : ℕ} (w : EndedFrom s a c id state reason m) (f : ℕ) → length (walk w f) < 4294967296
-ended-few {s} {a} {c} {id} {state} {reason} w f =
-    let st = w .read .store in
-    omega (arith, walk-short (picked c id) state reason f (a .open .head .counter .0) (listAt (formC false recC) (a .open .head .count) s (a .open .start)), ap length (st .list), st .count, st .head .countSmall)

@@ -22,6 +22,7 @@ pub mod Numbers
 pub mod Sums
 pub mod Opens
 pub mod Plain
+pub mod Plans
 pub mod Order
 pub mod Shares
 pub mod Sounds

@@ -19,6 +19,7 @@ use Rattle.queue.specs.Opens.{AreaAs}
 use Rattle.queue.specs.Reopens.{IdsRise, idsAt}
 use Rattle.queue.specs.Arguments.{Small}
 use Rattle.queue.specs.Reconciles.{Reconcilable}
+use Rattle.queue.specs.Plans.{Planned}
 use Rattle.queue.specs.SelectAs.{idAt}
 use Rattle.queue.specs.Touching.{appliedIn, EntriesRise, JudgedAt}
 use Rattle.queue.specs.paper.Records.{Bytes, Id, Queue}
@@ -86,6 +87,10 @@ CursorTold s height tip r d d′ = (q : Queue) → readArea s ≡ some q → (r 
 
 abbrev pub WholeTo : Bytes → Reconciling → Bytes → Bytes → Type 0
 WholeTo s c d d′ = (q : Queue) → readArea s ≡ some q → d′ ≡ over (areaBytes (wholeQ c q)) d
+
+-- the rows for it
+abbrev pub WholePlan : Bytes → Area → Reconciling → Bytes → List ℕ → List ℕ → ℕ → Type 0
+WholePlan s a c t vs rows kept = (q : Queue) → readArea s ≡ some q → Planned s a t vs rows (wholeQ c q .recs) kept
 
 -- the floor's contract, where any is released
 abbrev pub FloorFor : Bytes → Area → ℕ → ℕ → Type 0

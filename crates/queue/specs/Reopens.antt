@@ -48,37 +48,6 @@ again ids r = cond (listed? ids r) (reopened r) r
 unfoldable pub againQ : List Id → Queue → Queue
 againQ ids q = committed (q .cursor) (q .tip) (q .counter) (map (again ids) (q .recs)) q
 
--- the state and the reason that a record gets
-unfoldable pub stateF : Facts → ℕ
-stateF f = cond (eqb (f .mark) 0) (cond (f .holder) 0 5) (cond (eqb (f .mark) 4) 4 5)
-
-unfoldable pub reasonF : Facts → ℕ
-reasonF f = cond (eqb (f .mark) 0) (cond (f .holder) 4 3) (cond (eqb (f .mark) 4) 1 (cond (eqb (f .mark) 5) 2 3))
-
--- a record's bytes up to its terms
-unfoldable pub leadBytes : Id → ℕ → ℕ → ℕ → Bytes
-leadBytes id caller state reason = ((((2 ∷ []) ++ id) ++ be 1 caller) ++ be 1 state) ++ be 1 reason
-
--- the bytes of a record that was read at base, reopened; and of what becomes of it
-unfoldable pub reopenedBytes : Bytes → ℕ → Seen → Bytes
-reopenedBytes s base x =
-    ((leadBytes (x .id) (x .facts .caller) (stateF (x .facts)) (reasonF (x .facts)) ++ take (x .after - termsAt) (drop (base + termsAt) s)) ++ be 2 0)
-    ++ take (x .size - (x .mark + 1)) (drop (base + (x .mark + 1)) s)
-
-abbrev pub reopenedLen : Seen → ℕ
-reopenedLen x = x .after + 2 + (x .size - (x .mark + 1))
-
-unfoldable pub againBytes : Bytes → ℕ → Seen → Bool → Bytes
-againBytes s base x hit = cond hit (reopenedBytes s base x) (take (x .size) (drop base s))
-
--- the parts of a record that was read stand in their order, and in s
-pub record PartsIn (s : Bytes) (base : ℕ) (x : Seen) : Type 0 where
-  pub id : length (x .id) ≡ 32
-  pub up : termsAt ≤ x .after
-  pub upPlace : x .after ≤ x .mark
-  pub upBody : x .mark + 10 ≤ x .size
-  pub within : base + x .size ≤ length s
-
 -- a was read from s, and the queue fits once the listed are reopened
 pub record AgainFrom (s : Bytes) (a : Area) (ids : List Id) : Type 0 where
   pub q : Queue

@@ -199,7 +199,7 @@ fn cancel_held(
     if out.len() < x.mark + 3 {
         return Answer::Refused(refusal::OUTPUT_TOO_SHORT);
     }
-    put_ended(cur, a, Change::Named, id, 4, 1, m, next);
+    put_ended(cur, a, Change::Named, id, m, next);
     put_end(cur, at, x, 4, 1, out);
     Answer::Done(Kind::Whole)
 }
@@ -273,7 +273,7 @@ fn expire_found(
         put_be(out, 0, 4, 0);
         return Answer::Done(Kind::Nothing);
     }
-    put_ended(cur, a, Change::Due(time, height), none, 5, 2, m, next);
+    put_ended(cur, a, Change::Due(time, height), none, m, next);
     let e = put_be(out, 0, 4, m);
     put_ids(
         cur,

@@ -20,6 +20,7 @@ pub mod numbers;
 pub mod own;
 pub mod parents;
 pub mod pieces;
+pub mod plan;
 pub mod put;
 pub mod reading;
 pub mod reads;

@@ -7,17 +7,14 @@ use super::block::Block;
 use super::finish::floor;
 use super::frame::Finish;
 use super::frame::Height;
-use super::head::FRONT;
 use super::head::Marks;
-use super::head::put_front;
-use super::head::tip_len;
 use super::lent::reconcile_asks;
 use super::logic::either;
-use super::put::fill_zero;
+use super::plan::Plan;
 use super::put::put_be;
 use super::put::put_u8;
 use super::rebuild::order_ranks;
-use super::rebuild::put_all;
+use super::rebuild::plan_judged;
 use super::refusal;
 use super::release::Walked;
 use super::release::gather_mined;
@@ -28,6 +25,7 @@ use super::touch::any_touched;
 use super::verdicts::judge;
 use super::view::id_at;
 use super::write::put_moved;
+use super::write::put_planned;
 ghost use mathlib.Core.Path.{_≡_};
 ghost use mathlib.Core.Bool.{true, false};
 ghost use mathlib.Core.List.{[], _∷_};
@@ -41,7 +39,7 @@ ghost use Rattle.queue.specs.Opens.{limits};
 ghost use Rattle.queue.specs.SelectAs.{rows, Even, ahead?};
 ghost use Rattle.queue.specs.Releasing.{StandsAt, walkR};
 ghost use Rattle.queue.specs.CallsAs.{AreaIn};
-ghost use Rattle.queue.specs.Reconciling.{asked, LentTo, JudgedIn, GoneAre, DecidedAre, ChangedIs, WholeTo, goneBytes, FloorFor, CursorTold, ReconcileTold};
+ghost use Rattle.queue.specs.Reconciling.{asked, LentTo, JudgedIn, GoneAre, DecidedAre, ChangedIs, WholePlan, WholeTo, goneBytes, FloorFor, CursorTold, ReconcileTold};
 ghost use Rattle.queue.specs.paper.Lists.{one, sort};
 ghost use Rattle.queue.specs.paper.Changing.{topHeight};
 ghost use Rattle.queue.specs.Checked.{outcome, reconcileOf};
@@ -115,7 +113,28 @@ fn floor_for(s: &[u8], a: Area, g: u64) -> Finish
     Finish(floor(s, o.start, h.count, n.0, g, l.t))
 }
 
-// The queue of src after its reconciliation, with the records at the places gone released; rows has room for their ranks.
+// The rows for it: with the records at the places gone released; ranks has room for their ranks.
+fn plan_whole(
+    s: &[u8],
+    a: Area,
+    b: Block,
+    t: &[u8],
+    ids: &[u8],
+    vs: &[u64],
+    gone: &[usize],
+    ranks: &mut [u64],
+    rows: &mut [u64],
+) -> Plan
+    requires { ⌜ AreaIn (now s) a × LentTo b (now t) (now ids) × JudgedIn (now s) a b (now t) (now ids) (now vs) × GoneAre (now s) (asked b (now t) (now ids)) (now gone) × (a .open .head .counter .0 + length (now gone) < 18446744073709551616) × (length (now rows) ≡ 3072) ⌝ }
+    ensures { λ r. ⌜ WholePlan (now (s .entry)) a (asked b (now (t .entry)) (now (ids .entry))) (now (t .entry)) (now (vs .entry)) (take (r .rows) (now (rows .exit))) (r .kept) × (r .rows ≤ 3072) ⌝ }
+{
+    let g = gone.len() as u64;
+    let f = floor_for(s, a, g);
+    let ordered = order_ranks(s, gone, ranks);
+    plan_judged(s, a, t, vs, gone, ranks, ordered, f, rows)
+}
+
+// The queue of src after its reconciliation.
 fn put_whole(
     src: &[u8],
     a: Area,
@@ -124,7 +143,7 @@ fn put_whole(
     ids: &[u8],
     vs: &[u64],
     gone: &[usize],
-    rows: &mut [u64],
+    ranks: &mut [u64],
     dst: &mut [u8],
 )
     requires { ⌜ AreaIn (now src) a × LentTo b (now t) (now ids) × JudgedIn (now src) a b (now t) (now ids) (now vs) × GoneAre (now src) (asked b (now t) (now ids)) (now gone) × (a .open .head .counter .0 + length (now gone) < 18446744073709551616) × ChangedIs (now src) (asked b (now t) (now ids)) true × (a .need ≤ length (now dst)) ⌝ }
@@ -136,21 +155,17 @@ fn put_whole(
     let g = gone.len() as u64;
     let height = b.height;
     let tip = b.tip;
-    let to = FRONT + tip_len(true);
-    let f = floor_for(src, a, g);
-    let ordered = order_ranks(src, gone, rows);
-    let w = put_all(src, a, t, vs, gone, rows, ordered, f, dst, to);
+    let mut rows = [0u64; 3072];
+    let p = plan_whole(src, a, b, t, ids, vs, gone, ranks, &mut rows);
     let marks = Marks {
         persisted: height,
         revision: std::num::wrapping_add_u64(h.revision, 1),
         cursor: height,
         tip: true,
         counter: Finish(n.0 + g),
-        count: w.kept,
+        count: p.kept,
     };
-    let l = h.limits;
-    put_front(l, marks, tip, dst);
-    fill_zero(dst, w.at, a.need);
+    put_planned(src, a, marks, tip, t, vs, &rows[..p.rows], dst);
 }
 
 // The answer: whether anything changed, and the ids of the released.

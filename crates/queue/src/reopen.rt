@@ -3,40 +3,33 @@ use super::Answer;
 use super::Kind;
 use super::area::Area;
 use super::area::area_at;
-use super::frame::Facts;
 use super::frame::Seen;
-use super::frame::TERMS;
 use super::frame::id_read;
 use super::frame::rec_at;
-use super::head::FRONT;
-use super::head::Marks;
-use super::head::put_front;
-use super::head::tip_len;
-use super::put::copy_part;
-use super::put::fill_zero;
-use super::put::put_be;
-use super::put::put_id;
-use super::put::put_u8;
-use super::reason;
+use super::plan::Plan;
+use super::plan::Row;
+use super::plan::add_row;
 use super::refusal;
 use super::state;
+use super::verdict;
 use super::view::cmp_id;
 use super::view::id_at;
 use super::view::size;
+use super::write::marks_next;
+use super::write::put_plain;
 use super::write::tip_at;
 ghost use mathlib.Core.Path.{_≡_};
-ghost use mathlib.Core.Bool.{true, false};
+ghost use mathlib.Core.Bool.{true, false, cond};
 ghost use mathlib.Core.List.{[]};
 ghost use Prim.Native.Nat.{_+_, _≤_};
-ghost use lib.ListN.{length};
-ghost use Rattle.queue.specs.Facts.{termsAt};
-ghost use Rattle.queue.specs.Codec.{encs};
-ghost use Rattle.queue.specs.Splice.{Put};
+ghost use lib.ListN.{length, take};
 ghost use Rattle.queue.specs.Frames.{recC};
 ghost use Rattle.queue.specs.Reads.{whole, listAt};
 ghost use Rattle.queue.specs.Forms.{formC};
 ghost use Rattle.queue.specs.CallsAs.{AreaIn};
-ghost use Rattle.queue.specs.Reopens.{IdsIn, IdsRise, idsAt, listedS, again, stateF, reasonF, leadBytes, reopenedBytes, reopenedLen, againBytes, PartsIn, AgainFrom, AgainTo, ReopenTold};
+ghost use Rattle.queue.specs.Reopens.{IdsIn, IdsRise, idsAt, listedS, again, AgainFrom, AgainTo, ReopenTold};
+ghost use Rattle.queue.specs.Plans.{Planned};
+ghost use Rattle.queue.specs.Spots.{recsIn};
 ghost use Rattle.queue.specs.paper.Ids.{rise?};
 ghost use Rattle.queue.specs.paper.Lists.{any?, map};
 ghost use Rattle.queue.specs.paper.Changing.{listed?};
@@ -122,110 +115,46 @@ fn any_listed(s: &[u8], at: usize, n: u64, ids: &[u8], k: u64) -> bool
     false
 }
 
-fn state_again(f: Facts) -> u64
-    ensures { λ r. ⌜ r ≡ stateF f ⌝ }
-{
-    if f.mark == 0 {
-        if f.holder {
-            return state::QUEUED;
-        }
-        return state::EXPIRED;
-    }
-    if f.mark == state::CANCELLED {
-        state::CANCELLED
-    } else {
-        state::EXPIRED
-    }
-}
-
-fn reason_again(f: Facts) -> u64
-    ensures { λ r. ⌜ r ≡ reasonF f ⌝ }
-{
-    if f.mark == 0 {
-        if f.holder {
-            return reason::ROLLED_BACK;
-        }
-        return reason::ROLLED_BACK_AFTER_RELEASE;
-    }
-    if f.mark == state::CANCELLED {
-        return reason::CANCELLED;
-    }
-    if f.mark == state::EXPIRED {
-        reason::DEADLINE_ELAPSED
-    } else {
-        reason::ROLLED_BACK_AFTER_RELEASE
-    }
-}
-
-// A record's bytes up to its terms.
-pub fn put_lead(
-    id: [u8; 32],
-    caller: u64,
-    state: u64,
-    reason: u64,
-    dst: &mut [u8],
-    at: usize,
-) -> usize
-    requires { ⌜ at + termsAt ≤ length (now dst) ⌝ }
-    ensures { λ r. ⌜ Put (now (dst .entry)) at (leadBytes id caller state reason) termsAt r (now (dst .exit)) ⌝ }
-{
-    let a = put_u8(dst, at, 2);
-    let b = put_id(dst, a, id);
-    let c = put_be(dst, b, 1, caller);
-    let d = put_be(dst, c, 1, state);
-    put_be(dst, d, 1, reason)
-}
-
-// The record read at base, without place and mark.
-fn put_reopened(src: &[u8], base: usize, x: Seen, dst: &mut [u8], at: usize) -> usize
-    requires { ⌜ PartsIn (now src) base x × (at + reopenedLen x ≤ length (now dst)) ⌝ }
-    ensures { λ r. ⌜ Put (now (dst .entry)) at (reopenedBytes (now (src .entry)) base x) (reopenedLen x) r (now (dst .exit)) ⌝ }
-{
-    let f = x.facts;
-    let id = x.id;
-    let p = x.after;
-    let m = x.mark + 1;
-    let a = put_lead(id, f.caller, state_again(f), reason_again(f), dst, at);
-    let b = copy_part(src, base + TERMS, p - TERMS, dst, a);
-    let c = put_be(dst, b, 2, 0);
-    copy_part(src, base + m, x.size - m, dst, c)
-}
-
-fn put_again(src: &[u8], base: usize, x: Seen, hit: bool, dst: &mut [u8], at: usize) -> usize
-    requires { ⌜ PartsIn (now src) base x × (at + length (againBytes (now src) base x hit) ≤ length (now dst)) ⌝ }
-    ensures { λ r. ⌜ Put (now (dst .entry)) at (againBytes (now (src .entry)) base x hit) (length (againBytes (now (src .entry)) base x hit)) r (now (dst .exit)) ⌝ }
+// What becomes of a record that is listed, and of one that is not.
+fn opens_as(hit: bool) -> u64
+    ensures { λ r. ⌜ r ≡ cond hit 4 0 ⌝ }
 {
     if hit {
-        return put_reopened(src, base, x, dst, at);
+        return verdict::REOPENED;
     }
-    let n = x.size;
-    copy_part(src, base, n, dst, at)
+    verdict::STAYS
 }
 
-// n records from `at` of src, those listed reopened, to place `to` of dst.
-fn put_records(
-    src: &[u8],
-    at: usize,
-    n: u64,
-    ids: &[u8],
-    k: u64,
-    dst: &mut [u8],
-    to: usize,
-) -> usize
-    requires { ⌜ (at ≤ length (now src)) × (whole (formC false recC) n (now src) at ≡ true) × IdsRise (now ids) k × (to + length (encs recC (map (again (idsAt (now ids) k)) (listAt (formC false recC) n (now src) at))) ≤ length (now dst)) ⌝ }
-    ensures { λ r. ⌜ Put (now (dst .entry)) to (encs recC (map (again (idsAt (now (ids .entry)) k)) (listAt (formC false recC) n (now (src .entry)) at))) (length (encs recC (map (again (idsAt (now (ids .entry)) k)) (listAt (formC false recC) n (now (src .entry)) at)))) r (now (dst .exit)) ⌝ }
+// Rows for those listed.
+fn plan_listed(s: &[u8], a: Area, ids: &[u8], k: u64, rows: &mut [u64]) -> Plan
+    requires { ⌜ AreaIn (now s) a × IdsRise (now ids) k × (length (now rows) ≡ 3072) ⌝ }
+    ensures { λ r. ⌜ Planned (now (s .entry)) a [] [] (take (r .rows) (now (rows .exit))) (map (again (idsAt (now (ids .entry)) k)) (recsIn (now (s .entry)) a)) (r .kept) × (r .rows ≤ 3072) ⌝ }
 {
-    let mut i = at;
-    let mut left = n;
-    let mut o = to;
+    let p = a.open;
+    let h = p.head;
+    let mut i = p.start;
+    let mut left = h.count;
+    let mut c: usize = 0;
     while 0 < left {
-        let x = rec_at(src, i);
+        let x = rec_at(s, i);
         let hit = listed(ids, k, x);
-        o = put_again(src, i, x, hit, dst, o);
+        c = add_row(
+            rows,
+            c,
+            Row {
+                place: i,
+                index: 0,
+                rank: 0,
+                what: opens_as(hit),
+            },
+        );
         i = i + x.size;
         left = left - 1;
     }
-    o
+    Plan {
+        rows: c,
+        kept: h.count,
+    }
 }
 
 // The queue of src with those listed reopened.
@@ -235,22 +164,11 @@ fn put_opened(src: &[u8], a: Area, ids: &[u8], k: u64, dst: &mut [u8])
 {
     let x = a.open;
     let h = x.head;
-    let n = h.counter;
-    let cursor = h.cursor;
     let tip = tip_at(src, h);
-    let to = FRONT + tip_len(h.tip);
-    let e = put_records(src, x.start, h.count, ids, k, dst, to);
-    let marks = Marks {
-        persisted: cursor,
-        revision: std::num::wrapping_add_u64(h.revision, 1),
-        cursor: cursor,
-        tip: h.tip,
-        counter: n,
-        count: h.count,
-    };
-    let l = h.limits;
-    put_front(l, marks, tip, dst);
-    fill_zero(dst, e, a.need);
+    let mut rows = [0u64; 3072];
+    let p = plan_listed(src, a, ids, k, &mut rows);
+    let marks = marks_next(h, 0, p.kept);
+    put_plain(src, a, marks, tip, &rows[..p.rows], dst);
 }
 
 // No Mined id is kind 0.

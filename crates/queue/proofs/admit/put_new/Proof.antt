@@ -9,7 +9,7 @@ use Rattle.queue.proofs.admit.put_new.Lts as lts
 use Rattle.queue.proofs.admit.put_held.Reads as put-held-reads
 use Rattle.queue.proofs.admit.put_terms.Reads as put-terms-reads
 use Rattle.queue.proofs.put.fill_zero.Reads as fill-zero-reads
-use Rattle.queue.proofs.reopen.put_lead.Reads as put-lead-reads
+use Rattle.queue.proofs.write.put_lead.Reads as put-lead-reads
 
 put-lead-requires : tie.Need-put-lead-requires
 put-lead-requires c κs = search needs
