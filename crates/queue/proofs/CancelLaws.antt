@@ -48,7 +48,7 @@ use Rattle.queue.proofs.FrameLaws.{caller-byte}
 use Rattle.queue.proofs.Turns.{SeenIn, ReadsRec}
 use Rattle.queue.proofs.PutLaws.{over-splice}
 use Rattle.queue.proofs.ByteLaws.{be-same, between}
-use Rattle.queue.proofs.FinishLaws.{byte-one, id-32}
+use Rattle.queue.proofs.FinishLaws.{id-32}
 use Rattle.queue.proofs.WriteLaws.{fit, one-queue}
 use Rattle.queue.proofs.ReadingLaws.{key, met, entry-in, entry-is, entry-size}
 
@@ -171,7 +171,7 @@ module _ {s : Bytes} {a : Area} {id : Id} {at : ℕ} {x : Seen} (w : HeldIn s a 
       rejoin : (i c a b t p n m : Bytes) → ((((i ++ c) ++ a) ++ b) ++ (t ++ p)) ++ (n ++ m) ≡ i ++ (c ++ (a ++ (b ++ (t ++ (p ++ ((n ++ []) ++ (m ++ [])))))))
       rejoin i c a b t p n m = simp (append-assoc, append-nil)
 
-  end-is : (n : ℕ) → endBytes s at x 4 1 ≡ entryBytes (finished 4 1 n (w .r))
+  end-is : (n : ℕ) → endBytes s at x ≡ entryBytes (finished 4 1 n (w .r))
   unfolding endBytes
   end-is n = rw (w .seen .0 .id, caller-byte (w .seen .0), middle .0, be-same 4 0 (omega arith)) (end-shape n)
 
@@ -241,7 +241,7 @@ module _ {s : Bytes} {a : Area} {id : Id} {at : ℕ} {x : Seen} (w : HeldIn s a 
       held-4 next out k q e =
           rw (← (one-queue s (w .is) e), cancels room, lt-ltb (length out) (length (entryBytes (finished 4 1 (w .q .counter + 1) (w .r)))) (omega (arith, end-long (w .q .counter + 1))))
 
-      pub held-102 : (next out : Bytes) {next′ out′ : Bytes} {r : ℕ} → x .mark + 3 ≤ length out → EndedTo s a Named id next next′ → Put out 0 (endBytes s at x 4 1) (x .mark + 3) r out′ → CancelTold s id (outcome (Done Whole) next′ out′) next out
+      pub held-102 : (next out : Bytes) {next′ out′ : Bytes} {r : ℕ} → x .mark + 3 ≤ length out → EndedTo s a Named id next next′ → Put out 0 (endBytes s at x) (x .mark + 3) r out′ → CancelTold s id (outcome (Done Whole) next′ out′) next out
       unfolding picked
       held-102 next out {next′} {out′} k t p q e =
           let n = w .q .counter + 1 in

@@ -176,12 +176,6 @@ module _ (c : Change) (id : Id) {s : Bytes} {n at i left acc : ℕ} (x : Scan (f
   hits-end z = let e = end x z in omega arith
 
 -- ---- bytes
-div-one : (v : ℕ) → v / 1 ≡ v
-div-one v = omega arith
-
-pub byte-one : (v : ℕ) → codec.be 1 v ≡ v ∷ []
-byte-one v = ap (λ (z : ℕ). z ∷ []) (div-one v)
-
 pub cut-one : (v x y : Bytes) (k : ℕ) → drop k v ≡ x ++ y → length x ≡ 1 → drop (k + 1) v ≡ y
 cut-one v x y k e h = sym (drop-drop 1 k v) ∙ ap (drop 1) e ∙ drop-at x y 1 h
 

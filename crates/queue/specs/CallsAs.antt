@@ -25,9 +25,9 @@ use Rattle.queue.specs.declared.frame.Seen.{Seen}
 use Rattle.queue.specs.declared.area.Area.{Area}
 use Rattle.queue.specs.declared.finish.Change.{Change}
 
--- the entry of a record once it is finished, as it is written
-unfoldable pub endBytes : Bytes → ℕ → Seen → ℕ → ℕ → Bytes
-endBytes s base x state reason = ((((x .id ++ be 1 (x .facts .caller)) ++ (state ∷ [])) ++ (reason ∷ [])) ++ take (x .mark - termsAt) (drop (base + termsAt) s)) ++ be 4 0
+-- the entry of a record once it is cancelled, as it is written
+unfoldable pub endBytes : Bytes → ℕ → Seen → Bytes
+endBytes s base x = ((((x .id ++ be 1 (x .facts .caller)) ++ be 1 4) ++ be 1 1) ++ take (x .mark - termsAt) (drop (base + termsAt) s)) ++ be 4 0
 
 abbrev pub idIf : Bool → Id → Bytes
 idIf hit id = cond hit id []

@@ -25,6 +25,7 @@ use super::reading::Spot;
 use super::reading::entry_len;
 use super::reading::find_spot;
 use super::reading::put_entry;
+use super::reason;
 use super::refusal;
 use super::rules::Query;
 use super::rules::height_reached;
@@ -165,7 +166,7 @@ fn put_new(
     ensures { λ r. ⌜ Put (now (dst .entry)) at (recC .enc (newOf x (x .id) (now (inputs .entry)) (now (outputs .entry)) (now (reads .entry)) (now (bytes .entry)) (now (label .entry)))) (newLen x (now (inputs .entry)) (now (outputs .entry)) (now (reads .entry)) (now (bytes .entry)) (now (label .entry))) r (now (dst .exit)) ⌝ }
 {
     let id = x.id;
-    let a = put_lead(id, x.caller, 0, 0, dst, at);
+    let a = put_lead(id, x.caller, state::QUEUED, reason::NONE, dst, at);
     let b = put_terms(x, label, bytes.len() as u64, dst, a);
     let c = fill_zero(dst, b, b + 10);
     put_held(inputs, outputs, reads, bytes, dst, c)

@@ -16,10 +16,10 @@ use super::logic::either;
 use super::put::copy_part;
 use super::put::put_be;
 use super::put::put_id;
-use super::put::put_u8;
 use super::reading::entry_len;
 use super::reading::find_id;
 use super::reading::put_entry;
+use super::reason;
 use super::refusal;
 use super::state;
 use super::view::id_at;
@@ -108,18 +108,18 @@ fn settle_shape(kind: u64, outcome: u64) -> bool
     both(either(kind == 2, kind == 3), outcome <= 1)
 }
 
-// The entry of the record read at base once it is finished: it has no inputs any more.
-fn put_end(src: &[u8], base: usize, x: Seen, state: u8, reason: u8, dst: &mut [u8]) -> usize
+// The entry of the record read at base once it is cancelled: it has no inputs any more.
+fn put_end(src: &[u8], base: usize, x: Seen, dst: &mut [u8]) -> usize
     requires { ⌜ (termsAt ≤ x .mark) × (base + x .mark ≤ length (now src)) × (x .mark + 3 ≤ length (now dst)) ⌝ }
-    ensures { λ r. ⌜ Put (now (dst .entry)) 0 (endBytes (now (src .entry)) base x state reason) (x .mark + 3) r (now (dst .exit)) ⌝ }
+    ensures { λ r. ⌜ Put (now (dst .entry)) 0 (endBytes (now (src .entry)) base x) (x .mark + 3) r (now (dst .exit)) ⌝ }
 {
     let id = x.id;
     let m = x.mark;
     let f = x.facts;
     let w = put_id(dst, 0, id);
     let a = put_be(dst, w, 1, f.caller);
-    let b = put_u8(dst, a, state);
-    let c = put_u8(dst, b, reason);
+    let b = put_be(dst, a, 1, state::CANCELLED);
+    let c = put_be(dst, b, 1, reason::CANCELLED);
     let d = copy_part(src, base + TERMS, m - TERMS, dst, c);
     put_be(dst, d, 4, 0)
 }
@@ -200,7 +200,7 @@ fn cancel_held(
         return Answer::Refused(refusal::OUTPUT_TOO_SHORT);
     }
     put_ended(cur, a, Change::Named, id, m, next);
-    put_end(cur, at, x, 4, 1, out);
+    put_end(cur, at, x, out);
     Answer::Done(Kind::Whole)
 }
 

@@ -99,16 +99,16 @@ pub fn hits(s: &[u8], at: usize, n: u64, c: Change, id: [u8; 32]) -> u64
 }
 
 // The lowest finish number that stays once m records are finished after num: those below it are beyond t.
-pub fn floor(s: &[u8], at: usize, n: u64, num: u64, m: u64, t: u64) -> u64
-    requires { ⌜ (at ≤ length (now s)) × (whole (formC false recC) n (now s) at ≡ true) × (n < 4294967296) × (m ≤ n) × (num + m < 18446744073709551616) × (0 < t) × (t < 4294967296) × All (λ y. holder? y ≡ false → y .finish ≤ num) (listAt (formC false recC) n (now s) at) × (tombstones (listAt (formC false recC) n (now s) at) ≤ 1024) ⌝ }
-    ensures { λ r. ⌜ ((sum Query.Tombstones (listAt (formC false recC) n (now (s .entry)) at) + m ≤ t) × (r ≡ 0)) ⊎ ((x : ℕ) → ltb (above num m (listAt (formC false recC) n (now (s .entry)) at) x) t ≡ leb r x) ⌝ }
+pub fn floor(s: &[u8], at: usize, n: u64, num: Finish, m: u64, t: u64) -> Finish
+    requires { ⌜ (at ≤ length (now s)) × (whole (formC false recC) n (now s) at ≡ true) × (n < 4294967296) × (m ≤ n) × (num .0 + m < 18446744073709551616) × (0 < t) × (t < 4294967296) × All (λ y. holder? y ≡ false → y .finish ≤ num .0) (listAt (formC false recC) n (now s) at) × (tombstones (listAt (formC false recC) n (now s) at) ≤ 1024) ⌝ }
+    ensures { λ r. ⌜ ((sum Query.Tombstones (listAt (formC false recC) n (now (s .entry)) at) + m ≤ t) × (r .0 ≡ 0)) ⊎ ((x : ℕ) → ltb (above (num .0) m (listAt (formC false recC) n (now (s .entry)) at) x) t ≡ leb (r .0) x) ⌝ }
 {
     let mut v = [0u64; 1024];
     let k = gather(s, AREA, at, n, &mut v);
     if k as u64 + m <= t {
-        return 0;
+        return Finish(0);
     }
-    floor_in(&v[..k], num, m, t)
+    Finish(floor_in(&v[..k], num.0, m, t))
 }
 
 // Rows for those picked, finished with the numbers after the counter, and for those forgotten.

@@ -110,7 +110,7 @@ fn floor_for(s: &[u8], a: Area, g: u64) -> Finish
     let h = o.head;
     let n = h.counter;
     let l = h.limits;
-    Finish(floor(s, o.start, h.count, n.0, g, l.t))
+    floor(s, o.start, h.count, n, g, l.t)
 }
 
 // The rows for it: with the records at the places gone released; ranks has room for their ranks.

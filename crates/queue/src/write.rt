@@ -394,9 +394,9 @@ pub fn put_moved(
 }
 
 // The floor where m more records are finished; what the check counted says whether any is forgotten.
-fn floor_of(s: &[u8], a: Area, m: u64) -> u64
+fn floor_of(s: &[u8], a: Area, m: u64) -> Finish
     requires { ⌜ AreaIn (now s) a × (m ≤ a .open .head .count) × (a .open .head .counter .0 + m < 18446744073709551616) ⌝ }
-    ensures { λ r. ⌜ ((sum Query.Tombstones (listAt (formC false recC) (a .open .head .count) (now (s .entry)) (a .open .start)) + m ≤ a .open .head .limits .t) × (r ≡ 0)) ⊎ ((x : ℕ) → ltb (above (a .open .head .counter .0) m (listAt (formC false recC) (a .open .head .count) (now (s .entry)) (a .open .start)) x) (a .open .head .limits .t) ≡ leb r x) ⌝ }
+    ensures { λ r. ⌜ ((sum Query.Tombstones (listAt (formC false recC) (a .open .head .count) (now (s .entry)) (a .open .start)) + m ≤ a .open .head .limits .t) × (r .0 ≡ 0)) ⊎ ((x : ℕ) → ltb (above (a .open .head .counter .0) m (listAt (formC false recC) (a .open .head .count) (now (s .entry)) (a .open .start)) x) (a .open .head .limits .t) ≡ leb (r .0) x) ⌝ }
 {
     let x = a.open;
     let h = x.head;
@@ -404,9 +404,9 @@ fn floor_of(s: &[u8], a: Area, m: u64) -> u64
     let n = h.counter;
     let l = h.limits;
     if h.count - u.holders + m <= l.t {
-        return 0;
+        return Finish(0);
     }
-    floor(s, x.start, h.count, n.0, m, l.t)
+    floor(s, x.start, h.count, n, m, l.t)
 }
 
 // The front of a queue that is committed with m records finished and so many kept, under the cursor that it has.
@@ -436,7 +436,7 @@ pub fn put_ended(src: &[u8], a: Area, c: Change, id: [u8; 32], m: u64, dst: &mut
     let tip = tip_at(src, h);
     let f = floor_of(src, a, m);
     let mut rows = [0u64; 3072];
-    let p = plan_ended(src, a, c, id, Finish(f), &mut rows);
+    let p = plan_ended(src, a, c, id, f, &mut rows);
     let marks = marks_next(h, m, p.kept);
     put_plain(src, a, marks, tip, &rows[..p.rows], dst);
 }

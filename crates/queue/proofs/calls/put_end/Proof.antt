@@ -1,9 +1,4 @@
--- Filled from its answers by tools/proofkit.py: change those, and fill it again.
-use Rattle.queue.proofs.PutLaws.{recast, then}
-use Rattle.queue.specs.CallsAs.{endBytes}
 use borrow.Author.Needs.{needs}
-use mathlib.Core.Path.{refl}
-use native.Mathlib.Omega.{arith}
 use Rattle.queue.proofs.calls.put_end.Statement.{statement}
 use Rattle.queue.proofs.calls.put_end.Tie as tie
 use Rattle.queue.proofs.calls.put_end.Reads as reads
@@ -11,7 +6,6 @@ use Rattle.queue.proofs.calls.put_end.Lts as lts
 use Rattle.queue.proofs.put.copy_part.Reads as copy-part-reads
 use Rattle.queue.proofs.put.put_be.Reads as put-be-reads
 use Rattle.queue.proofs.put.put_id.Reads as put-id-reads
-use Rattle.queue.proofs.put.put_u8.Reads as put-u8-reads
 
 put-id-requires : tie.Need-put-id-requires
 put-id-requires c κs = search needs
@@ -19,11 +13,11 @@ put-id-requires c κs = search needs
 put-be-requires : tie.Need-put-be-requires
 put-be-requires c κs = search needs
 
-put-u8-requires : tie.Need-put-u8-requires
-put-u8-requires c κs = search needs
+put-be-requires-2 : tie.Need-put-be-requires-2
+put-be-requires-2 c κs = search needs
 
-put-u8-requires-2 : tie.Need-put-u8-requires-2
-put-u8-requires-2 c κs = search needs
+put-be-requires-3 : tie.Need-put-be-requires-3
+put-be-requires-3 c κs = search needs
 
 add-copy-part : tie.Need-add-copy-part
 add-copy-part c = search needs
@@ -34,15 +28,14 @@ sub-copy-part c = search needs
 copy-part-requires : tie.Need-copy-part-requires
 copy-part-requires c κs = search needs
 
-put-be-requires-2 : tie.Need-put-be-requires-2
-put-be-requires-2 c κs = search needs
+put-be-requires-4 : tie.Need-put-be-requires-4
+put-be-requires-4 c κs = search needs
 
 same-length : tie.Need-same-length
 same-length c = search needs
 
 returns : tie.Need-returns
-unfolding endBytes
-returns c = recast (then (then (then (then (then (c .before .before .before .before .before .before .before .before .before .before .before .before .before .before .before .before .before .before .before .before .before .before .put-id .ensures) (c .before .before .before .before .before .before .before .before .before .before .before .before .before .before .before .before .before .before .put-be .ensures)) (c .before .before .before .before .before .before .before .before .before .before .before .before .before .before .put-u8 .ensures)) (c .before .before .before .before .before .before .before .before .before .before .put-u82 .ensures)) (c .before .before .before .before .before .before .copy-part .ensures)) (c .before .before .put-be2 .ensures)) refl (omega (arith, c .before .before .before .before .before .before .before .before .before .before .before .before .before .before .before .before .before .before .before .before .before .before .before .before .before .before .before .before .pre .0)) refl
+returns c = ?
 
 pub put-end-spec : {M : Type 1} → statement M
 put-end-spec =
@@ -50,11 +43,11 @@ put-end-spec =
     (tie.spec
     put-id-requires
     put-be-requires
-    put-u8-requires
-    put-u8-requires-2
+    put-be-requires-2
+    put-be-requires-3
     add-copy-part
     sub-copy-part
     copy-part-requires
-    put-be-requires-2
+    put-be-requires-4
     same-length
     returns)
