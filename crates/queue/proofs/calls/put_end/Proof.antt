@@ -1,4 +1,9 @@
+-- Filled from its answers by tools/proofkit.py: change those, and fill it again.
+use Rattle.queue.proofs.PutLaws.{recast, then}
+use Rattle.queue.specs.CallsAs.{endBytes}
 use borrow.Author.Needs.{needs}
+use mathlib.Core.Path.{refl}
+use native.Mathlib.Omega.{arith}
 use Rattle.queue.proofs.calls.put_end.Statement.{statement}
 use Rattle.queue.proofs.calls.put_end.Tie as tie
 use Rattle.queue.proofs.calls.put_end.Reads as reads
@@ -35,7 +40,8 @@ same-length : tie.Need-same-length
 same-length c = search needs
 
 returns : tie.Need-returns
-returns c = ?
+unfolding endBytes
+returns c = recast (then (then (then (then (then (c .before .before .before .before .before .before .before .before .before .before .before .before .before .before .before .before .before .before .before .before .before .before .put-id .ensures) (c .before .before .before .before .before .before .before .before .before .before .before .before .before .before .before .before .before .before .put-be .ensures)) (c .before .before .before .before .before .before .before .before .before .before .before .before .before .before .put-be2 .ensures)) (c .before .before .before .before .before .before .before .before .before .before .put-be3 .ensures)) (c .before .before .before .before .before .before .copy-part .ensures)) (c .before .before .put-be4 .ensures)) refl (omega (arith, c .before .before .before .before .before .before .before .before .before .before .before .before .before .before .before .before .before .before .before .before .before .before .before .before .before .before .before .before .pre .0)) refl
 
 pub put-end-spec : {M : Type 1} → statement M
 put-end-spec =
