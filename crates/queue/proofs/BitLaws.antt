@@ -47,13 +47,13 @@ spread true false true = refl
 spread true false false = refl
 spread false b c = refl
 
-half-pow : (m : ℕ) → 2 ^ suc m / 2 ≡ 2 ^ m
+pub half-pow : (m : ℕ) → 2 ^ suc m / 2 ≡ 2 ^ m
 half-pow m = ap (λ (x : ℕ). x / 2) (pow-suc 2 m ∙ sym (add-zero (2 ^ m * 2))) ∙ digits-div (2 ^ m) (omega arith)
 
-even-pow : (m : ℕ) → 2 ^ suc m % 2 ≡ 0
+pub even-pow : (m : ℕ) → 2 ^ suc m % 2 ≡ 0
 even-pow m = ap (λ (x : ℕ). x % 2) (pow-suc 2 m ∙ sym (add-zero (2 ^ m * 2))) ∙ digits-mod (2 ^ m) (omega arith)
 
-max-one : (a : ℕ) → a < 2 → max a 1 ≡ 1
+pub max-one : (a : ℕ) → a < 2 → max a 1 ≡ 1
 max-one zero h = refl
 max-one (suc zero) h = refl
 max-one (suc (suc a)) h = absurd (let z : ⊥ = omega arith in z)

@@ -49,5 +49,6 @@ pub mod FeeWalkLaws
 pub mod FeeSearchLaws
 pub mod FeeLaws
 pub mod BitLaws
+pub mod FlagLaws
 pub mod LinkLaws
 pub mod ParentLaws

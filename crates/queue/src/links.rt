@@ -48,7 +48,7 @@ pub struct Block {
 }
 
 // All set to 0, if they are to be.
-fn clear(v: &mut [u64], go: bool)
+pub fn clear(v: &mut [u64], go: bool)
     ensures { λ _. ⌜ Cleared go (now (v .entry)) (now (v .exit)) ⌝ }
 {
     if !go {

@@ -1,10 +1,16 @@
 // Which wanted ids, inputs and read ids, are owned: available, or an output of a Queued record. There is a flag for each wanted id of all
-// records, in their order. The outputs go into a table of rows. Full, and at the end, it is put in order, and each wanted id without a flag
-// is looked up in it.
+// records, in their order, a bit of a word. The ids that are not available go into a filter, and the outputs that it has into a table of
+// rows. Full, and at the end, it is put in order, and each wanted id without a flag is looked up in it.
+use super::filter::bit;
+use super::filter::hash;
+use super::filter::mark;
+use super::filter::seen;
 use super::forms::after_in;
 use super::frame::Seen;
 use super::frame::id_read;
 use super::frame::rec_at;
+use super::links::clear;
+use super::logic::both;
 use super::reopen::find_id;
 use super::state;
 use super::suspects::Order;
@@ -13,21 +19,23 @@ use super::suspects::look;
 use super::suspects::order_rows;
 use super::suspects::row_at;
 ghost use mathlib.Core.Path.{_≡_};
-ghost use mathlib.Core.Bool.{Bool, true, false, _&&_};
-ghost use mathlib.Core.List.{[]};
+ghost use mathlib.Core.Bool.{Bool, true, false, cond, _&&_};
+ghost use mathlib.Core.List.{List, []};
 ghost use Prim.Native.Nat.{_+_, _*_, _≤_, _<_};
 ghost use lib.Dec.{eqb};
-ghost use lib.ListN.{length, take, drop};
+ghost use lib.ListN.{length, take, drop, getD, set};
 ghost use Rattle.queue.specs.Ids.{part};
 ghost use Rattle.queue.specs.Frames.{recC, idC};
 ghost use Rattle.queue.specs.Forms.{formC};
 ghost use Rattle.queue.specs.View.{view};
 ghost use Rattle.queue.specs.Reads.{whole, listAt};
 ghost use Rattle.queue.specs.Reopens.{IdsRise, idsAt};
-ghost use Rattle.queue.specs.Suspects.{later, InOrder};
+ghost use Rattle.queue.specs.Filter.{hashL, markL};
+ghost use Rattle.queue.specs.Suspects.{idR, noR, later, InOrder};
 ghost use Rattle.queue.specs.Touching.{ownIds};
-ghost use Rattle.queue.specs.Owning.{set?, wantedOf, ownF, markAll, FlagsAre, Settled, Taken};
-ghost use Rattle.queue.specs.paper.Lists.{one, all?};
+ghost use Rattle.queue.specs.Owning.{set?, bitsIn, Fits, wantedOf, markAll, missAll, FlagsAre, Noted, Settled, Taken};
+ghost use Rattle.queue.specs.paper.Records.{Id};
+ghost use Rattle.queue.specs.paper.Lists.{any?, all?};
 ghost use Rattle.queue.specs.paper.Sound.{among?};
 ghost use Rattle.queue.specs.paper.Changing.{queuedOutputs};
 
@@ -49,15 +57,35 @@ pub fn count_wanted(s: &[u8], at: usize, n: u64) -> u64
     total
 }
 
+// Is flag g set?
+fn flag_at(flags: &[u64], g: usize) -> bool
+    requires { ⌜ g < 64 * length (now flags) ⌝ }
+    ensures { λ r. ⌜ r ≡ set? (getD (bitsIn (now (flags .entry))) g 0) ⌝ }
+{
+    let w = flags[g / 64];
+    let b = bit((g % 64) as u64);
+    w / b % 2 == 1
+}
+
+fn set_flag(flags: &mut [u64], g: usize)
+    requires { ⌜ g < 64 * length (now flags) ⌝ }
+    ensures { λ _. ⌜ bitsIn (now (flags .exit)) ≡ set (bitsIn (now (flags .entry))) g 1 ⌝ }
+{
+    let i = g / 64;
+    let b = bit((g % 64) as u64);
+    let w = flags[i];
+    flags[i] = w | b;
+}
+
 // Are the c flags from g on set?
-pub fn all_set(flags: &[u8], g: usize, c: u64) -> bool
-    requires { ⌜ g + c ≤ length (now flags) ⌝ }
-    ensures { λ r. ⌜ r ≡ all? set? (take c (drop g (now (flags .entry)))) ⌝ }
+pub fn all_set(flags: &[u64], g: usize, c: u64) -> bool
+    requires { ⌜ Fits (g + c) (now flags) ⌝ }
+    ensures { λ r. ⌜ r ≡ all? set? (take c (drop g (bitsIn (now (flags .entry))))) ⌝ }
 {
     let mut i = g;
     let mut left = c;
     while 0 < left {
-        if flags[i] != 1 {
+        if !flag_at(flags, i) {
             return false;
         }
         i += 1;
@@ -66,54 +94,32 @@ pub fn all_set(flags: &[u8], g: usize, c: u64) -> bool
     true
 }
 
-fn flag(b: bool) -> u8
-    ensures { λ r. ⌜ r ≡ one b ⌝ }
+// The flag of an available id, or the id into the filter.
+fn note_id(flags: &mut [u64], g: usize, t: &mut [u64], id: [u8; 32], found: bool)
+    requires { ⌜ (g < 64 * length (now flags)) × (0 < length (now t)) ⌝ }
+    ensures { λ _. ⌜ ((bitsIn (now (flags .exit))) ≡ cond found (set (bitsIn (now (flags .entry))) g 1) (bitsIn (now (flags .entry)))) × (now (t .exit) ≡ cond found (now (t .entry)) (markL (now (t .entry)) (hashL id))) ⌝ }
 {
-    if b { 1 } else { 0 }
+    if found {
+        set_flag(flags, g);
+        return;
+    }
+    mark(t, hash(id));
 }
 
-// Is the id at offset i of the frame at base owned? At first, if it is available; then, if its flag is set or it is a row's.
-fn known(
-    s: &[u8],
-    base: usize,
-    i: usize,
-    id: [u8; 32],
-    first: bool,
-    ids: &[u8],
-    m: u64,
-    v: &[u64],
-    ordered: bool,
-    b: u8,
-) -> bool
-    requires { ⌜ (i + 32 ≤ length (view false (now s) base)) × (part 32 (view false (now s) base) i ≡ id) × (length (now s) < 4294967296) × IdsRise (now ids) m × (ordered ≡ true → InOrder false (now s) (now v)) ⌝ }
-    ensures { λ r. ⌜ r ≡ ownF first (idsAt (now (ids .entry)) m) (now (s .entry)) (now (v .entry)) b id ⌝ }
-{
-    if first {
-        return find_id(ids, m, id);
-    }
-    if b == 1 {
-        return true;
-    }
-    let y = row_at(s, false, base, i, 0);
-    look(s, false, v, ordered, y)
-}
-
-// The flags from `from` on of the c ids at offset `at` of the frame at base.
-fn mark_ids(
+// The flags from `from` on of those of the c ids at offset `at` of the frame at base that are available; the others into the filter.
+fn note_ids(
     s: &[u8],
     base: usize,
     at: usize,
     c: u64,
-    first: bool,
     ids: &[u8],
     m: u64,
-    v: &[u64],
-    ordered: bool,
-    flags: &mut [u8],
+    flags: &mut [u64],
     from: usize,
+    t: &mut [u64],
 )
-    requires { ⌜ (at ≤ length (view false (now s) base)) × (whole idC c (view false (now s) base) at ≡ true) × (length (now s) < 4294967296) × IdsRise (now ids) m × (ordered ≡ true → InOrder false (now s) (now v)) × (from + c ≤ length (now flags)) ⌝ }
-    ensures { λ _. ⌜ now (flags .exit) ≡ markAll (ownF first (idsAt (now (ids .entry)) m) (now (s .entry)) (now (v .entry))) (listAt idC c (view false (now (s .entry)) base) at) (now (flags .entry)) from ⌝ }
+    requires { ⌜ (at ≤ length (view false (now s) base)) × (whole idC c (view false (now s) base) at ≡ true) × IdsRise (now ids) m × Fits (from + c) (now flags) × (0 < length (now t)) ⌝ }
+    ensures { λ _. ⌜ ((bitsIn (now (flags .exit))) ≡ markAll (λ z. among? z (idsAt (now (ids .entry)) m)) (listAt idC c (view false (now (s .entry)) base) at) (bitsIn (now (flags .entry))) from) × (now (t .exit) ≡ missAll (λ z. among? z (idsAt (now (ids .entry)) m)) (listAt idC c (view false (now (s .entry)) base) at) (now (t .entry))) ⌝ }
 {
     let mut i = at;
     let mut left = c;
@@ -121,28 +127,18 @@ fn mark_ids(
     while 0 < left {
         let x = id_read(s, false, base, i);
         let id = x.id;
-        let b = known(s, base, i, id, first, ids, m, v, ordered, flags[g]);
-        flags[g] = flag(b);
+        let found = find_id(ids, m, id);
+        note_id(flags, g, t, id, found);
         i = x.next;
         left = left - 1;
         g += 1;
     }
 }
 
-// The flags of all wanted ids of n records at `at`.
-fn mark_all(
-    s: &[u8],
-    at: usize,
-    n: u64,
-    first: bool,
-    ids: &[u8],
-    m: u64,
-    v: &[u64],
-    ordered: bool,
-    flags: &mut [u8],
-)
-    requires { ⌜ (at ≤ length (now s)) × (whole (formC false recC) n (now s) at ≡ true) × (length (now s) < 4294967296) × IdsRise (now ids) m × (ordered ≡ true → InOrder false (now s) (now v)) × (length (wantedOf (listAt (formC false recC) n (now s) at)) ≤ length (now flags)) ⌝ }
-    ensures { λ _. ⌜ now (flags .exit) ≡ markAll (ownF first (idsAt (now (ids .entry)) m) (now (s .entry)) (now (v .entry))) (wantedOf (listAt (formC false recC) n (now (s .entry)) at)) (now (flags .entry)) 0 ⌝ }
+// The flags of all wanted ids of n records at `at` that are available; the others into the filter.
+fn note_all(s: &[u8], at: usize, n: u64, ids: &[u8], m: u64, flags: &mut [u64], t: &mut [u64])
+    requires { ⌜ (at ≤ length (now s)) × (whole (formC false recC) n (now s) at ≡ true) × IdsRise (now ids) m × Fits (length (wantedOf (listAt (formC false recC) n (now s) at))) (now flags) × (0 < length (now t)) ⌝ }
+    ensures { λ _. ⌜ ((bitsIn (now (flags .exit))) ≡ markAll (λ z. among? z (idsAt (now (ids .entry)) m)) (wantedOf (listAt (formC false recC) n (now (s .entry)) at)) (bitsIn (now (flags .entry))) 0) × (now (t .exit) ≡ missAll (λ z. among? z (idsAt (now (ids .entry)) m)) (wantedOf (listAt (formC false recC) n (now (s .entry)) at)) (now (t .entry))) ⌝ }
 {
     let mut i = at;
     let mut left = n;
@@ -150,45 +146,109 @@ fn mark_all(
     while 0 < left {
         let x = rec_at(s, i);
         let f = x.facts;
-        mark_ids(s, i, x.at, f.ins, first, ids, m, v, ordered, flags, g);
+        note_ids(s, i, x.at, f.ins, ids, m, flags, g, t);
         g = g + f.ins as usize;
-        mark_ids(s, i, x.reads, f.reads, first, ids, m, v, ordered, flags, g);
+        note_ids(s, i, x.reads, f.reads, ids, m, flags, g, t);
         g = g + f.reads as usize;
         i = after_in(s, false, i, x.size);
         left = left - 1;
     }
 }
 
-// The flags of the wanted ids that are rows'.
-fn settle(s: &[u8], at: usize, n: u64, ids: &[u8], m: u64, v: &mut [u64], flags: &mut [u8])
-    requires { ⌜ (at ≤ length (now s)) × (whole (formC false recC) n (now s) at ≡ true) × (length (now s) < 4294967296) × IdsRise (now ids) m × (length (wantedOf (listAt (formC false recC) n (now s) at)) ≤ length (now flags)) ⌝ }
-    ensures { λ _. ⌜ Settled (now (s .entry)) (wantedOf (listAt (formC false recC) n (now (s .entry)) at)) (now (flags .entry)) (now (v .entry)) (now (flags .exit)) (now (v .exit)) ⌝ }
+// The flag of the id at offset i of the frame at base, if it is a row's.
+fn mark_id(s: &[u8], base: usize, i: usize, v: &[u64], ordered: bool, flags: &mut [u64], g: usize)
+    requires { ⌜ (i + 32 ≤ length (view false (now s) base)) × (length (now s) < 4294967296) × (ordered ≡ true → InOrder false (now s) (now v)) × (g < 64 * length (now flags)) ⌝ }
+    ensures { λ _. ⌜ (bitsIn (now (flags .exit))) ≡ cond (any? (later false (now (s .entry)) (part 32 (view false (now (s .entry)) base) i) 0) (now (v .entry))) (set (bitsIn (now (flags .entry))) g 1) (bitsIn (now (flags .entry))) ⌝ }
+{
+    if flag_at(flags, g) {
+        return;
+    }
+    let y = row_at(s, false, base, i, 0);
+    if look(s, false, v, ordered, y) {
+        set_flag(flags, g);
+    }
+}
+
+// The flags from `from` on of those of the c ids at offset `at` of the frame at base that are rows'.
+fn mark_ids(
+    s: &[u8],
+    base: usize,
+    at: usize,
+    c: u64,
+    v: &[u64],
+    ordered: bool,
+    flags: &mut [u64],
+    from: usize,
+)
+    requires { ⌜ (at ≤ length (view false (now s) base)) × (whole idC c (view false (now s) base) at ≡ true) × (length (now s) < 4294967296) × (ordered ≡ true → InOrder false (now s) (now v)) × Fits (from + c) (now flags) ⌝ }
+    ensures { λ _. ⌜ (bitsIn (now (flags .exit))) ≡ markAll (λ z. any? (later false (now (s .entry)) z 0) (now (v .entry))) (listAt idC c (view false (now (s .entry)) base) at) (bitsIn (now (flags .entry))) from ⌝ }
+{
+    let mut i = at;
+    let mut left = c;
+    let mut g = from;
+    while 0 < left {
+        let x = id_read(s, false, base, i);
+        mark_id(s, base, i, v, ordered, flags, g);
+        i = x.next;
+        left = left - 1;
+        g += 1;
+    }
+}
+
+// The flags of all wanted ids of n records at `at` that are rows'.
+fn mark_all(s: &[u8], at: usize, n: u64, v: &[u64], ordered: bool, flags: &mut [u64])
+    requires { ⌜ (at ≤ length (now s)) × (whole (formC false recC) n (now s) at ≡ true) × (length (now s) < 4294967296) × (ordered ≡ true → InOrder false (now s) (now v)) × Fits (length (wantedOf (listAt (formC false recC) n (now s) at))) (now flags) ⌝ }
+    ensures { λ _. ⌜ (bitsIn (now (flags .exit))) ≡ markAll (λ z. any? (later false (now (s .entry)) z 0) (now (v .entry))) (wantedOf (listAt (formC false recC) n (now (s .entry)) at)) (bitsIn (now (flags .entry))) 0 ⌝ }
+{
+    let mut i = at;
+    let mut left = n;
+    let mut g: usize = 0;
+    while 0 < left {
+        let x = rec_at(s, i);
+        let f = x.facts;
+        mark_ids(s, i, x.at, f.ins, v, ordered, flags, g);
+        g = g + f.ins as usize;
+        mark_ids(s, i, x.reads, f.reads, v, ordered, flags, g);
+        g = g + f.reads as usize;
+        i = after_in(s, false, i, x.size);
+        left = left - 1;
+    }
+}
+
+// The flags of the wanted ids that are rows', the rows put in order first.
+fn settle(s: &[u8], at: usize, n: u64, v: &mut [u64], flags: &mut [u64])
+    requires { ⌜ (at ≤ length (now s)) × (whole (formC false recC) n (now s) at ≡ true) × (length (now s) < 4294967296) × Fits (length (wantedOf (listAt (formC false recC) n (now s) at))) (now flags) ⌝ }
+    ensures { λ _. ⌜ Settled (now (s .entry)) (wantedOf (listAt (formC false recC) n (now (s .entry)) at)) (bitsIn (now (flags .entry))) (now (v .entry)) (bitsIn (now (flags .exit))) (now (v .exit)) ⌝ }
 {
     order_rows(s, Order::Ids(false), v);
     let o = in_order(s, false, v);
-    mark_all(s, at, n, false, ids, m, v, o, flags);
+    mark_all(s, at, n, v, o, flags);
 }
 
-// The row w behind k others; a full table is settled and begun anew. Returns how many rows there are then.
+// The row w behind k others, if the filter has its id, whose number is h; a full table is settled and begun anew. Returns how many rows
+// there are then.
 fn add_row(
     s: &[u8],
     at: usize,
     n: u64,
-    ids: &[u8],
-    m: u64,
     v: &mut [u64],
-    flags: &mut [u8],
+    flags: &mut [u64],
+    t: &[u64],
     k: usize,
     w: u64,
+    h: u64,
 ) -> usize
-    requires { ⌜ (at ≤ length (now s)) × (whole (formC false recC) n (now s) at ≡ true) × (length (now s) < 4294967296) × IdsRise (now ids) m × (length (wantedOf (listAt (formC false recC) n (now s) at)) ≤ length (now flags)) × (k ≤ length (now v)) × (0 < length (now v)) ⌝ }
-    ensures { λ r. ⌜ Taken (now (s .entry)) (wantedOf (listAt (formC false recC) n (now (s .entry)) at)) (now (flags .entry)) (take k (now (v .entry))) (λ z. later false (now (s .entry)) z 0 w) (now (flags .exit)) (take r (now (v .exit))) × (r ≤ length (now (v .entry))) ⌝ }
+    requires { ⌜ (at ≤ length (now s)) × (whole (formC false recC) n (now s) at ≡ true) × (length (now s) < 4294967296) × Fits (length (wantedOf (listAt (formC false recC) n (now s) at))) (now flags) × (k ≤ length (now v)) × (0 < length (now v)) × (0 < length (now t)) × (h ≡ hashL (idR false (now s) w)) ⌝ }
+    ensures { λ r. ⌜ Taken (now (s .entry)) (wantedOf (listAt (formC false recC) n (now (s .entry)) at)) (now (t .entry)) (bitsIn (now (flags .entry))) (take k (now (v .entry))) (λ z. later false (now (s .entry)) z 0 w) (bitsIn (now (flags .exit))) (take r (now (v .exit))) × (r ≤ length (now (v .entry))) ⌝ }
 {
+    if !seen(t, h) {
+        return k;
+    }
     if k < v.len() {
         v[k] = w;
         return k + 1;
     }
-    settle(s, at, n, ids, m, v, flags);
+    settle(s, at, n, v, flags);
     v[0] = w;
     1
 }
@@ -198,25 +258,25 @@ fn add_rows(
     s: &[u8],
     at: usize,
     n: u64,
-    ids: &[u8],
-    m: u64,
     v: &mut [u64],
-    flags: &mut [u8],
+    flags: &mut [u64],
+    t: &[u64],
     k: usize,
     base: usize,
     outs: usize,
     c: u64,
 ) -> usize
-    requires { ⌜ (at ≤ length (now s)) × (whole (formC false recC) n (now s) at ≡ true) × (length (now s) < 4294967296) × IdsRise (now ids) m × (length (wantedOf (listAt (formC false recC) n (now s) at)) ≤ length (now flags)) × (k ≤ length (now v)) × (0 < length (now v)) × (outs ≤ length (view false (now s) base)) × (whole idC c (view false (now s) base) outs ≡ true) ⌝ }
-    ensures { λ r. ⌜ Taken (now (s .entry)) (wantedOf (listAt (formC false recC) n (now (s .entry)) at)) (now (flags .entry)) (take k (now (v .entry))) (λ z. among? z (listAt idC c (view false (now (s .entry)) base) outs)) (now (flags .exit)) (take r (now (v .exit))) × (r ≤ length (now (v .entry))) ⌝ }
+    requires { ⌜ (at ≤ length (now s)) × (whole (formC false recC) n (now s) at ≡ true) × (length (now s) < 4294967296) × Fits (length (wantedOf (listAt (formC false recC) n (now s) at))) (now flags) × (k ≤ length (now v)) × (0 < length (now v)) × (0 < length (now t)) × (outs ≤ length (view false (now s) base)) × (whole idC c (view false (now s) base) outs ≡ true) ⌝ }
+    ensures { λ r. ⌜ Taken (now (s .entry)) (wantedOf (listAt (formC false recC) n (now (s .entry)) at)) (now (t .entry)) (bitsIn (now (flags .entry))) (take k (now (v .entry))) (λ z. among? z (listAt idC c (view false (now (s .entry)) base) outs)) (bitsIn (now (flags .exit))) (take r (now (v .exit))) × (r ≤ length (now (v .entry))) ⌝ }
 {
     let mut i = outs;
     let mut left = c;
     let mut h = k;
     while 0 < left {
         let x = id_read(s, false, base, i);
+        let id = x.id;
         let w = row_at(s, false, base, i, 1);
-        h = add_row(s, at, n, ids, m, v, flags, h, w);
+        h = add_row(s, at, n, v, flags, t, h, w, hash(id));
         i = x.next;
         left = left - 1;
     }
@@ -228,111 +288,88 @@ fn add_outputs(
     s: &[u8],
     at: usize,
     n: u64,
-    ids: &[u8],
-    m: u64,
     v: &mut [u64],
-    flags: &mut [u8],
+    flags: &mut [u64],
+    t: &[u64],
     k: usize,
     base: usize,
     x: Seen,
 ) -> usize
-    requires { ⌜ (at ≤ length (now s)) × (whole (formC false recC) n (now s) at ≡ true) × (length (now s) < 4294967296) × IdsRise (now ids) m × (length (wantedOf (listAt (formC false recC) n (now s) at)) ≤ length (now flags)) × (k ≤ length (now v)) × (0 < length (now v)) × (x .outs ≤ length (view false (now s) base)) × (whole idC (x .facts .outs) (view false (now s) base) (x .outs) ≡ true) ⌝ }
-    ensures { λ r. ⌜ Taken (now (s .entry)) (wantedOf (listAt (formC false recC) n (now (s .entry)) at)) (now (flags .entry)) (take k (now (v .entry))) (λ z. eqb (x .facts .state) 0 && among? z (listAt idC (x .facts .outs) (view false (now (s .entry)) base) (x .outs))) (now (flags .exit)) (take r (now (v .exit))) × (r ≤ length (now (v .entry))) ⌝ }
+    requires { ⌜ (at ≤ length (now s)) × (whole (formC false recC) n (now s) at ≡ true) × (length (now s) < 4294967296) × Fits (length (wantedOf (listAt (formC false recC) n (now s) at))) (now flags) × (k ≤ length (now v)) × (0 < length (now v)) × (0 < length (now t)) × (x .outs ≤ length (view false (now s) base)) × (whole idC (x .facts .outs) (view false (now s) base) (x .outs) ≡ true) ⌝ }
+    ensures { λ r. ⌜ Taken (now (s .entry)) (wantedOf (listAt (formC false recC) n (now (s .entry)) at)) (now (t .entry)) (bitsIn (now (flags .entry))) (take k (now (v .entry))) (λ z. eqb (x .facts .state) 0 && among? z (listAt idC (x .facts .outs) (view false (now (s .entry)) base) (x .outs))) (bitsIn (now (flags .exit))) (take r (now (v .exit))) × (r ≤ length (now (v .entry))) ⌝ }
 {
     let f = x.facts;
     if f.state != state::QUEUED {
         return k;
     }
-    add_rows(s, at, n, ids, m, v, flags, k, base, x.outs, f.outs)
+    add_rows(s, at, n, v, flags, t, k, base, x.outs, f.outs)
 }
 
-// The outputs of the Queued ones of n records at `at`; returns how many rows are left.
-fn add_queued(
-    s: &[u8],
-    at: usize,
-    n: u64,
-    ids: &[u8],
-    m: u64,
-    v: &mut [u64],
-    flags: &mut [u8],
-) -> usize
-    requires { ⌜ (at ≤ length (now s)) × (whole (formC false recC) n (now s) at ≡ true) × (length (now s) < 4294967296) × IdsRise (now ids) m × (length (wantedOf (listAt (formC false recC) n (now s) at)) ≤ length (now flags)) × (0 < length (now v)) ⌝ }
-    ensures { λ r. ⌜ Taken (now (s .entry)) (wantedOf (listAt (formC false recC) n (now (s .entry)) at)) (now (flags .entry)) [] (λ z. among? z (queuedOutputs (listAt (formC false recC) n (now (s .entry)) at))) (now (flags .exit)) (take r (now (v .exit))) × (r ≤ length (now (v .entry))) ⌝ }
+// The outputs of the Queued ones of n records at `at`, those that the filter has; returns how many rows are left.
+fn add_queued(s: &[u8], at: usize, n: u64, v: &mut [u64], flags: &mut [u64], t: &[u64]) -> usize
+    requires { ⌜ (at ≤ length (now s)) × (whole (formC false recC) n (now s) at ≡ true) × (length (now s) < 4294967296) × Fits (length (wantedOf (listAt (formC false recC) n (now s) at))) (now flags) × (0 < length (now v)) × (0 < length (now t)) ⌝ }
+    ensures { λ r. ⌜ Taken (now (s .entry)) (wantedOf (listAt (formC false recC) n (now (s .entry)) at)) (now (t .entry)) (bitsIn (now (flags .entry))) [] (λ z. among? z (queuedOutputs (listAt (formC false recC) n (now (s .entry)) at))) (bitsIn (now (flags .exit))) (take r (now (v .exit))) × (r ≤ length (now (v .entry))) ⌝ }
 {
     let mut i = at;
     let mut left = n;
     let mut k: usize = 0;
     while 0 < left {
         let x = rec_at(s, i);
-        k = add_outputs(s, at, n, ids, m, v, flags, k, i, x);
+        k = add_outputs(s, at, n, v, flags, t, k, i, x);
         i = after_in(s, false, i, x.size);
         left = left - 1;
     }
     k
 }
 
-// The flags of all wanted ids of n records at `at`. Outputs are looked at only where one is not available.
+// The flags of the wanted ids of n records at `at` that are available, and the filter of the others, if they are to be and there is room.
+pub fn note_flags(
+    s: &[u8],
+    at: usize,
+    n: u64,
+    ids: &[u8],
+    m: u64,
+    go: bool,
+    total: u64,
+    flags: &mut [u64],
+    t: &mut [u64],
+) -> bool
+    requires { ⌜ (at ≤ length (now s)) × (whole (formC false recC) n (now s) at ≡ true) × IdsRise (now ids) m × (go ≡ true → total ≡ length (wantedOf (listAt (formC false recC) n (now s) at))) × (total ≤ 524288) ⌝ }
+    ensures { λ r. ⌜ (r ≡ true → go ≡ true) × (r ≡ true → Noted (λ z. among? z (idsAt (now (ids .entry)) m)) (wantedOf (listAt (formC false recC) n (now (s .entry)) at)) (now (flags .exit)) (now (t .exit))) ⌝ }
+{
+    let words = (total + 63) / 64;
+    if !both(go, both(words <= flags.len() as u64, 0 < t.len())) {
+        return false;
+    }
+    clear(flags, true);
+    note_all(s, at, n, ids, m, flags, t);
+    true
+}
+
+// The flags of the wanted ids that are outputs of Queued records beside those that were noted, if there is room for rows. Outputs are
+// looked at only where an id is not available, and ids looked up only where the filter has an output.
 pub fn own_flags(
     s: &[u8],
     at: usize,
     n: u64,
-    ids: &[u8],
-    m: u64,
-    v: &mut [u64],
-    flags: &mut [u8],
     total: u64,
-)
-    requires { ⌜ (at ≤ length (now s)) × (whole (formC false recC) n (now s) at ≡ true) × (length (now s) < 4294967296) × IdsRise (now ids) m × (total ≡ length (wantedOf (listAt (formC false recC) n (now s) at))) × (total ≤ length (now flags)) × (0 < length (now v)) ⌝ }
-    ensures { λ _. ⌜ FlagsAre (λ z. among? z (ownIds (idsAt (now (ids .entry)) m) (listAt (formC false recC) n (now (s .entry)) at))) (wantedOf (listAt (formC false recC) n (now (s .entry)) at)) (now (flags .exit)) ⌝ }
-{
-    mark_all(s, at, n, true, ids, m, v, false, flags);
-    if all_set(flags, 0, total) {
-        return;
-    }
-    let k = add_queued(s, at, n, ids, m, v, flags);
-    settle(s, at, n, ids, m, &mut v[..k], flags);
-}
-
-// The same for few ids: each has one caller, so that the compiler makes one function of it and its tables (verdicts).
-pub fn few_flags(
-    s: &[u8],
-    at: usize,
-    n: u64,
-    ids: &[u8],
-    m: u64,
     v: &mut [u64],
-    flags: &mut [u8],
-    total: u64,
-)
-    requires { ⌜ (at ≤ length (now s)) × (whole (formC false recC) n (now s) at ≡ true) × (length (now s) < 4294967296) × IdsRise (now ids) m × (total ≡ length (wantedOf (listAt (formC false recC) n (now s) at))) × (total ≤ length (now flags)) × (0 < length (now v)) ⌝ }
-    ensures { λ _. ⌜ FlagsAre (λ z. among? z (ownIds (idsAt (now (ids .entry)) m) (listAt (formC false recC) n (now (s .entry)) at))) (wantedOf (listAt (formC false recC) n (now (s .entry)) at)) (now (flags .exit)) ⌝ }
+    flags: &mut [u64],
+    t: &[u64],
+) -> bool
+    requires { ⌜ (at ≤ length (now s)) × (whole (formC false recC) n (now s) at ≡ true) × (length (now s) < 4294967296) × Fits (length (wantedOf (listAt (formC false recC) n (now s) at))) (now flags) × (total ≡ length (wantedOf (listAt (formC false recC) n (now s) at))) × (0 < length (now t)) ⌝ }
+    ensures { λ r. ⌜ (r ≡ true → (own : List Id) → Noted (λ z. among? z own) (wantedOf (listAt (formC false recC) n (now (s .entry)) at)) (now (flags .entry)) (now (t .entry)) → FlagsAre (λ z. among? z (ownIds own (listAt (formC false recC) n (now (s .entry)) at))) (wantedOf (listAt (formC false recC) n (now (s .entry)) at)) (bitsIn (now (flags .exit)))) ⌝ }
 {
-    mark_all(s, at, n, true, ids, m, v, false, flags);
-    if all_set(flags, 0, total) {
-        return;
+    if v.len() == 0 {
+        return false;
     }
-    let k = add_queued(s, at, n, ids, m, v, flags);
-    settle(s, at, n, ids, m, &mut v[..k], flags);
-}
-
-// The same for the most ids.
-pub fn most_flags(
-    s: &[u8],
-    at: usize,
-    n: u64,
-    ids: &[u8],
-    m: u64,
-    v: &mut [u64],
-    flags: &mut [u8],
-    total: u64,
-)
-    requires { ⌜ (at ≤ length (now s)) × (whole (formC false recC) n (now s) at ≡ true) × (length (now s) < 4294967296) × IdsRise (now ids) m × (total ≡ length (wantedOf (listAt (formC false recC) n (now s) at))) × (total ≤ length (now flags)) × (0 < length (now v)) ⌝ }
-    ensures { λ _. ⌜ FlagsAre (λ z. among? z (ownIds (idsAt (now (ids .entry)) m) (listAt (formC false recC) n (now (s .entry)) at))) (wantedOf (listAt (formC false recC) n (now (s .entry)) at)) (now (flags .exit)) ⌝ }
-{
-    mark_all(s, at, n, true, ids, m, v, false, flags);
     if all_set(flags, 0, total) {
-        return;
+        return true;
     }
-    let k = add_queued(s, at, n, ids, m, v, flags);
-    settle(s, at, n, ids, m, &mut v[..k], flags);
+    let k = add_queued(s, at, n, v, flags, t);
+    if k == 0 {
+        return true;
+    }
+    settle(s, at, n, &mut v[..k], flags);
+    true
 }

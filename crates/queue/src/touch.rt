@@ -27,7 +27,7 @@ ghost use Rattle.queue.specs.Reads.{whole, listAt};
 ghost use Rattle.queue.specs.Forms.{formC};
 ghost use Rattle.queue.specs.View.{view};
 ghost use Rattle.queue.specs.Reopens.{IdsRise, idsAt};
-ghost use Rattle.queue.specs.Owning.{wantedOf, wantedAt, FlagsAre, QuickFor};
+ghost use Rattle.queue.specs.Owning.{bitsIn, wantedOf, wantedAt, FlagsAre, QuickFor};
 ghost use Rattle.queue.specs.Touching.{EntriesRise, EntryAs, SeenHere, ConfirmedIs, ownIds, judgeF, verdictOf, InEntry, TouchIs, JudgedAt, changed?};
 ghost use Rattle.queue.specs.paper.Lists.{any?, all?};
 ghost use Rattle.queue.specs.paper.Sound.{among?};
@@ -148,10 +148,10 @@ fn all_owned(
     ids: &[u8],
     m: u64,
     quick: bool,
-    flags: &[u8],
+    flags: &[u64],
     g: usize,
 ) -> bool
-    requires { ⌜ (at ≤ length (now s)) × (whole (formC false recC) n (now s) at ≡ true) × IdsRise (now ids) m × SeenHere (now s) base x × QuickFor quick (ownIds (idsAt (now ids) m) (listAt (formC false recC) n (now s) at)) (wantedAt (view false (now s) base) x) (now flags) g (x .facts .ins + x .facts .reads) ⌝ }
+    requires { ⌜ (at ≤ length (now s)) × (whole (formC false recC) n (now s) at ≡ true) × IdsRise (now ids) m × SeenHere (now s) base x × QuickFor quick (ownIds (idsAt (now ids) m) (listAt (formC false recC) n (now s) at)) (wantedAt (view false (now s) base) x) (bitsIn (now flags)) g (x .facts .ins + x .facts .reads) ⌝ }
     ensures { λ r. ⌜ r ≡ all? (λ i. among? i (ownIds (idsAt (now (ids .entry)) m) (listAt (formC false recC) n (now (s .entry)) at))) (wantedAt (view false (now (s .entry)) base) x) ⌝ }
 {
     let f = x.facts;
@@ -201,10 +201,10 @@ fn touched(
     b: Block,
     ids: &[u8],
     quick: bool,
-    flags: &[u8],
+    flags: &[u64],
     g: usize,
 ) -> u64
-    requires { ⌜ (at ≤ length (now s)) × (whole (formC false recC) n (now s) at ≡ true) × SeenHere (now s) base x × EntriesRise (now t) (b .entries) × IdsRise (now ids) (b .available) × QuickFor quick (ownIds (idsAt (now ids) (b .available)) (listAt (formC false recC) n (now s) at)) (wantedAt (view false (now s) base) x) (now flags) g (x .facts .ins + x .facts .reads) ⌝ }
+    requires { ⌜ (at ≤ length (now s)) × (whole (formC false recC) n (now s) at ≡ true) × SeenHere (now s) base x × EntriesRise (now t) (b .entries) × IdsRise (now ids) (b .available) × QuickFor quick (ownIds (idsAt (now ids) (b .available)) (listAt (formC false recC) n (now s) at)) (wantedAt (view false (now s) base) x) (bitsIn (now flags)) g (x .facts .ins + x .facts .reads) ⌝ }
     ensures { λ r. ⌜ TouchIs (now (s .entry)) at n base x (now (t .entry)) (b .entries) (b .caught) (idsAt (now (ids .entry)) (b .available)) r ⌝ }
 {
     let id = x.id;
@@ -247,10 +247,10 @@ pub fn judge_all(
     b: Block,
     ids: &[u8],
     quick: bool,
-    flags: &[u8],
+    flags: &[u64],
     vs: &mut [u64],
 )
-    requires { ⌜ (at ≤ length (now s)) × (whole (formC false recC) n (now s) at ≡ true) × EntriesRise (now t) (b .entries) × IdsRise (now ids) (b .available) × (n ≤ length (now vs)) × (n < 4294967296) × (quick ≡ true → FlagsAre (λ z. among? z (ownIds (idsAt (now ids) (b .available)) (listAt (formC false recC) n (now s) at))) (wantedOf (listAt (formC false recC) n (now s) at)) (now flags)) ⌝ }
+    requires { ⌜ (at ≤ length (now s)) × (whole (formC false recC) n (now s) at ≡ true) × EntriesRise (now t) (b .entries) × IdsRise (now ids) (b .available) × (n ≤ length (now vs)) × (n < 4294967296) × (quick ≡ true → FlagsAre (λ z. among? z (ownIds (idsAt (now ids) (b .available)) (listAt (formC false recC) n (now s) at))) (wantedOf (listAt (formC false recC) n (now s) at)) (bitsIn (now flags))) ⌝ }
     ensures { λ _. ⌜ JudgedAt (now (s .entry)) at n b (now (t .entry)) (now (ids .entry)) (take n (now (vs .exit))) ⌝ }
 {
     let mut i = at;

@@ -2,8 +2,7 @@
 use super::block::Block;
 use super::logic::both;
 use super::own::count_wanted;
-use super::own::few_flags;
-use super::own::most_flags;
+use super::own::note_flags;
 use super::own::own_flags;
 use super::touch::judge_all;
 ghost use mathlib.Core.Path.{_≡_};
@@ -17,85 +16,8 @@ ghost use Rattle.queue.specs.Reopens.{IdsRise};
 ghost use Rattle.queue.specs.Owning.{wantedOf};
 ghost use Rattle.queue.specs.Touching.{EntriesRise, JudgedAt};
 
-// With flags for all wanted ids, in tables of so many rows and so much room; smaller tables would only cost time.
-fn judge_with(
-    s: &[u8],
-    at: usize,
-    n: u64,
-    t: &[u8],
-    b: Block,
-    ids: &[u8],
-    total: u64,
-    rows: usize,
-    room: usize,
-    v: &mut [u64],
-    flags: &mut [u8],
-    vs: &mut [u64],
-)
-    requires { ⌜ (at ≤ length (now s)) × (whole (formC false recC) n (now s) at ≡ true) × EntriesRise (now t) (b .entries) × IdsRise (now ids) (b .available) × (n ≤ length (now vs)) × (n < 4294967296) × (length (now s) < 4294967296) × (total ≡ length (wantedOf (listAt (formC false recC) n (now s) at))) × (total ≤ room) × (0 < rows) ⌝ }
-    ensures { λ _. ⌜ JudgedAt (now (s .entry)) at n b (now (t .entry)) (now (ids .entry)) (take n (now (vs .exit))) ⌝ }
-{
-    if !both(rows <= v.len(), room <= flags.len()) {
-        judge_all(s, at, n, t, b, ids, false, ids, vs);
-        return;
-    }
-    own_flags(s, at, n, ids, b.available, &mut v[..rows], flags, total);
-    judge_all(s, at, n, t, b, ids, true, flags, vs);
-}
-
-// The same for few.
-fn few_with(
-    s: &[u8],
-    at: usize,
-    n: u64,
-    t: &[u8],
-    b: Block,
-    ids: &[u8],
-    total: u64,
-    rows: usize,
-    room: usize,
-    v: &mut [u64],
-    flags: &mut [u8],
-    vs: &mut [u64],
-)
-    requires { ⌜ (at ≤ length (now s)) × (whole (formC false recC) n (now s) at ≡ true) × EntriesRise (now t) (b .entries) × IdsRise (now ids) (b .available) × (n ≤ length (now vs)) × (n < 4294967296) × (length (now s) < 4294967296) × (total ≡ length (wantedOf (listAt (formC false recC) n (now s) at))) × (total ≤ room) × (0 < rows) ⌝ }
-    ensures { λ _. ⌜ JudgedAt (now (s .entry)) at n b (now (t .entry)) (now (ids .entry)) (take n (now (vs .exit))) ⌝ }
-{
-    if !both(rows <= v.len(), room <= flags.len()) {
-        judge_all(s, at, n, t, b, ids, false, ids, vs);
-        return;
-    }
-    few_flags(s, at, n, ids, b.available, &mut v[..rows], flags, total);
-    judge_all(s, at, n, t, b, ids, true, flags, vs);
-}
-
-// The same for the most.
-fn most_with(
-    s: &[u8],
-    at: usize,
-    n: u64,
-    t: &[u8],
-    b: Block,
-    ids: &[u8],
-    total: u64,
-    rows: usize,
-    room: usize,
-    v: &mut [u64],
-    flags: &mut [u8],
-    vs: &mut [u64],
-)
-    requires { ⌜ (at ≤ length (now s)) × (whole (formC false recC) n (now s) at ≡ true) × EntriesRise (now t) (b .entries) × IdsRise (now ids) (b .available) × (n ≤ length (now vs)) × (n < 4294967296) × (length (now s) < 4294967296) × (total ≡ length (wantedOf (listAt (formC false recC) n (now s) at))) × (total ≤ room) × (0 < rows) ⌝ }
-    ensures { λ _. ⌜ JudgedAt (now (s .entry)) at n b (now (t .entry)) (now (ids .entry)) (take n (now (vs .exit))) ⌝ }
-{
-    if !both(rows <= v.len(), room <= flags.len()) {
-        judge_all(s, at, n, t, b, ids, false, ids, vs);
-        return;
-    }
-    most_flags(s, at, n, ids, b.available, &mut v[..rows], flags, total);
-    judge_all(s, at, n, t, b, ids, true, flags, vs);
-}
-
-// With room for few: rows for the outputs, and flags.
+// With flags for all wanted ids, if they are to be, and room for few of these: rows for outputs, flags, a filter. Smaller tables would
+// only cost time.
 fn judge_few(
     s: &[u8],
     at: usize,
@@ -103,33 +25,36 @@ fn judge_few(
     t: &[u8],
     b: Block,
     ids: &[u8],
+    go: bool,
     total: u64,
-    rows: usize,
-    room: usize,
     vs: &mut [u64],
 )
-    requires { ⌜ (at ≤ length (now s)) × (whole (formC false recC) n (now s) at ≡ true) × EntriesRise (now t) (b .entries) × IdsRise (now ids) (b .available) × (n ≤ length (now vs)) × (n < 4294967296) × (length (now s) < 4294967296) × (total ≡ length (wantedOf (listAt (formC false recC) n (now s) at))) × (total ≤ room) × (0 < rows) ⌝ }
+    requires { ⌜ (at ≤ length (now s)) × (whole (formC false recC) n (now s) at ≡ true) × EntriesRise (now t) (b .entries) × IdsRise (now ids) (b .available) × (n ≤ length (now vs)) × (n < 4294967296) × (go ≡ true → length (now s) < 4294967296) × (go ≡ true → total ≡ length (wantedOf (listAt (formC false recC) n (now s) at))) × (total ≤ 524288) ⌝ }
     ensures { λ _. ⌜ JudgedAt (now (s .entry)) at n b (now (t .entry)) (now (ids .entry)) (take n (now (vs .exit))) ⌝ }
 {
-    let mut v = [0u64; 2048];
-    let mut flags = [0u8; 8192];
-    few_with(
+    let mut rows = [0u64; 2048];
+    let mut flags = [0u64; 128];
+    let mut filter = [0u64; 512];
+    let noted = note_flags(
         s,
         at,
         n,
-        t,
-        b,
         ids,
+        b.available,
+        go,
         total,
-        rows,
-        room,
-        &mut v,
         &mut flags,
-        vs,
+        &mut filter,
     );
+    if !noted {
+        judge_all(s, at, n, t, b, ids, false, &flags, vs);
+        return;
+    }
+    let quick = own_flags(s, at, n, total, &mut rows, &mut flags, &filter);
+    judge_all(s, at, n, t, b, ids, quick, &flags, vs);
 }
 
-// With room for many: rows for the outputs, and flags.
+// The same with room for many.
 fn judge_many(
     s: &[u8],
     at: usize,
@@ -137,96 +62,53 @@ fn judge_many(
     t: &[u8],
     b: Block,
     ids: &[u8],
+    go: bool,
     total: u64,
-    rows: usize,
-    room: usize,
     vs: &mut [u64],
 )
-    requires { ⌜ (at ≤ length (now s)) × (whole (formC false recC) n (now s) at ≡ true) × EntriesRise (now t) (b .entries) × IdsRise (now ids) (b .available) × (n ≤ length (now vs)) × (n < 4294967296) × (length (now s) < 4294967296) × (total ≡ length (wantedOf (listAt (formC false recC) n (now s) at))) × (total ≤ room) × (0 < rows) ⌝ }
+    requires { ⌜ (at ≤ length (now s)) × (whole (formC false recC) n (now s) at ≡ true) × EntriesRise (now t) (b .entries) × IdsRise (now ids) (b .available) × (n ≤ length (now vs)) × (n < 4294967296) × (go ≡ true → length (now s) < 4294967296) × (go ≡ true → total ≡ length (wantedOf (listAt (formC false recC) n (now s) at))) × (total ≤ 524288) ⌝ }
     ensures { λ _. ⌜ JudgedAt (now (s .entry)) at n b (now (t .entry)) (now (ids .entry)) (take n (now (vs .exit))) ⌝ }
 {
-    let mut v = [0u64; 65536];
-    let mut flags = [0u8; 262144];
-    judge_with(
+    let mut rows = [0u64; 65536];
+    let mut flags = [0u64; 8192];
+    let mut filter = [0u64; 16384];
+    let noted = note_flags(
         s,
         at,
         n,
-        t,
-        b,
         ids,
+        b.available,
+        go,
         total,
-        rows,
-        room,
-        &mut v,
         &mut flags,
-        vs,
+        &mut filter,
     );
-}
-
-// With room for the most, by fewer rows.
-fn judge_most(
-    s: &[u8],
-    at: usize,
-    n: u64,
-    t: &[u8],
-    b: Block,
-    ids: &[u8],
-    total: u64,
-    rows: usize,
-    room: usize,
-    vs: &mut [u64],
-)
-    requires { ⌜ (at ≤ length (now s)) × (whole (formC false recC) n (now s) at ≡ true) × EntriesRise (now t) (b .entries) × IdsRise (now ids) (b .available) × (n ≤ length (now vs)) × (n < 4294967296) × (length (now s) < 4294967296) × (total ≡ length (wantedOf (listAt (formC false recC) n (now s) at))) × (total ≤ room) × (0 < rows) ⌝ }
-    ensures { λ _. ⌜ JudgedAt (now (s .entry)) at n b (now (t .entry)) (now (ids .entry)) (take n (now (vs .exit))) ⌝ }
-{
-    let mut v = [0u64; 32768];
-    let mut flags = [0u8; 524288];
-    most_with(
-        s,
-        at,
-        n,
-        t,
-        b,
-        ids,
-        total,
-        rows,
-        room,
-        &mut v,
-        &mut flags,
-        vs,
-    );
+    if !noted {
+        judge_all(s, at, n, t, b, ids, false, &flags, vs);
+        return;
+    }
+    let quick = own_flags(s, at, n, total, &mut rows, &mut flags, &filter);
+    judge_all(s, at, n, t, b, ids, quick, &flags, vs);
 }
 
 // The verdicts on the n records at `at`, to the front of vs. Each function with tables is called at two places that differ in two
-// numbers: the compiler then makes no single call of them, which it would take in here together with the tables.
+// values: the compiler then makes no single call of them, which it would take in here together with the tables.
 pub fn judge(s: &[u8], at: usize, n: u64, t: &[u8], b: Block, ids: &[u8], vs: &mut [u64])
     requires { ⌜ (at ≤ length (now s)) × (whole (formC false recC) n (now s) at ≡ true) × EntriesRise (now t) (b .entries) × IdsRise (now ids) (b .available) × (n ≤ length (now vs)) × (n < 4294967296) ⌝ }
     ensures { λ _. ⌜ JudgedAt (now (s .entry)) at n b (now (t .entry)) (now (ids .entry)) (take n (now (vs .exit))) ⌝ }
 {
     let total = count_wanted(s, at, n);
-    if !both(b.caught, both(s.len() < 4294967296, total <= 524288)) {
-        judge_all(s, at, n, t, b, ids, false, ids, vs);
-        return;
-    }
-    if total <= 1024 {
-        judge_few(s, at, n, t, b, ids, total, 1024, 1024, vs);
+    if !both(b.caught, s.len() < 4294967296) {
+        judge_few(s, at, n, t, b, ids, false, 0, vs);
         return;
     }
     if total <= 8192 {
-        judge_few(s, at, n, t, b, ids, total, 2048, 8192, vs);
+        judge_few(s, at, n, t, b, ids, true, total, vs);
         return;
     }
-    if total <= 65536 {
-        judge_many(s, at, n, t, b, ids, total, 32768, 65536, vs);
+    if total <= 524288 {
+        judge_many(s, at, n, t, b, ids, true, total, vs);
         return;
     }
-    if total <= 262144 {
-        judge_many(s, at, n, t, b, ids, total, 65536, 262144, vs);
-        return;
-    }
-    if total <= 393216 {
-        judge_most(s, at, n, t, b, ids, total, 32767, 393216, vs);
-        return;
-    }
-    judge_most(s, at, n, t, b, ids, total, 32768, 524288, vs);
+    judge_many(s, at, n, t, b, ids, false, 0, vs);
 }

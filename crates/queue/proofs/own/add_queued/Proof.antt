@@ -4,7 +4,7 @@ use Rattle.queue.proofs.OwnLaws.{Queuing, queue-end, queue-go, queuing}
 use Rattle.queue.proofs.Turns.{seen}
 use Rattle.queue.specs.Forms.{formC}
 use Rattle.queue.specs.Frames.{recC}
-use Rattle.queue.specs.Owning.{wantedOf}
+use Rattle.queue.specs.Owning.{bitsIn, wantedOf}
 use Rattle.queue.specs.Reads.{listAt}
 use borrow.Author.Needs.{needs}
 use lib.ListN.{length, take}
@@ -20,19 +20,19 @@ use Rattle.queue.proofs.frame.rec_at.Reads as rec-at-reads
 use Rattle.queue.proofs.own.add_outputs.Reads as add-outputs-reads
 
 abbrev Inv-loop : tie.InvT-loop
-Inv-loop s at n ids m v₀ flags₀ i₀ left₀ k₀ v flags i left k = Queuing s (wantedOf (listAt (formC false recC) n s at)) n at flags₀ flags (take k v) i left × (k ≤ length v) × (length v ≡ length v₀) × (length flags ≡ length flags₀)
+Inv-loop s at n v₀ flags₀ t i₀ left₀ k₀ v flags i left k = Queuing s (wantedOf (listAt (formC false recC) n s at)) t n at (bitsIn flags₀) (bitsIn flags) (take k v) i left × (k ≤ length v) × (length v ≡ length v₀) × (length flags ≡ length flags₀)
 
 abbrev μ-loop : tie.MeasureT-loop
-μ-loop s at n ids m v₀ flags₀ i₀ left₀ k₀ v flags i left k = left
+μ-loop s at n v₀ flags₀ t i₀ left₀ k₀ v flags i left k = left
 
 loop-holds : tie.Need-loop-holds Inv-loop μ-loop
-loop-holds c = (queuing _ _ _ _ _ (c .before .before .before .before .pre .0) (c .before .before .before .before .pre .1), omega arith, refl, refl)
+loop-holds c = (queuing _ _ _ _ _ _ (c .before .before .before .before .pre .0) (c .before .before .before .before .pre .1), omega arith, refl, refl)
 
 rec-at-requires : tie.Need-rec-at-requires Inv-loop μ-loop
 rec-at-requires c κs = search needs
 
 add-outputs-requires : tie.Need-add-outputs-requires Inv-loop μ-loop
-add-outputs-requires c κs = let t = seen false (c .before .before .before .before .loop .inv .0 .scan) (c .before .before .before .loop-test .taken) (c .before .before .rec-at .ensures) in (c .before .before .before .before .before .before .before .before .before .pre .0, c .before .before .before .before .before .before .before .before .before .pre .1, c .before .before .before .before .before .before .before .before .before .pre .2, c .before .before .before .before .before .before .before .before .before .pre .3, omega (arith, c .before .before .before .before .before .before .before .before .before .pre .4, c .before .before .before .before .loop .inv .3), c .before .before .before .before .loop .inv .1, omega (arith, c .before .before .before .before .before .before .before .before .before .pre .5, c .before .before .before .before .loop .inv .2), t .is .0 .outsIn, t .is .0 .outsAll)
+add-outputs-requires c κs = let t = seen false (c .before .before .before .before .loop .inv .0 .scan) (c .before .before .before .loop-test .taken) (c .before .before .rec-at .ensures) in (c .before .before .before .before .before .before .before .before .before .pre .0, c .before .before .before .before .before .before .before .before .before .pre .1, c .before .before .before .before .before .before .before .before .before .pre .2, (omega (arith, c .before .before .before .before .before .before .before .before .before .pre .3 .0, c .before .before .before .before .loop .inv .3), c .before .before .before .before .before .before .before .before .before .pre .3 .1), c .before .before .before .before .loop .inv .1, omega (arith, c .before .before .before .before .before .before .before .before .before .pre .4, c .before .before .before .before .loop .inv .2), c .before .before .before .before .before .before .before .before .before .pre .5, t .is .0 .outsIn, t .is .0 .outsAll)
 
 after-in-requires : tie.Need-after-in-requires Inv-loop μ-loop
 after-in-requires c κs = seen false (c .before .before .before .before .before .before .before .before .before .loop .inv .0 .scan) (c .before .before .before .before .before .before .before .before .loop-test .taken) (c .before .before .before .before .before .before .before .rec-at .ensures) .is .1 .within
@@ -44,7 +44,7 @@ loop-less : tie.Need-loop-less Inv-loop μ-loop
 loop-less c = search needs
 
 loop-again : tie.Need-loop-again Inv-loop μ-loop
-loop-again c = (queue-go _ _ (c .before .before .before .before .before .before .before .before .before .before .loop .inv .0) (c .before .before .before .before .before .before .before .before .before .loop-test .taken) (c .before .before .before .before .before .before .before .before .rec-at .ensures) (c .after-in .ensures) (c .before .before .before .before .before .add-outputs .ensures .0), omega (arith, c .before .before .before .before .before .add-outputs .ensures .1), omega (arith, c .before .before .before .before .before .before .before .before .before .before .loop .inv .2), omega (arith, c .before .before .before .before .before .before .before .before .before .before .loop .inv .3))
+loop-again c = (queue-go _ _ _ (c .before .before .before .before .before .before .before .before .before .before .loop .inv .0) (c .before .before .before .before .before .before .before .before .before .loop-test .taken) (c .before .before .before .before .before .before .before .before .rec-at .ensures) (c .after-in .ensures) (c .before .before .before .before .before .add-outputs .ensures .0), omega (arith, c .before .before .before .before .before .add-outputs .ensures .1), omega (arith, c .before .before .before .before .before .before .before .before .before .before .loop .inv .2), omega (arith, c .before .before .before .before .before .before .before .before .before .before .loop .inv .3))
 
 same-length : tie.Need-same-length Inv-loop μ-loop
 same-length c = search needs
@@ -53,7 +53,7 @@ same-length-2 : tie.Need-same-length-2 Inv-loop μ-loop
 same-length-2 c = search needs
 
 returns : tie.Need-returns Inv-loop μ-loop
-returns c = (queue-end _ _ (c .before .loop .inv .0) (omega arith), omega (arith, c .before .loop .inv .1, c .before .loop .inv .2))
+returns c = (queue-end _ _ _ (c .before .loop .inv .0) (omega arith), omega (arith, c .before .loop .inv .1, c .before .loop .inv .2))
 
 pub add-queued-spec : {M : Type 1} → statement M
 add-queued-spec =

@@ -1,13 +1,23 @@
 -- Filled from its answers by tools/proofkit.py: change those, and fill it again.
-use Rattle.queue.proofs.OwnLaws.{row-new, row-room}
+use Rattle.queue.proofs.OwnLaws.{row-new, row-room, row-unseen}
+use Rattle.queue.specs.Owning.{bitsIn}
 use borrow.Author.Needs.{needs}
+use borrow.Author.Tests.{not-true}
+use lib.ListN.{take}
 use mathlib.Core.Path.{refl}
 use native.Mathlib.Omega.{arith}
 use Rattle.queue.proofs.own.add_row.Statement.{statement}
 use Rattle.queue.proofs.own.add_row.Tie as tie
 use Rattle.queue.proofs.own.add_row.Reads as reads
 use Rattle.queue.proofs.own.add_row.Lts as lts
+use Rattle.queue.proofs.filter.seen.Reads as seen-reads
 use Rattle.queue.proofs.own.settle.Reads as settle-reads
+
+seen-requires : tie.Need-seen-requires
+seen-requires c κs = c .before .before .before .before .pre .6
+
+returns : tie.Need-returns
+returns c = (row-unseen (c .before .before .before .before .before .before .args .s .now) _ (c .before .before .before .before .before .before .args .t .now) (bitsIn (c .before .before .before .before .before .before .args .flags .now)) (take (c .before .before .before .before .before .before .args .k) (c .before .before .before .before .before .before .args .v .now)) (c .before .before .before .before .before .before .args .w) (c .before .before .before .before .before .before .pre .7) (c .before .seen .ensures) (not-true _ (c .if1 .taken)), c .before .before .before .before .before .before .pre .4)
 
 mul-v : tie.Need-mul-v
 mul-v c = search needs
@@ -21,11 +31,11 @@ add-result c = search needs
 same-length : tie.Need-same-length
 same-length c = search needs
 
-returns : tie.Need-returns
-returns c = (row-room (c .before .before .before .before .before .args .s .now) _ (c .before .before .before .before .before .args .flags .now) (c .before .before .before .before .before .args .v .now) (c .before .before .before .before .before .args .k) (c .before .before .before .before .before .args .w) (c .if1 .taken) refl, omega arith)
+returns-2 : tie.Need-returns-2
+returns-2 c = (row-room (c .before .before .before .before .before .before .before .args .s .now) _ (c .before .before .before .before .before .before .before .args .t .now) (bitsIn (c .before .before .before .before .before .before .before .args .flags .now)) (c .before .before .before .before .before .before .before .args .v .now) (c .before .before .before .before .before .before .before .args .k) (c .before .before .before .before .before .before .before .args .w) (c .if2 .taken) refl, omega arith)
 
 settle-requires : tie.Need-settle-requires
-settle-requires c κs = (c .before .before .before .before .before .before .before .pre .0, c .before .before .before .before .before .before .before .pre .1, c .before .before .before .before .before .before .before .pre .2, c .before .before .before .before .before .before .before .pre .3, c .before .before .before .before .before .before .before .pre .4)
+settle-requires c κs = (c .before .before .before .before .before .before .before .before .before .pre .0, c .before .before .before .before .before .before .before .before .before .pre .1, c .before .before .before .before .before .before .before .before .before .pre .2, c .before .before .before .before .before .before .before .before .before .pre .3)
 
 slice-write-v-2 : tie.Need-slice-write-v-2
 slice-write-v-2 c = search needs
@@ -36,20 +46,22 @@ same-length-2 c = search needs
 same-length-3 : tie.Need-same-length-3
 same-length-3 c = search needs
 
-returns-2 : tie.Need-returns-2
-returns-2 c = (row-new (c .before .before .before .before .before .before .before .before .before .before .before .before .args .s .now) _ (c .before .before .before .before .before .before .before .before .before .before .before .before .args .flags .now) (c .before .before .before .before .before .before .before .before .before .before .before .before .args .v .now) (c .before .before .before .before .before .before .before .before .before .before .before .before .args .k) (c .before .before .before .before .before .before .before .before .before .before .before .before .args .w) (omega (arith, c .before .before .before .before .before .before .before .if1 .left)) (c .before .before .before .before .settle .ensures) (omega (arith, c .before .before .before .before .before .before .before .before .before .before .before .before .pre .6)) refl, omega (arith, c .before .before .before .before .before .before .before .before .before .before .before .before .pre .6))
+returns-3 : tie.Need-returns-3
+returns-3 c = (row-new (c .before .before .before .before .before .before .before .before .before .before .before .before .before .before .args .s .now) _ (c .before .before .before .before .before .before .before .before .before .before .before .before .before .before .args .t .now) (bitsIn (c .before .before .before .before .before .before .before .before .before .before .before .before .before .before .args .flags .now)) (c .before .before .before .before .before .before .before .before .before .before .before .before .before .before .args .v .now) (c .before .before .before .before .before .before .before .before .before .before .before .before .before .before .args .k) (c .before .before .before .before .before .before .before .before .before .before .before .before .before .before .args .w) (omega (arith, c .before .before .before .before .before .before .before .if2 .left)) (c .before .before .before .before .settle .ensures) (omega (arith, c .before .before .before .before .before .before .before .before .before .before .before .before .before .before .pre .5)) refl, omega (arith, c .before .before .before .before .before .before .before .before .before .before .before .before .before .before .pre .5))
 
 pub add-row-spec : {M : Type 1} → statement M
 add-row-spec =
     tie.close
     (tie.spec
+    seen-requires
+    returns
     mul-v
     slice-write-v
     add-result
     same-length
-    returns
+    returns-2
     settle-requires
     slice-write-v-2
     same-length-2
     same-length-3
-    returns-2)
+    returns-3)

@@ -3,41 +3,46 @@ use Prim.Native.Nat.{_≤_}
 use Rattle.queue.proofs.OwnLaws.{Adding, add-end, add-go, adding}
 use Rattle.queue.proofs.SuspectLaws.{id-bytes}
 use Rattle.queue.proofs.Turns.{here}
+use Rattle.queue.specs.Filter.{hashL}
 use Rattle.queue.specs.Forms.{formC}
 use Rattle.queue.specs.Frames.{recC}
-use Rattle.queue.specs.Owning.{wantedOf}
+use Rattle.queue.specs.Owning.{bitsIn, wantedOf}
 use Rattle.queue.specs.Reads.{listAt}
 use Rattle.queue.specs.View.{view}
 use borrow.Author.Needs.{needs}
 use lib.ListN.{length, take}
 use mathlib.Core.Bool.{false}
-use mathlib.Core.Path.{_≡_, refl}
+use mathlib.Core.Path.{_∙_, _≡_, ap, refl, sym}
 use native.Mathlib.Omega.{arith}
 use Rattle.queue.proofs.own.add_rows.Statement.{statement}
 use Rattle.queue.proofs.own.add_rows.Tie as tie
 use Rattle.queue.proofs.own.add_rows.Reads as reads
 use Rattle.queue.proofs.own.add_rows.Lts as lts
+use Rattle.queue.proofs.filter.hash.Reads as hash-reads
 use Rattle.queue.proofs.frame.id_read.Reads as id-read-reads
 use Rattle.queue.proofs.own.add_row.Reads as add-row-reads
 use Rattle.queue.proofs.suspects.row_at.Reads as row-at-reads
 
 abbrev Inv-loop : tie.InvT-loop
-Inv-loop s at n ids m v₀ flags₀ k base outs c i₀ left₀ h₀ v flags i left h = Adding s (wantedOf (listAt (formC false recC) n s at)) (view false s base) c outs flags₀ (take k v₀) flags (take h v) i left × (h ≤ length v) × (length v ≡ length v₀) × (length flags ≡ length flags₀)
+Inv-loop s at n v₀ flags₀ t k base outs c i₀ left₀ h₀ v flags i left h = Adding s (wantedOf (listAt (formC false recC) n s at)) t (view false s base) c outs (bitsIn flags₀) (take k v₀) (bitsIn flags) (take h v) i left × (h ≤ length v) × (length v ≡ length v₀) × (length flags ≡ length flags₀)
 
 abbrev μ-loop : tie.MeasureT-loop
-μ-loop s at n ids m v₀ flags₀ k base outs c i₀ left₀ h₀ v flags i left h = left
+μ-loop s at n v₀ flags₀ t k base outs c i₀ left₀ h₀ v flags i left h = left
 
 loop-holds : tie.Need-loop-holds Inv-loop μ-loop
-loop-holds c = (adding _ _ _ _ _ _ _ (c .before .before .before .before .pre .7) (c .before .before .before .before .pre .8), c .before .before .before .before .pre .5, refl, refl)
+loop-holds c = (adding _ _ _ _ _ _ _ _ (c .before .before .before .before .pre .7) (c .before .before .before .before .pre .8), c .before .before .before .before .pre .4, refl, refl)
 
 id-read-requires : tie.Need-id-read-requires Inv-loop μ-loop
 id-read-requires c κs = search needs
 
 row-at-requires : tie.Need-row-at-requires Inv-loop μ-loop
-row-at-requires c κs = (id-bytes (here (c .before .before .loop .inv .0 .scan) (c .before .loop-test .taken) (c .id-read .ensures)) .1, c .before .before .before .before .before .before .before .pre .2, omega arith)
+row-at-requires c κs = (id-bytes (here (c .before .before .before .loop .inv .0 .scan) (c .before .before .loop-test .taken) (c .before .id-read .ensures)) .1, c .before .before .before .before .before .before .before .before .pre .2, omega arith)
+
+hash-requires : tie.Need-hash-requires Inv-loop μ-loop
+hash-requires c κs = search needs
 
 add-row-requires : tie.Need-add-row-requires Inv-loop μ-loop
-add-row-requires c κs = (c .before .before .before .before .before .before .before .before .before .before .pre .0, c .before .before .before .before .before .before .before .before .before .before .pre .1, c .before .before .before .before .before .before .before .before .before .before .pre .2, c .before .before .before .before .before .before .before .before .before .before .pre .3, omega (arith, c .before .before .before .before .before .before .before .before .before .before .pre .4, c .before .before .before .before .before .loop .inv .3), c .before .before .before .before .before .loop .inv .1, omega (arith, c .before .before .before .before .before .before .before .before .before .before .pre .6, c .before .before .before .before .before .loop .inv .2))
+add-row-requires c κs = (c .before .before .before .before .before .before .before .before .before .before .before .before .pre .0, c .before .before .before .before .before .before .before .before .before .before .before .before .pre .1, c .before .before .before .before .before .before .before .before .before .before .before .before .pre .2, (omega (arith, c .before .before .before .before .before .before .before .before .before .before .before .before .pre .3 .0, c .before .before .before .before .before .before .before .loop .inv .3), c .before .before .before .before .before .before .before .before .before .before .before .before .pre .3 .1), c .before .before .before .before .before .before .before .loop .inv .1, omega (arith, c .before .before .before .before .before .before .before .before .before .before .before .before .pre .5, c .before .before .before .before .before .before .before .loop .inv .2), c .before .before .before .before .before .before .before .before .before .before .before .before .pre .6, c .hash .ensures ∙ ap hashL (sym (c .before .before .before .row-at .ensures .0 ∙ id-bytes (here (c .before .before .before .before .before .before .before .loop .inv .0 .scan) (c .before .before .before .before .before .before .loop-test .taken) (c .before .before .before .before .before .id-read .ensures)) .0)))
 
 sub-left : tie.Need-sub-left Inv-loop μ-loop
 sub-left c = search needs
@@ -46,7 +51,7 @@ loop-less : tie.Need-loop-less Inv-loop μ-loop
 loop-less c = search needs
 
 loop-again : tie.Need-loop-again Inv-loop μ-loop
-loop-again c = (add-go _ _ (c .before .before .before .before .before .before .before .before .before .before .loop .inv .0) (c .before .before .before .before .before .before .before .row-at .result) (c .before .before .before .before .before .before .before .before .before .loop-test .taken) (c .before .before .before .before .before .before .before .before .id-read .ensures) (c .before .before .before .before .before .before .before .row-at .ensures .0) (c .before .before .before .before .before .before .before .row-at .ensures .1) (c .before .before .before .before .add-row .ensures .0), omega (arith, c .before .before .before .before .add-row .ensures .1), omega (arith, c .before .before .before .before .before .before .before .before .before .before .loop .inv .2), omega (arith, c .before .before .before .before .before .before .before .before .before .before .loop .inv .3))
+loop-again c = (add-go _ _ _ (c .before .before .before .before .before .before .before .before .before .before .before .before .loop .inv .0) (c .before .before .before .before .before .before .before .before .row-at .result) (c .before .before .before .before .before .before .before .before .before .before .before .loop-test .taken) (c .before .before .before .before .before .before .before .before .before .before .id-read .ensures) (c .before .before .before .before .before .before .before .before .row-at .ensures .0) (c .before .before .before .before .before .before .before .before .row-at .ensures .1) (c .before .before .before .before .add-row .ensures .0), omega (arith, c .before .before .before .before .add-row .ensures .1), omega (arith, c .before .before .before .before .before .before .before .before .before .before .before .before .loop .inv .2), omega (arith, c .before .before .before .before .before .before .before .before .before .before .before .before .loop .inv .3))
 
 same-length : tie.Need-same-length Inv-loop μ-loop
 same-length c = search needs
@@ -55,7 +60,7 @@ same-length-2 : tie.Need-same-length-2 Inv-loop μ-loop
 same-length-2 c = search needs
 
 returns : tie.Need-returns Inv-loop μ-loop
-returns c = (add-end _ _ (c .before .loop .inv .0) (omega arith), omega (arith, c .before .loop .inv .1, c .before .loop .inv .2))
+returns c = (add-end _ _ _ (c .before .loop .inv .0) (omega arith), omega (arith, c .before .loop .inv .1, c .before .loop .inv .2))
 
 pub add-rows-spec : {M : Type 1} → statement M
 add-rows-spec =
@@ -66,6 +71,7 @@ add-rows-spec =
     loop-holds
     id-read-requires
     row-at-requires
+    hash-requires
     add-row-requires
     sub-left
     loop-less

@@ -1,12 +1,13 @@
 -- Filled from its answers by tools/proofkit.py: change those, and fill it again.
-use Prim.Native.Nat.{_+_, _≤_}
+use Prim.Native.Nat.{_+_}
 use Rattle.queue.proofs.OwnLaws.{markR, marks-end, marks-go, marks-room}
 use Rattle.queue.proofs.Turns.{Scan, seen, start}
 use Rattle.queue.specs.Forms.{formC}
 use Rattle.queue.specs.Frames.{recC}
-use Rattle.queue.specs.Owning.{ownF, wantedOf}
+use Rattle.queue.specs.Owning.{bitsIn, wantedOf}
 use Rattle.queue.specs.Reads.{listAt}
-use Rattle.queue.specs.Reopens.{idsAt}
+use Rattle.queue.specs.Suspects.{later}
+use Rattle.queue.specs.paper.Lists.{any?}
 use borrow.Author.Needs.{needs}
 use lib.ListN.{length}
 use mathlib.Core.Bool.{false}
@@ -21,28 +22,28 @@ use Rattle.queue.proofs.frame.rec_at.Reads as rec-at-reads
 use Rattle.queue.proofs.own.mark_ids.Reads as mark-ids-reads
 
 abbrev Inv-loop : tie.InvT-loop
-Inv-loop s at n first ids m v ordered flags₀ i₀ left₀ g₀ flags i left g = Scan (formC false recC) (markR (ownF first (idsAt ids m) s v)) s n at (flags₀, 0) i left (flags, g) × (length flags ≡ length flags₀) × (g + length (wantedOf (listAt (formC false recC) left s i)) ≤ length flags₀)
+Inv-loop s at n v ordered flags₀ i₀ left₀ g₀ flags i left g = Scan (formC false recC) (markR (λ z. any? (later false s z 0) v)) s n at (bitsIn flags₀, 0) i left (bitsIn flags, g) × (length flags ≡ length flags₀) × (g + length (wantedOf (listAt (formC false recC) left s i)) ≡ length (wantedOf (listAt (formC false recC) n s at)))
 
 abbrev μ-loop : tie.MeasureT-loop
-μ-loop s at n first ids m v ordered flags₀ i₀ left₀ g₀ flags i left g = left
+μ-loop s at n v ordered flags₀ i₀ left₀ g₀ flags i left g = left
 
 loop-holds : tie.Need-loop-holds Inv-loop μ-loop
-loop-holds c = (start (formC false recC) _ _ _ _ _ (c .before .before .before .before .pre .0) (c .before .before .before .before .pre .1), refl, omega (arith, c .before .before .before .before .pre .5))
+loop-holds c = (start (formC false recC) _ _ _ _ _ (c .before .before .before .pre .0) (c .before .before .before .pre .1), refl, omega arith)
 
 rec-at-requires : tie.Need-rec-at-requires Inv-loop μ-loop
 rec-at-requires c κs = search needs
 
 mark-ids-requires : tie.Need-mark-ids-requires Inv-loop μ-loop
-mark-ids-requires c κs = let t = seen false (c .before .before .before .before .loop .inv .0) (c .before .before .before .loop-test .taken) (c .before .before .rec-at .ensures) in (t .is .0 .insIn, t .is .0 .insAll, c .before .before .before .before .before .before .before .before .before .pre .2, c .before .before .before .before .before .before .before .before .before .pre .3, c .before .before .before .before .before .before .before .before .before .pre .4, omega (arith, c .before .before .before .before .loop .inv .1, c .before .before .before .before .loop .inv .2, marks-room (ownF (c .before .before .before .before .before .before .before .before .before .args .first) (idsAt (c .before .before .before .before .before .before .before .before .before .args .ids .now) (c .before .before .before .before .before .before .before .before .before .args .m)) (c .before .before .before .before .before .before .before .before .before .args .s .now) (c .before .before .before .before .before .before .before .before .before .args .v .now)) (c .before .before .before .before .loop .inv .0) (c .before .before .before .loop-test .taken) (c .before .before .rec-at .ensures) refl))
+mark-ids-requires c κs = let t = seen false (c .before .before .before .before .loop .inv .0) (c .before .before .before .loop-test .taken) (c .before .before .rec-at .ensures) in (t .is .0 .insIn, t .is .0 .insAll, c .before .before .before .before .before .before .before .before .pre .2, c .before .before .before .before .before .before .before .before .pre .3, (omega (arith, c .before .before .before .before .loop .inv .1, c .before .before .before .before .loop .inv .2, c .before .before .before .before .before .before .before .before .pre .4 .0, marks-room (λ z. any? (later false (c .before .before .before .before .before .before .before .before .args .s .now) z 0) (c .before .before .before .before .before .before .before .before .args .v .now)) (c .before .before .before .before .loop .inv .0) (c .before .before .before .loop-test .taken) (c .before .before .rec-at .ensures) refl), omega (arith, c .before .before .before .before .loop .inv .2, c .before .before .before .before .before .before .before .before .pre .4 .1, marks-room (λ z. any? (later false (c .before .before .before .before .before .before .before .before .args .s .now) z 0) (c .before .before .before .before .before .before .before .before .args .v .now)) (c .before .before .before .before .loop .inv .0) (c .before .before .before .loop-test .taken) (c .before .before .rec-at .ensures) refl)))
 
 add-g : tie.Need-add-g Inv-loop μ-loop
-add-g c = let h = c .before .before .before .before .before .before .before .before .before .before .before .before .good in omega (arith, c .before .before .before .before .before .before .before .loop .inv .1, c .before .before .before .before .before .before .before .loop .inv .2, marks-room (ownF (c .before .before .before .before .before .before .before .before .before .before .before .before .args .first) (idsAt (c .before .before .before .before .before .before .before .before .before .before .before .before .args .ids .now) (c .before .before .before .before .before .before .before .before .before .before .before .before .args .m)) (c .before .before .before .before .before .before .before .before .before .before .before .before .args .s .now) (c .before .before .before .before .before .before .before .before .before .before .before .before .args .v .now)) (c .before .before .before .before .before .before .before .loop .inv .0) (c .before .before .before .before .before .before .loop-test .taken) (c .before .before .before .before .before .rec-at .ensures) refl)
+add-g c = omega (arith, c .before .before .before .before .before .before .before .loop .inv .2, c .before .before .before .before .before .before .before .before .before .before .before .pre .4 .1, marks-room (λ z. any? (later false (c .before .before .before .before .before .before .before .before .before .before .before .args .s .now) z 0) (c .before .before .before .before .before .before .before .before .before .before .before .args .v .now)) (c .before .before .before .before .before .before .before .loop .inv .0) (c .before .before .before .before .before .before .loop-test .taken) (c .before .before .before .before .before .rec-at .ensures) refl)
 
 mark-ids-requires-2 : tie.Need-mark-ids-requires-2 Inv-loop μ-loop
-mark-ids-requires-2 c κs = let t = seen false (c .before .before .before .before .before .before .before .before .loop .inv .0) (c .before .before .before .before .before .before .before .loop-test .taken) (c .before .before .before .before .before .before .rec-at .ensures) in let h = c .before .before .before .before .before .before .before .before .before .before .before .before .before .good in (t .is .0 .readsIn, t .is .0 .readsAll, c .before .before .before .before .before .before .before .before .before .before .before .before .before .pre .2, c .before .before .before .before .before .before .before .before .before .before .before .before .before .pre .3, c .before .before .before .before .before .before .before .before .before .before .before .before .before .pre .4, omega (arith, c .before .before .before .before .before .before .before .before .loop .inv .1, c .before .before .before .before .before .before .before .before .loop .inv .2, marks-room (ownF (c .before .before .before .before .before .before .before .before .before .before .before .before .before .args .first) (idsAt (c .before .before .before .before .before .before .before .before .before .before .before .before .before .args .ids .now) (c .before .before .before .before .before .before .before .before .before .before .before .before .before .args .m)) (c .before .before .before .before .before .before .before .before .before .before .before .before .before .args .s .now) (c .before .before .before .before .before .before .before .before .before .before .before .before .before .args .v .now)) (c .before .before .before .before .before .before .before .before .loop .inv .0) (c .before .before .before .before .before .before .before .loop-test .taken) (c .before .before .before .before .before .before .rec-at .ensures) refl))
+mark-ids-requires-2 c κs = let t = seen false (c .before .before .before .before .before .before .before .before .loop .inv .0) (c .before .before .before .before .before .before .before .loop-test .taken) (c .before .before .before .before .before .before .rec-at .ensures) in (t .is .0 .readsIn, t .is .0 .readsAll, c .before .before .before .before .before .before .before .before .before .before .before .before .pre .2, c .before .before .before .before .before .before .before .before .before .before .before .before .pre .3, (omega (arith, c .before .before .before .before .before .before .before .before .loop .inv .1, c .before .before .before .before .before .before .before .before .loop .inv .2, c .before .before .before .before .before .before .before .before .before .before .before .before .pre .4 .0, marks-room (λ z. any? (later false (c .before .before .before .before .before .before .before .before .before .before .before .before .args .s .now) z 0) (c .before .before .before .before .before .before .before .before .before .before .before .before .args .v .now)) (c .before .before .before .before .before .before .before .before .loop .inv .0) (c .before .before .before .before .before .before .before .loop-test .taken) (c .before .before .before .before .before .before .rec-at .ensures) refl), omega (arith, c .before .before .before .before .before .before .before .before .loop .inv .2, c .before .before .before .before .before .before .before .before .before .before .before .before .pre .4 .1, marks-room (λ z. any? (later false (c .before .before .before .before .before .before .before .before .before .before .before .before .args .s .now) z 0) (c .before .before .before .before .before .before .before .before .before .before .before .before .args .v .now)) (c .before .before .before .before .before .before .before .before .loop .inv .0) (c .before .before .before .before .before .before .before .loop-test .taken) (c .before .before .before .before .before .before .rec-at .ensures) refl)))
 
 add-g-2 : tie.Need-add-g-2 Inv-loop μ-loop
-add-g-2 c = let h = c .before .before .before .before .before .before .before .before .before .before .before .before .before .before .before .before .good in omega (arith, c .before .before .before .before .before .before .before .before .before .before .before .loop .inv .1, c .before .before .before .before .before .before .before .before .before .before .before .loop .inv .2, marks-room (ownF (c .before .before .before .before .before .before .before .before .before .before .before .before .before .before .before .before .args .first) (idsAt (c .before .before .before .before .before .before .before .before .before .before .before .before .before .before .before .before .args .ids .now) (c .before .before .before .before .before .before .before .before .before .before .before .before .before .before .before .before .args .m)) (c .before .before .before .before .before .before .before .before .before .before .before .before .before .before .before .before .args .s .now) (c .before .before .before .before .before .before .before .before .before .before .before .before .before .before .before .before .args .v .now)) (c .before .before .before .before .before .before .before .before .before .before .before .loop .inv .0) (c .before .before .before .before .before .before .before .before .before .before .loop-test .taken) (c .before .before .before .before .before .before .before .before .before .rec-at .ensures) refl)
+add-g-2 c = omega (arith, c .before .before .before .before .before .before .before .before .before .before .before .loop .inv .2, c .before .before .before .before .before .before .before .before .before .before .before .before .before .before .before .pre .4 .1, marks-room (λ z. any? (later false (c .before .before .before .before .before .before .before .before .before .before .before .before .before .before .before .args .s .now) z 0) (c .before .before .before .before .before .before .before .before .before .before .before .before .before .before .before .args .v .now)) (c .before .before .before .before .before .before .before .before .before .before .before .loop .inv .0) (c .before .before .before .before .before .before .before .before .before .before .loop-test .taken) (c .before .before .before .before .before .before .before .before .before .rec-at .ensures) refl)
 
 after-in-requires : tie.Need-after-in-requires Inv-loop μ-loop
 after-in-requires c κs = seen false (c .before .before .before .before .before .before .before .before .before .before .before .loop .inv .0) (c .before .before .before .before .before .before .before .before .before .before .loop-test .taken) (c .before .before .before .before .before .before .before .before .before .rec-at .ensures) .is .1 .within
@@ -54,13 +55,13 @@ loop-less : tie.Need-loop-less Inv-loop μ-loop
 loop-less c = search needs
 
 loop-again : tie.Need-loop-again Inv-loop μ-loop
-loop-again c = (marks-go (ownF (c .before .before .before .before .before .before .before .before .before .before .before .before .before .before .before .before .before .args .first) (idsAt (c .before .before .before .before .before .before .before .before .before .before .before .before .before .before .before .before .before .args .ids .now) (c .before .before .before .before .before .before .before .before .before .before .before .before .before .before .before .before .before .args .m)) (c .before .before .before .before .before .before .before .before .before .before .before .before .before .before .before .before .before .args .s .now) (c .before .before .before .before .before .before .before .before .before .before .before .before .before .before .before .before .before .args .v .now)) (c .before .before .before .before .before .before .before .before .before .before .before .before .loop .inv .0) (c .before .before .before .before .before .before .before .before .before .before .before .loop-test .taken) (c .before .before .before .before .before .before .before .before .before .before .rec-at .ensures) (c .after-in .ensures) (c .before .before .before .before .before .before .before .mark-ids .ensures) (c .before .before .before .mark-ids2 .ensures), omega (arith, c .before .before .before .before .before .before .before .before .before .before .before .before .loop .inv .1), omega (arith, c .before .before .before .before .before .before .before .before .before .before .before .before .loop .inv .2, marks-room (ownF (c .before .before .before .before .before .before .before .before .before .before .before .before .before .before .before .before .before .args .first) (idsAt (c .before .before .before .before .before .before .before .before .before .before .before .before .before .before .before .before .before .args .ids .now) (c .before .before .before .before .before .before .before .before .before .before .before .before .before .before .before .before .before .args .m)) (c .before .before .before .before .before .before .before .before .before .before .before .before .before .before .before .before .before .args .s .now) (c .before .before .before .before .before .before .before .before .before .before .before .before .before .before .before .before .before .args .v .now)) (c .before .before .before .before .before .before .before .before .before .before .before .before .loop .inv .0) (c .before .before .before .before .before .before .before .before .before .before .before .loop-test .taken) (c .before .before .before .before .before .before .before .before .before .before .rec-at .ensures) (c .after-in .ensures)))
+loop-again c = (marks-go (λ z. any? (later false (c .before .before .before .before .before .before .before .before .before .before .before .before .before .before .before .before .args .s .now) z 0) (c .before .before .before .before .before .before .before .before .before .before .before .before .before .before .before .before .args .v .now)) (c .before .before .before .before .before .before .before .before .before .before .before .before .loop .inv .0) (c .before .before .before .before .before .before .before .before .before .before .before .loop-test .taken) (c .before .before .before .before .before .before .before .before .before .before .rec-at .ensures) (c .after-in .ensures) (c .before .before .before .before .before .before .before .mark-ids .ensures) (c .before .before .before .mark-ids2 .ensures), omega (arith, c .before .before .before .before .before .before .before .before .before .before .before .before .loop .inv .1), omega (arith, c .before .before .before .before .before .before .before .before .before .before .before .before .loop .inv .2, marks-room (λ z. any? (later false (c .before .before .before .before .before .before .before .before .before .before .before .before .before .before .before .before .args .s .now) z 0) (c .before .before .before .before .before .before .before .before .before .before .before .before .before .before .before .before .args .v .now)) (c .before .before .before .before .before .before .before .before .before .before .before .before .loop .inv .0) (c .before .before .before .before .before .before .before .before .before .before .before .loop-test .taken) (c .before .before .before .before .before .before .before .before .before .before .rec-at .ensures) (c .after-in .ensures)))
 
 same-length : tie.Need-same-length Inv-loop μ-loop
-same-length c = search needs
+same-length c = c .before .loop .inv .1
 
 returns : tie.Need-returns Inv-loop μ-loop
-returns c = marks-end (ownF (c .before .before .before .before .before .before .args .first) (idsAt (c .before .before .before .before .before .before .args .ids .now) (c .before .before .before .before .before .before .args .m)) (c .before .before .before .before .before .before .args .s .now) (c .before .before .before .before .before .before .args .v .now)) (c .before .loop .inv .0) (omega arith)
+returns c = marks-end (λ z. any? (later false (c .before .before .before .before .before .args .s .now) z 0) (c .before .before .before .before .before .args .v .now)) (c .before .loop .inv .0) (omega arith)
 
 pub mark-all-spec : {M : Type 1} → statement M
 mark-all-spec =

@@ -1,6 +1,5 @@
 -- Filled from its answers by tools/proofkit.py: change those, and fill it again.
 use Rattle.queue.proofs.OwnLaws.{settled}
-use Rattle.queue.specs.Reopens.{idsAt}
 use borrow.Author.Needs.{needs}
 use Rattle.queue.proofs.own.settle.Statement.{statement}
 use Rattle.queue.proofs.own.settle.Tie as tie
@@ -17,7 +16,7 @@ in-order-requires : tie.Need-in-order-requires
 in-order-requires c κs = search needs
 
 mark-all-requires : tie.Need-mark-all-requires
-mark-all-requires c κs = (c .before .before .before .before .before .before .before .before .before .before .before .before .pre .0, c .before .before .before .before .before .before .before .before .before .before .before .before .pre .1, c .before .before .before .before .before .before .before .before .before .before .before .before .pre .2, c .before .before .before .before .before .before .before .before .before .before .before .before .pre .3, c .before .before .in-order .ensures, c .before .before .before .before .before .before .before .before .before .before .before .before .pre .4)
+mark-all-requires c κs = (c .before .before .before .before .before .before .before .before .before .before .before .pre .0, c .before .before .before .before .before .before .before .before .before .before .before .pre .1, c .before .before .before .before .before .before .before .before .before .before .before .pre .2, c .before .before .in-order .ensures, c .before .before .before .before .before .before .before .before .before .before .before .pre .3)
 
 same-length : tie.Need-same-length
 same-length c = search needs
@@ -26,7 +25,7 @@ same-length-2 : tie.Need-same-length-2
 same-length-2 c = search needs
 
 returns : tie.Need-returns
-returns c = settled (c .before .before .before .before .before .before .before .before .before .before .before .before .before .before .before .args .s .now) _ (idsAt (c .before .before .before .before .before .before .before .before .before .before .before .before .before .before .before .args .ids .now) (c .before .before .before .before .before .before .before .before .before .before .before .before .before .before .before .args .m)) _ _ (c .before .before .before .before .before .before .before .before .before .order-rows .ensures) (c .before .before .mark-all .ensures)
+returns c = settled (c .before .before .before .before .before .before .before .before .before .before .before .before .before .before .args .s .now) _ _ _ (c .before .before .before .before .before .before .before .before .before .order-rows .ensures) (c .before .before .mark-all .ensures)
 
 pub settle-spec : {M : Type 1} → statement M
 settle-spec =

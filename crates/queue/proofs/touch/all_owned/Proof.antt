@@ -1,4 +1,5 @@
 -- Filled from its answers by tools/proofkit.py: change those, and fill it again.
+use Rattle.queue.proofs.FlagLaws.{bits-fit}
 use Rattle.queue.proofs.OwnLaws.{owned-by}
 use Rattle.queue.proofs.TouchLaws.{fine-both, fine-not}
 use Rattle.queue.specs.Forms.{formC}
@@ -21,7 +22,7 @@ add-all-set : tie.Need-add-all-set
 add-all-set c = search needs
 
 all-set-requires : tie.Need-all-set-requires
-all-set-requires c κs = c .before .before .before .before .before .before .pre .4 .room (c .before .if1 .taken)
+all-set-requires c κs = (bits-fit (c .before .before .before .before .before .before .args .flags .now) (c .before .before .before .before .before .before .pre .4 .room (c .before .if1 .taken)), c .before .before .before .before .before .before .pre .4 .small)
 
 returns : tie.Need-returns
 returns c = owned-by _ _ (c .before .before .before .before .before .before .before .pre .4) (c .before .before .if1 .taken) (c .all-set .ensures)

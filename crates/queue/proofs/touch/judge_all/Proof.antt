@@ -5,7 +5,7 @@ use Rattle.queue.proofs.TouchLaws.{Judging, judge-end, judge-go, judge-
 use Rattle.queue.proofs.Turns.{seen}
 use Rattle.queue.specs.Forms.{formC}
 use Rattle.queue.specs.Frames.{recC}
-use Rattle.queue.specs.Owning.{FlagsFrom, wantedOf}
+use Rattle.queue.specs.Owning.{FlagsFrom, bitsIn, wantedOf}
 use Rattle.queue.specs.Reads.{listAt}
 use Rattle.queue.specs.Reopens.{idsAt}
 use Rattle.queue.specs.Touching.{appliedIn, ownIds}
@@ -23,7 +23,7 @@ use Rattle.queue.proofs.frame.rec_at.Reads as rec-at-reads
 use Rattle.queue.proofs.touch.touched.Reads as touched-reads
 
 abbrev Inv-loop : tie.InvT-loop
-Inv-loop s at n t b ids quick flags vs₀ i₀ left₀ j₀ g₀ vs i left j g = Judging t (b .caught) (ownIds (idsAt ids (b .available)) (listAt (formC false recC) n s at)) (appliedIn t (b .entries)) s n at (length vs₀) i left j vs × (g + left * 131070 ≤ n * 131070) × (quick ≡ true → FlagsFrom (ownIds (idsAt ids (b .available)) (listAt (formC false recC) n s at)) (wantedOf (listAt (formC false recC) left s i)) flags g)
+Inv-loop s at n t b ids quick flags vs₀ i₀ left₀ j₀ g₀ vs i left j g = Judging t (b .caught) (ownIds (idsAt ids (b .available)) (listAt (formC false recC) n s at)) (appliedIn t (b .entries)) s n at (length vs₀) i left j vs × (g + left * 131070 ≤ n * 131070) × (quick ≡ true → FlagsFrom (ownIds (idsAt ids (b .available)) (listAt (formC false recC) n s at)) (wantedOf (listAt (formC false recC) left s i)) (bitsIn flags) g)
 
 abbrev μ-loop : tie.MeasureT-loop
 μ-loop s at n t b ids quick flags vs₀ i₀ left₀ j₀ g₀ vs i left j g = left
@@ -35,7 +35,7 @@ rec-at-requires : tie.Need-rec-at-requires Inv-loop μ-loop
 rec-at-requires c κs = search needs
 
 touched-requires : tie.Need-touched-requires Inv-loop μ-loop
-touched-requires c κs = (c .before .before .before .before .before .before .before .before .before .pre .0, c .before .before .before .before .before .before .before .before .before .pre .1, (_, judge-seen (c .before .before .before .before .before .before .before .before .before .args .b .entries) (idsAt (c .before .before .before .before .before .before .before .before .before .args .ids .now) (c .before .before .before .before .before .before .before .before .before .args .b .available)) (c .before .before .before .loop .inv .0) (c .before .before .loop-test .taken) (c .before .rec-at .ensures)), c .before .before .before .before .before .before .before .before .before .pre .2, c .before .before .before .before .before .before .before .before .before .pre .3, quick-here (ownIds (idsAt (c .before .before .before .before .before .before .before .before .before .args .ids .now) (c .before .before .before .before .before .before .before .before .before .args .b .available)) (listAt (formC false recC) (c .before .before .before .before .before .before .before .before .before .args .n) (c .before .before .before .before .before .before .before .before .before .args .s .now) (c .before .before .before .before .before .before .before .before .before .args .at))) (c .before .before .before .before .before .before .before .before .before .args .flags .now) (c .before .before .before .loop .g) (c .before .before .before .before .before .before .before .before .before .args .quick) (c .before .before .before .loop .inv .0 .scan) (c .before .before .before .loop .inv .2) (c .before .before .loop-test .taken) (c .before .rec-at .ensures))
+touched-requires c κs = (c .before .before .before .before .before .before .before .before .before .pre .0, c .before .before .before .before .before .before .before .before .before .pre .1, (_, judge-seen (c .before .before .before .before .before .before .before .before .before .args .b .entries) (idsAt (c .before .before .before .before .before .before .before .before .before .args .ids .now) (c .before .before .before .before .before .before .before .before .before .args .b .available)) (c .before .before .before .loop .inv .0) (c .before .before .loop-test .taken) (c .before .rec-at .ensures)), c .before .before .before .before .before .before .before .before .before .pre .2, c .before .before .before .before .before .before .before .before .before .pre .3, quick-here (ownIds (idsAt (c .before .before .before .before .before .before .before .before .before .args .ids .now) (c .before .before .before .before .before .before .before .before .before .args .b .available)) (listAt (formC false recC) (c .before .before .before .before .before .before .before .before .before .args .n) (c .before .before .before .before .before .before .before .before .before .args .s .now) (c .before .before .before .before .before .before .before .before .before .args .at))) (bitsIn (c .before .before .before .before .before .before .before .before .before .args .flags .now)) (c .before .before .before .loop .g) (c .before .before .before .before .before .before .before .before .before .args .quick) (c .before .before .before .loop .inv .0 .scan) (c .before .before .before .loop .inv .2) (c .before .before .loop-test .taken) (c .before .rec-at .ensures) (omega (arith, c .before .before .before .loop .inv .1, c .before .before .loop-test .taken, c .before .before .before .before .before .before .before .before .before .pre .5, seen false (c .before .before .before .loop .inv .0 .scan) (c .before .before .loop-test .taken) (c .before .rec-at .ensures) .is .0 .small .ins, seen false (c .before .before .before .loop .inv .0 .scan) (c .before .before .loop-test .taken) (c .before .rec-at .ensures) .is .0 .small .reads)))
 
 mul-vs : tie.Need-mul-vs Inv-loop μ-loop
 mul-vs c = let h : c .before .before .before .before .loop .j < length (c .before .before .before .before .loop .vs) = omega (arith, c .before .before .before .before .loop .inv .0 .count, c .before .before .before .before .loop .inv .0 .long, c .before .before .before .before .before .before .before .before .before .before .pre .4, c .before .before .before .loop-test .taken) in let g = c .before .before .before .before .before .before .before .before .before .before .good in record { fits = omega (arith, c .before .before .before .before .loop .inv .0 .long) }
@@ -62,7 +62,7 @@ loop-less : tie.Need-loop-less Inv-loop μ-loop
 loop-less c = search needs
 
 loop-again : tie.Need-loop-again Inv-loop μ-loop
-loop-again c = (judge-go (c .before .before .before .before .before .before .before .before .before .before .before .before .args .b .entries) (idsAt (c .before .before .before .before .before .before .before .before .before .before .before .before .args .ids .now) (c .before .before .before .before .before .before .before .before .before .before .before .before .args .b .available)) (c .before .before .before .before .before .before .loop .inv .0) (c .before .before .before .before .before .loop-test .taken) (c .before .before .before .before .rec-at .ensures) (c .before .before .before .before .before .before .before .before .before .before .before .before .pre .4) (c .before .before .touched .ensures) (c .after-in .ensures), omega (arith, c .before .before .before .before .before .before .loop .inv .1, c .before .before .before .before .before .loop-test .taken, seen false (c .before .before .before .before .before .before .loop .inv .0 .scan) (c .before .before .before .before .before .loop-test .taken) (c .before .before .before .before .rec-at .ensures) .is .0 .small .ins, seen false (c .before .before .before .before .before .before .loop .inv .0 .scan) (c .before .before .before .before .before .loop-test .taken) (c .before .before .before .before .rec-at .ensures) .is .0 .small .reads), quick-next (ownIds (idsAt (c .before .before .before .before .before .before .before .before .before .before .before .before .args .ids .now) (c .before .before .before .before .before .before .before .before .before .before .before .before .args .b .available)) (listAt (formC false recC) (c .before .before .before .before .before .before .before .before .before .before .before .before .args .n) (c .before .before .before .before .before .before .before .before .before .before .before .before .args .s .now) (c .before .before .before .before .before .before .before .before .before .before .before .before .args .at))) (c .before .before .before .before .before .before .before .before .before .before .before .before .args .flags .now) (c .before .before .before .before .before .before .loop .g) (c .before .before .before .before .before .before .before .before .before .before .before .before .args .quick) (c .before .before .before .before .before .before .loop .inv .0 .scan) (c .before .before .before .before .before .before .loop .inv .2) (c .before .before .before .before .before .loop-test .taken) (c .before .before .before .before .rec-at .ensures) (c .after-in .ensures))
+loop-again c = (judge-go (c .before .before .before .before .before .before .before .before .before .before .before .before .args .b .entries) (idsAt (c .before .before .before .before .before .before .before .before .before .before .before .before .args .ids .now) (c .before .before .before .before .before .before .before .before .before .before .before .before .args .b .available)) (c .before .before .before .before .before .before .loop .inv .0) (c .before .before .before .before .before .loop-test .taken) (c .before .before .before .before .rec-at .ensures) (c .before .before .before .before .before .before .before .before .before .before .before .before .pre .4) (c .before .before .touched .ensures) (c .after-in .ensures), omega (arith, c .before .before .before .before .before .before .loop .inv .1, c .before .before .before .before .before .loop-test .taken, seen false (c .before .before .before .before .before .before .loop .inv .0 .scan) (c .before .before .before .before .before .loop-test .taken) (c .before .before .before .before .rec-at .ensures) .is .0 .small .ins, seen false (c .before .before .before .before .before .before .loop .inv .0 .scan) (c .before .before .before .before .before .loop-test .taken) (c .before .before .before .before .rec-at .ensures) .is .0 .small .reads), quick-next (ownIds (idsAt (c .before .before .before .before .before .before .before .before .before .before .before .before .args .ids .now) (c .before .before .before .before .before .before .before .before .before .before .before .before .args .b .available)) (listAt (formC false recC) (c .before .before .before .before .before .before .before .before .before .before .before .before .args .n) (c .before .before .before .before .before .before .before .before .before .before .before .before .args .s .now) (c .before .before .before .before .before .before .before .before .before .before .before .before .args .at))) (bitsIn (c .before .before .before .before .before .before .before .before .before .before .before .before .args .flags .now)) (c .before .before .before .before .before .before .loop .g) (c .before .before .before .before .before .before .before .before .before .before .before .before .args .quick) (c .before .before .before .before .before .before .loop .inv .0 .scan) (c .before .before .before .before .before .before .loop .inv .2) (c .before .before .before .before .before .loop-test .taken) (c .before .before .before .before .rec-at .ensures) (c .after-in .ensures))
 
 same-length : tie.Need-same-length Inv-loop μ-loop
 same-length c = c .before .loop .inv .0 .long
