@@ -11,33 +11,33 @@ use lib.Seq.{take-at, length-take-le}
 use borrow.Author.Tests.{lt-ltb, le-ltb, eq-eqb, ne-eqb}
 use Rattle.queue.specs.declared.Kind.the-variants.{Nothing}
 use Rattle.queue.specs.declared.Answer.the-variants.{Refused, Done}
-use Rattle.queue.specs.declared.rules.Query.the-variants.{Holders}
-use Rattle.queue.specs.declared.frame.Form.{Form}
-use Rattle.queue.specs.declared.frame.Facts.{Facts}
-use Rattle.queue.specs.declared.frame.HeadR.{HeadR}
-use Rattle.queue.specs.declared.frame.Seen.{Seen}
-use Rattle.queue.specs.declared.area.Open.{Open}
-use Rattle.queue.specs.declared.limits.Limits as code
+use Rattle.queue.specs.declared.check.rules.Query.the-variants.{Holders}
+use Rattle.queue.specs.declared.layout.frame.Form.{Form}
+use Rattle.queue.specs.declared.layout.frame.Facts.{Facts}
+use Rattle.queue.specs.declared.layout.frame.HeadR.{HeadR}
+use Rattle.queue.specs.declared.layout.frame.Seen.{Seen}
+use Rattle.queue.specs.declared.check.area.Open.{Open}
+use Rattle.queue.specs.declared.layout.limits.Limits as code
 use Rattle.queue.specs.Codec as codec
 use Rattle.queue.specs.Codec.{beC, byteC, pairC, mapC, vecC, countedC, encs, cases}
-use Rattle.queue.specs.Choice.{fixC, thenC}
-use Rattle.queue.specs.Frames.{Head, idC, low32, readsEnc, signedEnc, fourC, sixteenC, limitsK, headK, recK, sharesC}
-use Rattle.queue.specs.Reads.{whole, listAt}
-use Rattle.queue.specs.ReadLaws.{false-true, Turn, none-left}
-use Rattle.queue.specs.View.{view}
+use Rattle.queue.specs.layout.Choice.{fixC, thenC}
+use Rattle.queue.specs.layout.FrameCodec.{Head, idC, low32, readsEnc, signedEnc, fourC, sixteenC, limitsK, headK, recK, sharesC}
+use Rattle.queue.specs.bytes.ReaderAs.{whole, listAt}
+use Rattle.queue.specs.bytes.ReaderLaws.{false-true, Turn, none-left}
+use Rattle.queue.specs.bytes.ViewAs.{view}
 use Rattle.queue.specs.Hex.{digOf, textOf, text-append}
-use Rattle.queue.specs.Splice.{be, Put}
-use Rattle.queue.specs.Forms.{formC, lineEnc, afterIn, Framed, Store, headFor, headIn, recIn, storeIn, textForm, line-length, storeOf, image-enc, ok-store, ok-queue, turn-in, lines-length, queueC, areaForm}
-use Rattle.queue.specs.Facts.{factsOf, limitsIn, LimitsFit, SeenUnder, HeadUnder}
-use Rattle.queue.specs.Kinds.{narrow-enc, rec-enc, recFore, recMid, headTail, head-first}
+use Rattle.queue.specs.bytes.PutAs.{beLast, Put}
+use Rattle.queue.specs.layout.FormsCodec.{formC, lineEnc, afterIn, Framed, Store, headFor, headIn, recIn, storeIn, textForm, line-length, storeOf, image-enc, ok-store, ok-queue, turn-in, lines-length, queueC, areaForm}
+use Rattle.queue.specs.layout.FrameAs.{factsOf, limitsIn, LimitsFit, SeenUnder, HeadUnder}
+use Rattle.queue.specs.theorems.OlderKinds.{narrow-enc, rec-enc, recFore, recMid, headTail, head-first}
 use Rattle.queue.specs.Areas.{kindOf, image}
-use Rattle.queue.specs.Bound.{reads-told}
-use Rattle.queue.specs.Rules.{sum, weight}
-use Rattle.queue.specs.Opens.{StoreAs}
-use Rattle.queue.specs.Order.{same-is, same-self}
+use Rattle.queue.specs.theorems.Bound.{reads-told}
+use Rattle.queue.specs.check.RulesAs.{sum, weight}
+use Rattle.queue.specs.check.AreaAs.{StoreAs}
+use Rattle.queue.specs.bytes.OrderLaws.{same-is, same-self}
 use Rattle.queue.specs.Lists.{and-true}
-use Rattle.queue.specs.Plain.{bytes-plain, shares-plain, image-plain}
-use Rattle.queue.specs.Shares.{shares-long}
+use Rattle.queue.specs.theorems.Plain.{bytes-plain, shares-plain, image-plain}
+use Rattle.queue.specs.layout.LimitsAs.{shares-long}
 use Rattle.queue.specs.paper.Records.{Bytes, Limits, Held, Rec, Queue}
 use Rattle.queue.specs.paper.Lists.{isSome, isEmpty?, one, all?}
 use Rattle.queue.specs.paper.Ids.{same?}
@@ -45,11 +45,11 @@ use Rattle.queue.specs.paper.Kinds.{newest, oldest, fits32?, markSaid?, callerS
 use Rattle.queue.specs.paper.Sound.{reads, content}
 use Rattle.queue.specs.paper.Calls.{numbers}
 use Rattle.queue.specs.paper.Area.{sharesBytes, imageUnder, over}
-use Rattle.queue.proofs.ShareLaws.{shares-bytes, shares-first}
-use Rattle.queue.proofs.Turns.{SeenForm, ReadsForm}
+use Rattle.queue.proofs.layout.LimitsLaws.{shares-bytes, shares-first}
+use Rattle.queue.proofs.layout.TurnLaws.{SeenForm, ReadsForm}
 use Rattle.image.specs.declared.text.Text.{Text}
 use Rattle.image.specs.declared.back.Cut.{Cut}
-use Rattle.image.specs.Texts.{TextIs, priorityFrom, saidF, storeSaid, CutIn, CutAt, Told, SaidIs, OldRecRoom, OldRoom, OldPut, OldLen, OldRecPut}
+use Rattle.image.specs.ImageAs.{TextIs, priorityFrom, saidF, storeSaid, CutIn, CutAt, Told, SaidIs, OldRecRoom, OldRoom, OldPut, OldLen, OldRecPut}
 use Rattle.image.specs.paper.Image.{readNewest, convertOf}
 use Rattle.image.proofs.ImageLaws.{slice, slice-end, be-size, front-long, fore-long, empty-ids, tail-parts, Turning, turn-here, turn-room, turn-on, put-over}
 
@@ -99,7 +99,7 @@ module _ (s : Bytes) (n at : ℕ) where
   saying-end {i} {left} x z = sym (ap (all? (recSaid? oldest)) (none-left (recIn (textForm newest)) s left i z .0)) ∙ x .is
 
 -- ---- the shares
-pub first-said : (l : code.Limits) {d′ : Bytes} {o : ℕ} {b : Bool} → LimitsFit l → Put (replicate 64 0) 0 (be 4 (l .p)) 4 o d′ → b ≡ same? (l .shares) d′ → b ≡ sharesSaid? oldest (limitsIn l)
+pub first-said : (l : code.Limits) {d′ : Bytes} {o : ℕ} {b : Bool} → LimitsFit l → Put (replicate 64 0) 0 (beLast 4 (l .p)) 4 o d′ → b ≡ same? (l .shares) d′ → b ≡ sharesSaid? oldest (limitsIn l)
 first-said l {d′} {o} {b} f y e =
     let u = shares-first (f .p) y in
     e ∙ cases (same? (l .shares) d′)

@@ -11,43 +11,44 @@ use lib.Seq.{take-at, drop-at, drop-drop, length-take-le}
 use borrow.Author.Tests.{lt-ltb, le-ltb, le-leb, leb-true, eq-eqb, ne-eqb}
 use Rattle.queue.specs.declared.Kind.the-variants.{Nothing}
 use Rattle.queue.specs.declared.Answer.the-variants.{Refused, Done}
-use Rattle.queue.specs.declared.frame.Form.{Form}
-use Rattle.queue.specs.declared.frame.HeadR.{HeadR}
-use Rattle.queue.specs.declared.frame.Seen.{Seen}
-use Rattle.queue.specs.declared.area.Open.{Open}
-use Rattle.queue.specs.declared.area.Area.{Area}
+use Rattle.queue.specs.declared.layout.frame.Form.{Form}
+use Rattle.queue.specs.declared.layout.frame.HeadR.{HeadR}
+use Rattle.queue.specs.declared.layout.frame.Seen.{Seen}
+use Rattle.queue.specs.declared.check.area.Open.{Open}
+use Rattle.queue.specs.declared.check.area.Area.{Area}
 use Rattle.queue.specs.Codec as codec
 use Rattle.queue.specs.Codec.{Got, fail, got, Codec, beC, pairC, mapC, optEnc, optC, vecC, countedC, encs, decs, vec-bwd}
-use Rattle.queue.specs.Choice.{fixC, pickC, sinceC}
-use Rattle.queue.specs.Frames.{Head, idC, idsC, low32, narrowC, priorityC, readsEnc, signedEnc, limitsC, headK, headC, recK, recC}
-use Rattle.queue.specs.Reads.{Reads, whole, listAt, behind, isGot, valOf, restOf}
-use Rattle.queue.specs.ReadLaws.{false-true, Turn, none-left, spans-id}
-use Rattle.queue.specs.View.{view, view-raw}
+use Rattle.queue.specs.layout.Choice.{fixC, pickC, sinceC}
+use Rattle.queue.specs.layout.FrameCodec.{Head, idC, idsC, low32, narrowC, priorityC, readsEnc, signedEnc, limitsC, headK, headC, recK, recC}
+use Rattle.queue.specs.bytes.ReaderAs.{Reads, whole, listAt, behind, isGot, valOf, restOf}
+use Rattle.queue.specs.bytes.ReaderLaws.{false-true, Turn, none-left, spans-id}
+use Rattle.queue.specs.bytes.ViewAs.{view, view-raw}
 use Rattle.queue.specs.Hex.{text-length}
-use Rattle.queue.specs.Splice.{splice, be, Put}
-use Rattle.queue.specs.Forms.{formC, lineEnc, afterIn, Framed, turn-in, Store, headFor, headIn, recIn, storeIn, areaForm, textForm, framesC, framesEnc, store-length, storeOf, queueWith, queueC, form-raw, ok-queue}
-use Rattle.queue.specs.Facts.{factsOf, limitsIn, limitsLen, SeenUnder, HeadUnder}
-use Rattle.queue.specs.Kinds.{narrow-enc, rec-enc, recFore, recMid, body-said, headTail, head-first}
+use Rattle.queue.specs.bytes.PutAs.{splice, beLast, Put}
+use Rattle.queue.specs.layout.FormsCodec.{formC, lineEnc, afterIn, Framed, turn-in, Store, headFor, headIn, recIn, storeIn, areaForm, textForm, framesC, framesEnc, store-length, storeOf, queueWith, queueC, form-raw, ok-queue}
+use Rattle.queue.specs.layout.FrameAs.{factsOf, limitsIn, limitsLen, SeenUnder, HeadUnder}
+use Rattle.queue.specs.theorems.OlderKinds.{narrow-enc, rec-enc, recFore, recMid, body-said, headTail, head-first}
 use Rattle.queue.specs.Areas.{kindOf, readImage, layout, image, image-found, image-none, image-unknown}
-use Rattle.queue.specs.Opens.{needMost, limits, StoreAs, soundL, sound-list, AreaAs, AreaIs}
-use Rattle.queue.specs.Plain.{area-plain, image-plain}
-use Rattle.queue.specs.Bound.{fits-need, area-size, reads-image}
+use Rattle.queue.specs.check.AreaAs.{limits, StoreAs, soundL, sound-list, AreaAs, AreaIs}
+use Rattle.queue.specs.theorems.Plain.{area-plain, image-plain}
+use Rattle.queue.specs.theorems.Bound.{fits-need, area-size, reads-image}
 use Rattle.queue.specs.paper.Records.{Bytes, Id, Limits, Held, Rec, Queue}
 use Rattle.queue.specs.paper.Lists.{isSome, isEmpty?, maybe}
-use Rattle.queue.specs.declared.frame.Facts.{Facts}
+use Rattle.queue.specs.declared.layout.frame.Facts.{Facts}
 use Rattle.queue.specs.paper.Kinds.{newest, kind?, hasCallers, hasReads, hasWide, readsSaid?}
 use Rattle.queue.specs.paper.Sound.{need, inRange, sound?}
 use Rattle.queue.specs.paper.Area.{areaBytes, sharesBytes, line, imageBytes, over}
 use Rattle.queue.specs.paper.Calls.{limitsOf}
 use Rattle.queue.specs.Checked.{written}
-use Rattle.queue.proofs.PutLaws.{splice-is, then, kept, recast, sized, Left, begun, onward, done}
-use Rattle.queue.proofs.ByteLaws.{be-same, between}
-use Rattle.queue.proofs.ShareLaws.{sixteen, shares-bytes}
-use Rattle.queue.proofs.WriteLaws.{limits-long}
-use Rattle.queue.proofs.Turns.{SeenForm, ReadsForm}
+use Rattle.queue.proofs.bytes.PutLaws.{splice-is, then, kept, recast, sized, Left, begun, onward, done}
+use Rattle.queue.proofs.bytes.PutByteLaws.{be-same, between}
+use Rattle.queue.proofs.layout.LimitsLaws.{sixteen, shares-bytes}
+use Rattle.queue.proofs.change.WriteLaws.{limits-long}
+use Rattle.queue.proofs.layout.TurnLaws.{SeenForm, ReadsForm}
 use Rattle.image.specs.declared.text.Text.{Text}
-use Rattle.image.specs.Texts.{TextAs, TextIs, callerEnd, priorityFrom, recBack, StoreRoom, StorePut, AreaHeld, ImageLen, AreaRoom, AreaPut}
+use Rattle.image.specs.ImageAs.{TextAs, TextIs, callerEnd, priorityFrom, recBack, StoreRoom, StorePut, AreaHeld, ImageLen, AreaRoom, AreaPut}
 use Rattle.image.specs.paper.Image.{imageOf, openOf, Five, needOf, imageLimitsOf}
+use Rattle.queue.specs.layout.LimitsAs.{needMost}
 
 -- ---- a text
 pub kind-is : {k : ℕ} (s : Bytes) → k ≡ getD (view true s 0) 0 0 → k ≡ kindOf s
@@ -316,12 +317,12 @@ module _ (form : Form) {s : Bytes} {base : ℕ} {x : Seen} {r : Rec} (w : SeenUn
     the-back : (take (x .size - (pr + 4)) (drop (pr + 4) seen) ≡ back (form .kind)) × (pr + 4 + length (back (form .kind)) ≡ x .size)
     the-back = back-here 4 narrow-long
 
-    the-priority : codec.be 8 (r .terms .priority) ≡ be 8 (x .facts .priority)
+    the-priority : codec.be 8 (r .terms .priority) ≡ beLast 8 (x .facts .priority)
     unfolding factsOf
     the-priority = ap (codec.be 8) (sym (ap (λ (y : Facts). y .priority) (w .facts))) ∙ sym (be-same 8 (x .facts .priority) (w .small .priority))
 
     -- its lead, what stands before the priority, this, and what stands behind it
-    pub narrow-enc-is : recIn areaForm .enc r ≡ (((front ++ caller) ++ take (pr - ce) (drop ce seen)) ++ be 8 (x .facts .priority)) ++ back newest
+    pub narrow-enc-is : recIn areaForm .enc r ≡ (((front ++ caller) ++ take (pr - ce) (drop ce seen)) ++ beLast 8 (x .facts .priority)) ++ back newest
     unfolding formC beC
     narrow-enc-is = rec-enc newest r ∙ join front caller (recFore r) (codec.be 8 (r .terms .priority)) (back newest) (sym (fore-here .0)) the-priority
       where
@@ -336,8 +337,8 @@ module _ (form : Form) {s : Bytes} {base : ℕ} {x : Seen} {r : Rec} (w : SeenUn
         let a = length-take-le (pr - ce) (drop ce seen) (omega (arith, narrow-in .0, narrow-in .1, narrow-in .2, length-drop ce seen)) in
         let b = front-long in
         let c = caller-long in
-        let d : length (be 8 (x .facts .priority)) ≡ 8 = refl in
-        ap length narrow-enc-is ∙ sizes front caller (take (pr - ce) (drop ce seen)) (be 8 (x .facts .priority)) (back newest) ∙ omega arith
+        let d : length (beLast 8 (x .facts .priority)) ≡ 8 = refl in
+        ap length narrow-enc-is ∙ sizes front caller (take (pr - ce) (drop ce seen)) (beLast 8 (x .facts .priority)) (back newest) ∙ omega arith
       where
         sizes : (a b m d z : Bytes) → length ((((a ++ b) ++ m) ++ d) ++ z) ≡ length a + length b + length m + length d + length z
         sizes a b m d z = simp length-append
@@ -599,16 +600,16 @@ module _ {s : Bytes} {t : Text} {q : Queue} (w : TextAs s t q) where
   cursor-is : t .open .head .cursor .0 ≡ q .persisted
   cursor-is = sym (w .store .head .cursor) ∙ sym (w .level)
 
-  head-is : be 4 (t .open .head .cursor .0) ≡ codec.be 4 (q .persisted)
+  head-is : beLast 4 (t .open .head .cursor .0) ≡ codec.be 4 (q .persisted)
   head-is = rw cursor-is (be-same 4 (q .persisted) (ok-queue q (w .range) .0))
 
-  pub area-put : {d d′ d″ d‴ : Bytes} {a e r : ℕ} → Put d 0 (be 4 (t .open .head .cursor .0)) 4 a d′ → StorePut (t .form) areaForm s 0 (t .open) d′ a e d″ → Put d″ e (replicate (t .need - e) 0) (t .need - e) r d‴
+  pub area-put : {d d′ d″ d‴ : Bytes} {a e r : ℕ} → Put d 0 (beLast 4 (t .open .head .cursor .0)) 4 a d′ → StorePut (t .form) areaForm s 0 (t .open) d′ a e d″ → Put d″ e (replicate (t .need - e) 0) (t .need - e) r d‴
       → Put d 0 (areaBytes q) (need (q .limits)) r d‴
   unfolding layout
   area-put {e = e} p k z =
       let u = k (storeOf q) (w .store) in
       let n : e ≡ length (queueC .enc q) = omega (arith, queue-length, p .next, u .next) in
-      let b : be 4 (t .open .head .cursor .0) ++ storeIn areaForm .enc (storeOf q) ≡ queueC .enc q = ap (λ (y : Bytes). y ++ storeIn areaForm .enc (storeOf q)) head-is ∙ sym queue-parts in
+      let b : beLast 4 (t .open .head .cursor .0) ++ storeIn areaForm .enc (storeOf q) ≡ queueC .enc q = ap (λ (y : Bytes). y ++ storeIn areaForm .enc (storeOf q)) head-is ∙ sym queue-parts in
       let f : t .need - e ≡ need (q .limits) - length (queueC .enc q) = rw (n, w .need) in
       recast (then (then p u) z)
       (ap (λ (y : Bytes). y ++ replicate (t .need - e) 0) b ∙ ap (λ (m : ℕ). queueC .enc q ++ replicate m 0) f ∙ area-plain q)

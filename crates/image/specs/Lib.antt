@@ -1,3 +1,3 @@
 pub mod paper
-pub mod Texts
+pub mod ImageAs
 pub mod WayBack

@@ -13,18 +13,18 @@ use Rattle.queue.specs.declared.Answer.{Answer}
 use Rattle.queue.specs.declared.Kind.the-variants.{Nothing}
 use Rattle.queue.specs.declared.Answer.the-variants.{Refused, Done}
 use Rattle.queue.specs.Codec.{Codec, All, cases, cond-cases, byteC, be, beC, pairC, mapC, optC, vecC, countedC}
-use Rattle.queue.specs.Choice.{thenC}
-use Rattle.queue.specs.Frames.{idC, labelC, low32, widen-low, low-widen, termsK, placeC, heldK, bodyK, bodyC, fourC, limitsK, headK}
-use Rattle.queue.specs.Forms.{areaForm, storeOf, queueC, ok-store, ok-queue}
-use Rattle.queue.specs.Plain.{image-plain}
+use Rattle.queue.specs.layout.Choice.{thenC}
+use Rattle.queue.specs.layout.FrameCodec.{idC, labelC, low32, widen-low, low-widen, termsK, placeC, heldK, bodyK, bodyC, fourC, limitsK, headK}
+use Rattle.queue.specs.layout.FormsCodec.{areaForm, storeOf, queueC, ok-store, ok-queue}
+use Rattle.queue.specs.theorems.Plain.{image-plain}
 use Rattle.queue.specs.Areas.{kindOf, readImage, shows-kind}
-use Rattle.queue.specs.Bound.{image-reads, reads-image}
-use Rattle.queue.specs.Kinds.{newest-says}
-use Rattle.queue.specs.Sounds.{Fields, sound-of, Fit, fit-of, fit-ok}
-use Rattle.queue.specs.ListLaws.{map-length}
+use Rattle.queue.specs.theorems.Bound.{image-reads, reads-image}
+use Rattle.queue.specs.theorems.OlderKinds.{newest-says}
+use Rattle.queue.specs.theorems.SoundParts.{Fields, sound-of, Fit, fit-of, fit-ok}
+use Rattle.queue.specs.bytes.ListLaws.{map-length}
 use Rattle.queue.specs.Lists.{and-true, and-both}
-use Rattle.queue.specs.ReadLaws.{false-true}
-use Rattle.queue.specs.Order.{same-is, same-self}
+use Rattle.queue.specs.bytes.ReaderLaws.{false-true}
+use Rattle.queue.specs.bytes.OrderLaws.{same-is, same-self}
 use Rattle.queue.specs.paper.Base as base
 use Rattle.queue.specs.paper.Records.{Bytes, Id, Limits, Terms, Held, Rec, Queue}
 use Rattle.queue.specs.paper.Lists.{maybe, isSome, isEmpty?, one, all?, any?, total, count, map, concat}

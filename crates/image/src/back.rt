@@ -1,34 +1,34 @@
 // The way back: the image of kind 01 of a queue whose image of the newest kind a text is.
 use super::frames::priority_from;
 use super::frames::when;
-use queue::area::Open;
-use queue::forms::after_in;
-use queue::frame::Facts;
-use queue::frame::Form;
-use queue::frame::HeadR;
-use queue::frame::NEWEST;
-use queue::frame::Seen;
-use queue::frame::rec_in;
-use queue::limits::Limits;
-use queue::logic::all4;
-use queue::logic::both;
-use queue::logic::either;
-use queue::put::copy_text;
-use queue::put::put_be;
-use queue::put::put_u8;
+use queue::bytes::logic::all4;
+use queue::bytes::logic::both;
+use queue::bytes::logic::either;
+use queue::bytes::put::copy_text;
+use queue::bytes::put::put_be;
+use queue::bytes::put::put_u8;
+use queue::check::area::Open;
+use queue::layout::forms::after_in;
+use queue::layout::frame::Facts;
+use queue::layout::frame::Form;
+use queue::layout::frame::HeadR;
+use queue::layout::frame::NEWEST;
+use queue::layout::frame::Seen;
+use queue::layout::frame::rec_in;
+use queue::layout::limits::Limits;
 ghost use mathlib.Core.Path.{_≡_};
 ghost use mathlib.Core.Bool.{true};
 ghost use Prim.Native.Nat.{_+_, _*_, _≤_};
 ghost use lib.ListN.{length};
 ghost use Rattle.queue.specs.Codec.{encs};
-ghost use Rattle.queue.specs.Facts.{limitsIn, LimitsFit};
-ghost use Rattle.queue.specs.Forms.{recIn, textForm};
-ghost use Rattle.queue.specs.Reads.{whole, listAt};
-ghost use Rattle.queue.specs.Splice.{Put};
+ghost use Rattle.queue.specs.layout.FrameAs.{limitsIn, LimitsFit};
+ghost use Rattle.queue.specs.layout.FormsCodec.{recIn, textForm};
+ghost use Rattle.queue.specs.bytes.ReaderAs.{whole, listAt};
+ghost use Rattle.queue.specs.bytes.PutAs.{Put};
 ghost use Rattle.queue.specs.paper.Ids.{same?};
 ghost use Rattle.queue.specs.paper.Kinds.{newest, oldest, recSaid?, sharesSaid?};
 ghost use Rattle.queue.specs.paper.Lists.{all?};
-ghost use Rattle.image.specs.Texts.{saidF, OldHeadRoom, OldHeadPut, CutIn, CutAt, OldRecRoom, OldRecPut, OldRoom, OldPut, Told, SaidIs, OldLen};
+ghost use Rattle.image.specs.ImageAs.{saidF, OldHeadRoom, OldHeadPut, CutIn, CutAt, OldRecRoom, OldRecPut, OldRoom, OldPut, Told, SaidIs, OldLen};
 
 // The frames of a text of the newest kind.
 const TEXT: Form = Form {

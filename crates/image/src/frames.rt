@@ -1,33 +1,33 @@
 // The frames of a queue in the other form: those of an area as lines of text, those of a text, under whatever kind, as an area's.
-use queue::area::Open;
-use queue::forms::after_in;
-use queue::frame::CALLERS;
-use queue::frame::Facts;
-use queue::frame::Form;
-use queue::frame::HeadR;
-use queue::frame::NEWEST;
-use queue::frame::READS;
-use queue::frame::Seen;
-use queue::frame::WIDE;
-use queue::frame::rec_at;
-use queue::frame::rec_in;
-use queue::head::put_limits;
-use queue::put::copy_view;
-use queue::put::put_be;
-use queue::put::put_text;
-use queue::put::put_u8;
+use queue::bytes::put::copy_view;
+use queue::bytes::put::put_be;
+use queue::bytes::put::put_text;
+use queue::bytes::put::put_u8;
+use queue::check::area::Open;
+use queue::layout::forms::after_in;
+use queue::layout::frame::CALLERS;
+use queue::layout::frame::Facts;
+use queue::layout::frame::Form;
+use queue::layout::frame::HeadR;
+use queue::layout::frame::NEWEST;
+use queue::layout::frame::READS;
+use queue::layout::frame::Seen;
+use queue::layout::frame::WIDE;
+use queue::layout::frame::rec_at;
+use queue::layout::frame::rec_in;
+use queue::layout::head::put_limits;
 ghost use mathlib.Core.Path.{_≡_};
 ghost use mathlib.Core.Bool.{true, cond};
 ghost use mathlib.Core.List.{[], _∷_};
 ghost use Prim.Native.Nat.{_+_, _*_, _≤_};
 ghost use lib.ListN.{length, take, drop};
 ghost use Rattle.queue.specs.Codec.{encs};
-ghost use Rattle.queue.specs.Forms.{recIn, areaForm, textForm};
-ghost use Rattle.queue.specs.Reads.{whole, listAt};
-ghost use Rattle.queue.specs.Splice.{Put};
+ghost use Rattle.queue.specs.layout.FormsCodec.{recIn, areaForm, textForm};
+ghost use Rattle.queue.specs.bytes.ReaderAs.{whole, listAt};
+ghost use Rattle.queue.specs.bytes.PutAs.{Put};
 ghost use Rattle.queue.specs.paper.Area.{line};
 ghost use Rattle.queue.specs.paper.Kinds.{newest};
-ghost use Rattle.image.specs.Texts.{HeadRoom, HeadPut, callerEnd, priorityFrom, RecRoom, LeadPut, BackRoom, BackPut, RecPut, StoreRoom, StorePut};
+ghost use Rattle.image.specs.ImageAs.{HeadRoom, HeadPut, callerEnd, priorityFrom, RecRoom, LeadPut, BackRoom, BackPut, RecPut, StoreRoom, StorePut};
 
 // The frame of n bytes at base as a line.
 fn put_line(s: &[u8], base: usize, n: usize, dst: &mut [u8], at: usize) -> usize

@@ -1,13 +1,13 @@
 // A queue found in the text of an image.
-use queue::area::Open;
-use queue::area::no_store;
-use queue::area::sound_at;
-use queue::area::store_at;
-use queue::frame::Form;
-use queue::frame::kind_at;
-use queue::frame::known;
-use queue::limits::Limits;
-ghost use Rattle.image.specs.Texts.{TextIs};
+use queue::check::area::Open;
+use queue::check::area::no_store;
+use queue::check::area::sound_at;
+use queue::check::area::store_at;
+use queue::layout::frame::Form;
+use queue::layout::frame::kind_at;
+use queue::layout::frame::known;
+use queue::layout::limits::Limits;
+ghost use Rattle.image.specs.ImageAs.{TextIs};
 
 // ok says that the text is the image of a sound queue, form how it stands there, need how long an area that queue needs.
 pub struct Text {

@@ -9,11 +9,11 @@ use Rattle.queue.specs.declared.Kind.{Kind}
 use Rattle.queue.specs.declared.Kind.the-variants.{Nothing}
 use Rattle.queue.specs.declared.Answer.{Answer}
 use Rattle.queue.specs.declared.Answer.the-variants.{Refused, Done}
-use Rattle.queue.specs.declared.area.Area.{Area}
-use Rattle.queue.specs.declared.reading.Place.{Place}
+use Rattle.queue.specs.declared.check.area.Area.{Area}
+use Rattle.queue.specs.declared.read.reading.Place.{Place}
 use Rattle.queue.specs.Areas.{readArea}
-use Rattle.queue.specs.Opens.{AreaIs}
-use Rattle.queue.specs.ReadingAs.{PlaceAs}
+use Rattle.queue.specs.check.AreaAs.{AreaIs}
+use Rattle.queue.specs.read.ReadingAs.{SignedAs}
 use Rattle.queue.specs.paper.Records.{Bytes}
 use Rattle.queue.specs.paper.Calls.{number, kindNumber, gives, soundOf, signedBytesOf}
 
@@ -25,7 +25,7 @@ pub sound-no : {s : Bytes} {x : Area} → AreaIs s x → x .ok ≡ false → Ref
 unfolding soundOf
 sound-no i t = rw (i .bad t)
 
-module _ {s id : Bytes} {x : Place} (w : PlaceAs s id x) where
+module _ {s id : Bytes} {x : Place} (w : SignedAs s id x) where
   pub place-refused : (start size : ℕ) {n : ℕ} → x .answer ≡ Refused n → (n, (start, size)) ≡ gives (signedBytesOf s id (start, size))
   place-refused start size {n} e = ap gives (w .refused n (start, size) e .1)
 

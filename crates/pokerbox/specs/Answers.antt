@@ -11,13 +11,13 @@ use Rattle.queue.specs.declared.Kind.the-variants.{Nothing, Memory, Whole, Curs
 use Rattle.queue.specs.declared.Answer.{Answer}
 use Rattle.queue.specs.declared.Answer.the-variants.{Refused, Done}
 use Rattle.queue.specs.Codec.{cases}
-use Rattle.queue.specs.ReadLaws.{false-true}
+use Rattle.queue.specs.bytes.ReaderLaws.{false-true}
 use Rattle.queue.specs.Areas.{readArea}
-use Rattle.queue.specs.Sounds.{Fit}
-use Rattle.queue.specs.Keeps.{Kept, Leaves, Wholly, setCursor-leaves, cancel-leaves, expire-leaves, reopen-leaves, cancel-wholly, expire-wholly, reopen-wholly}
-use Rattle.queue.specs.Admits.{admit-leaves, admit-wholly}
-use Rattle.queue.specs.Reconciles.{reconcile-leaves, Near, reconcile-near, reconcileTo}
-use Rattle.queue.specs.Arguments.{AdmitLent, admission-ok, ReconcileLent, reconciling-ok, given-id}
+use Rattle.queue.specs.theorems.SoundParts.{Fit}
+use Rattle.queue.specs.theorems.CallsKeeps.{Kept, Leaves, Wholly, setCursor-leaves, cancel-leaves, expire-leaves, reopen-leaves, cancel-wholly, expire-wholly, reopen-wholly}
+use Rattle.queue.specs.theorems.AdmitKeeps.{admit-leaves, admit-wholly}
+use Rattle.queue.specs.theorems.ReconcileKeeps.{reconcile-leaves, CursorNear, reconcile-near, reconcileTo}
+use Rattle.queue.specs.theorems.Arguments.{AdmitLent, admission-ok, ReconcileLent, reconciling-ok, given-id}
 use Rattle.queue.specs.paper.Records.{Bytes, Id, Rec, Queue}
 use Rattle.queue.specs.paper.Lists.{isSome, any?, isEmpty?}
 use Rattle.queue.specs.paper.Sound.{need}
@@ -79,7 +79,7 @@ reconcile-recs c q = go (any? (λ r. isSome (touch c (ownOf c q) r)) (q .recs)) 
         (λ u. rw (t, u) tt)
         (λ u. cases (leb (min (q .persisted + 32) topHeight) (c .height)) (λ v. rw (t, u, v)) (λ v. rw (t, u, v))))
 
-near-goods : {A : Type 0} (near : Bool) (q : Queue) (o : Out A) → Leaves q o → Near o → SameRecs q o → Goods near q o
+near-goods : {A : Type 0} (near : Bool) (q : Queue) (o : Out A) → Leaves q o → CursorNear o → SameRecs q o → Goods near q o
 near-goods near q (refused n) h d e = tt
 near-goods near q (done Nothing x a) h d e = (h, tt)
 near-goods near q (done Memory x a) h d e = (h, (e, λ _. d))

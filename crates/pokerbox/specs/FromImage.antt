@@ -10,10 +10,10 @@ use lib.ListN.{length, drop}
 use Rattle.queue.specs.declared.Kind.the-variants.{Nothing, Memory, Whole, Cursor}
 use Rattle.queue.specs.declared.Answer.{Answer}
 use Rattle.queue.specs.declared.Answer.the-variants.{Refused, Done}
-use Rattle.queue.specs.ReadLaws.{false-true}
+use Rattle.queue.specs.bytes.ReaderLaws.{false-true}
 use Rattle.queue.specs.Areas.{readImage}
-use Rattle.queue.specs.Sounds.{Fit, of-range}
-use Rattle.queue.specs.Bound.{fit-image, opens-fit, reads-image}
+use Rattle.queue.specs.theorems.SoundParts.{Fit, of-range}
+use Rattle.queue.specs.theorems.Bound.{fit-image, opens-fit, reads-image}
 use Rattle.queue.specs.paper.Records.{Bytes, Limits, Queue}
 use Rattle.queue.specs.paper.Sound.{limitsRight?}
 use Rattle.queue.specs.paper.Area.{areaBytes, imageBytes, over}

@@ -13,10 +13,10 @@ use Rattle.queue.specs.declared.Kind.the-variants.{Nothing}
 use Rattle.queue.specs.declared.Answer.the-variants.{Refused, Done}
 use Rattle.queue.specs.Codec.{cases}
 use Rattle.queue.specs.Areas.{readImage}
-use Rattle.queue.specs.Opens.{limits}
-use Rattle.queue.specs.Sounds.{Fit, fit-sound, fit-ok}
-use Rattle.queue.specs.Bound.{image-reads, fit-image}
-use Rattle.queue.specs.Keeps.{fresh-fit}
+use Rattle.queue.specs.check.AreaAs.{limits}
+use Rattle.queue.specs.theorems.SoundParts.{Fit, fit-sound, fit-ok}
+use Rattle.queue.specs.theorems.Bound.{image-reads, fit-image}
+use Rattle.queue.specs.theorems.CallsKeeps.{fresh-fit}
 use Rattle.queue.specs.paper.Records.{Bytes, Limits, Queue}
 use Rattle.queue.specs.paper.Ids.{cmpL}
 use Rattle.queue.specs.paper.Sound.{inRange, sharesRight?, need}

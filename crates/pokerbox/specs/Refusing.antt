@@ -16,7 +16,7 @@ use Rattle.queue.specs.declared.Answer.the-variants.{Refused, Done}
 use Rattle.queue.specs.Codec.{cases}
 use Rattle.queue.specs.Lists.{and-true}
 use Rattle.queue.specs.Areas.{readArea, readImage}
-use Rattle.queue.specs.Reconciles.{reconcileTo}
+use Rattle.queue.specs.theorems.ReconcileKeeps.{reconcileTo}
 use Rattle.queue.specs.paper.Records.{Bytes, Id, Limits, Held, Rec, Queue}
 use Rattle.queue.specs.paper.Lists.{isSome, maybe, any?, total, count, find, isEmpty?}
 use Rattle.queue.specs.paper.Sound.{inRange, sharesRight?, need, holder?, pending?, mined?, labelLen, clash?, crossed?}

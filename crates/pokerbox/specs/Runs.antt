@@ -12,15 +12,15 @@ use Rattle.queue.specs.declared.Kind.the-variants.{Nothing, Memory, Whole, Curs
 use Rattle.queue.specs.declared.Answer.{Answer}
 use Rattle.queue.specs.declared.Answer.the-variants.{Refused, Done}
 use Rattle.queue.specs.Codec.{mapC, pairC, beC}
-use Rattle.queue.specs.ReadLaws.{false-true}
-use Rattle.queue.specs.Forms.{storeIn, areaForm, storeOf, queueC, store-length}
+use Rattle.queue.specs.bytes.ReaderLaws.{false-true}
+use Rattle.queue.specs.layout.FormsCodec.{storeIn, areaForm, storeOf, queueC, store-length}
 use Rattle.queue.specs.Areas.{readArea, image}
-use Rattle.queue.specs.Plain.{image-plain}
-use Rattle.queue.specs.Sounds.{Fit, fit-sound, fit-ok}
-use Rattle.queue.specs.Bound.{fits-need, reads-size, fit-stands, fit-over, fit-image}
-use Rattle.queue.specs.Keeps.{fresh-fit, settled-fit}
+use Rattle.queue.specs.theorems.Plain.{image-plain}
+use Rattle.queue.specs.theorems.SoundParts.{Fit, fit-sound, fit-ok}
+use Rattle.queue.specs.theorems.Bound.{fits-need, reads-size, fit-stands, fit-over, fit-image}
+use Rattle.queue.specs.theorems.CallsKeeps.{fresh-fit, settled-fit}
 use Rattle.queue.specs.Lists.{and-true}
-use Rattle.queue.specs.Shares.{shares-whole, limits-again}
+use Rattle.queue.specs.layout.LimitsAs.{shares-whole, limits-again}
 use Rattle.queue.specs.paper.Lists.{maybe}
 use Rattle.queue.specs.paper.Records.{Bytes, Limits, Queue}
 use Rattle.queue.specs.paper.Sound.{inRange, sharesRight?, limitsRight?, need}

@@ -18,13 +18,13 @@ use Rattle.queue.specs.declared.Answer.{Answer}
 use Rattle.queue.specs.declared.Answer.the-variants.{Refused, Done}
 use Rattle.queue.specs.Codec.{All}
 use Rattle.queue.specs.Lists.{Pairwise, sub-pairwise, sub-trans}
-use Rattle.queue.specs.ListLaws.{filter-sub, sort-apart}
-use Rattle.queue.specs.ReadLaws.{false-true}
+use Rattle.queue.specs.bytes.ListLaws.{filter-sub, sort-apart}
+use Rattle.queue.specs.bytes.ReaderLaws.{false-true}
 use Rattle.queue.specs.Areas.{readArea}
-use Rattle.queue.specs.Sounds.{Fit, Apart, apart-sym, of-apart, of-sound}
-use Rattle.queue.specs.Bound.{fit-stands}
-use Rattle.queue.specs.Reconciles.{Diff, diff-sym}
-use Rattle.queue.specs.Decided.{one-pass}
+use Rattle.queue.specs.theorems.SoundParts.{Fit, Apart, apart-sym, of-apart, of-sound}
+use Rattle.queue.specs.theorems.Bound.{fit-stands}
+use Rattle.queue.specs.theorems.ReconcileKeeps.{Diff, diff-sym}
+use Rattle.queue.specs.theorems.Decided.{one-pass}
 use Rattle.queue.specs.paper.Records.{Bytes, Limits, Rec, Queue}
 use Rattle.queue.specs.paper.Lists.{filter, map}
 use Rattle.queue.specs.paper.Sound.{limitsRight?, need, among?, different?}
@@ -32,11 +32,11 @@ use Rattle.queue.specs.paper.Area.{areaBytes, over}
 use Rattle.queue.specs.paper.Reading.{first?, selected?, selectedAt, selectionAt}
 use Rattle.queue.specs.paper.Calls.{work, fresh, readOf, selectionAtOf}
 use Rattle.queue.specs.paper.Fees.{bestFees, candidates, sizeOf, feeOf, bestFeesOf}
-use Rattle.queue.specs.fees.Laws.{sub-take}
-use Rattle.queue.specs.fees.Claims.{set-sub}
+use Rattle.queue.specs.read.fees.Laws.{sub-take}
+use Rattle.queue.specs.read.fees.Claims.{set-sub}
 use Rattle.queue.specs.paper.Parents.{parentsFirstAt, parentsFirstOf, waitsFor?}
-use Rattle.queue.specs.parents.Laws.{inside-pairwise}
-use Rattle.queue.specs.parents.Claims.{selected-differ, selected-once, such, parents-first}
+use Rattle.queue.specs.read.parents.Laws.{inside-pairwise}
+use Rattle.queue.specs.read.parents.Claims.{selected-differ, selected-once, such, parents-first}
 use Rattle.pokerbox.specs.paper.Machine.{Step, call, cut, Told, run, Plain, restart, plainStep, World, worldStep, freshUnder, starts}
 use Rattle.pokerbox.specs.paper.Claim.{CallOk, StepOk, StepsOk, mover, movedBy, movedLast, Holds, Image, Claim, Template, Templates, BestSet, BestSets, Ordered, OrderedLists, OnePasses}
 use Rattle.pokerbox.specs.Answers.{Good, work-good}

@@ -13,12 +13,12 @@ use Rattle.queue.specs.declared.Answer.{Answer}
 use Rattle.queue.specs.declared.Answer.the-variants.{Refused, Done}
 use Rattle.queue.specs.Codec.{cases, All, all-append}
 use Rattle.queue.specs.Lists.{sub-all}
-use Rattle.queue.specs.ListLaws.{all-with, filter-sub, filter-all}
-use Rattle.queue.specs.ReadLaws.{false-true}
-use Rattle.queue.specs.Order.{same-is, or-false, or-true}
+use Rattle.queue.specs.bytes.ListLaws.{all-with, filter-sub, filter-all}
+use Rattle.queue.specs.bytes.ReaderLaws.{false-true}
+use Rattle.queue.specs.bytes.OrderLaws.{same-is, or-false, or-true}
 use Rattle.queue.specs.Areas.{readArea}
-use Rattle.queue.specs.Sounds.{Fit}
-use Rattle.queue.specs.NoHolder.{NoHolder, LeavesNoHolder, WritesNoHolder, admit-no-holder, cancel-no-holder, cancel-finishes, expire-no-holder, expire-finishes, reconcile-no-holder, reopen-no-holder, setCursor-no-holder, unnamed-among, no-holder-unselected}
+use Rattle.queue.specs.theorems.SoundParts.{Fit}
+use Rattle.queue.specs.theorems.NoHolder.{NoHolder, LeavesNoHolder, WritesNoHolder, admit-no-holder, cancel-no-holder, cancel-finishes, expire-no-holder, expire-finishes, reconcile-no-holder, reopen-no-holder, setCursor-no-holder, unnamed-among, no-holder-unselected}
 use Rattle.queue.specs.paper.Records.{Bytes, Id, Limits, Rec, Queue}
 use Rattle.queue.specs.paper.Lists.{filter}
 use Rattle.queue.specs.paper.Ids.{same?}
@@ -29,8 +29,8 @@ use Rattle.queue.specs.paper.Reading.{selectedAt, selectionAt}
 use Rattle.queue.specs.paper.Calls.{items, given, entryBytes, idsBytes, releasedBytes, nothingBytes, Call, admitting, cancelling, expiring, reconciling, reopening, settingCursor, admission, reconciliation, shape?, overK?, worked, rules, work, byKind}
 use Rattle.queue.specs.paper.Fees.{bestFees, candidates, sizeOf, feeOf}
 use Rattle.queue.specs.paper.Parents.{waitsFor?, parentsFirstAt}
-use Rattle.queue.specs.parents.Laws.{all-in, in-all}
-use Rattle.queue.specs.parents.Claims.{selected-once, such}
+use Rattle.queue.specs.read.parents.Laws.{all-in, in-all}
+use Rattle.queue.specs.read.parents.Claims.{selected-once, such}
 use Rattle.pokerbox.specs.paper.Machine.{Fate, kept, failed, cutBefore, cutAfter, Step, call, cut, run, Plain, restart, wrote, settling, plainStep, worldStep}
 use Rattle.pokerbox.specs.paper.Claim.{StepOk, StepsOk, mover, movedBy}
 use Rattle.pokerbox.specs.paper.Withdrawn.{withdraws, admits, History, withWrite, resumed, noted, historyBy, history, NotSelected, WithdrawnUnselected, keptHere?, keptIds, NotAdmitted, after, WithdrawnStays}

@@ -11,13 +11,13 @@ use lib.Seq.{take-at, length-take-le, drop-cons}
 use borrow.Author.Tests.{ltb-true, ltb-false, leb-true, le-leb, eqb-true, eq-eqb, ne-eqb}
 use Rattle.queue.specs.Codec.{Got, fail, got, cases, cond-cases, encs}
 use Rattle.queue.specs.Lists.{and-true}
-use Rattle.queue.specs.Reads.{Reads}
-use Rattle.queue.specs.ReadLaws.{false-true, drop-none}
+use Rattle.queue.specs.bytes.ReaderAs.{Reads}
+use Rattle.queue.specs.bytes.ReaderLaws.{false-true, drop-none}
 use Rattle.queue.specs.Hex.{textOf, text-pairs}
-use Rattle.queue.specs.View.{pairs, view}
-use Rattle.queue.specs.Frames.{headK}
-use Rattle.queue.specs.Forms.{Store, headFor, lineEnc, recIn, storeIn, areaForm, textForm, queueC, storeOf, queueWith, image-enc, store-ok, ok-store, queue-ok, ok-queue, head-cursor}
-use Rattle.queue.specs.Kinds.{recs-up, queue-said, said-queue, head-first, head-up, kind-byte}
+use Rattle.queue.specs.bytes.ViewAs.{pairs, view}
+use Rattle.queue.specs.layout.FrameCodec.{headK}
+use Rattle.queue.specs.layout.FormsCodec.{Store, headFor, lineEnc, recIn, storeIn, areaForm, textForm, queueC, storeOf, queueWith, image-enc, store-ok, ok-store, queue-ok, ok-queue, head-cursor}
+use Rattle.queue.specs.theorems.OlderKinds.{recs-up, queue-said, said-queue, head-first, head-up, kind-byte}
 use Rattle.queue.specs.paper.Records.{Bytes, Queue}
 use Rattle.queue.specs.paper.Sound.{sound?, need}
 use Rattle.queue.specs.paper.Kinds.{kind?, says?}

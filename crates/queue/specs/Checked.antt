@@ -11,7 +11,7 @@ use Rattle.queue.specs.declared.Kind.the-variants.{Nothing, Memory, Whol
 use Rattle.queue.specs.declared.Answer.{Answer}
 use Rattle.queue.specs.declared.Answer.the-variants.{Refused, Done}
 use Rattle.queue.specs.Codec.{cases}
-use Rattle.queue.specs.ReadLaws.{false-true}
+use Rattle.queue.specs.bytes.ReaderLaws.{false-true}
 use Rattle.queue.specs.Areas.{readArea}
 use Rattle.queue.specs.paper.Records.{Bytes, Queue}
 use Rattle.queue.specs.paper.Lists.{map}

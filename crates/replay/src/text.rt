@@ -1,10 +1,10 @@
 // The list's lines read, and answers written. What is not there reads as 0, or as no bytes.
-use queue::put::copy_part;
-use queue::put::copy_view;
-use queue::put::put_text;
-use queue::view::be;
-use queue::view::size;
-use queue::view::wide;
+use queue::bytes::put::copy_part;
+use queue::bytes::put::copy_view;
+use queue::bytes::put::put_text;
+use queue::bytes::view::be;
+use queue::bytes::view::size;
+use queue::bytes::view::wide;
 ghost use Prim.Native.Nat.{_≤_, _<_};
 ghost use lib.ListN.{length};
 

@@ -7,8 +7,8 @@ use Rattle.image.proofs.area_need.Statement.{statement}
 use Rattle.image.proofs.area_need.Tie as tie
 use Rattle.image.proofs.area_need.Reads as reads
 use Rattle.image.proofs.area_need.Lts as lts
-use Rattle.queue.proofs.limits.Limits.check.Reads as check-reads
-use Rattle.queue.proofs.limits.Limits.need.Reads as need-reads
+use Rattle.queue.proofs.layout.limits.Limits.check.Reads as check-reads
+use Rattle.queue.proofs.layout.limits.Limits.need.Reads as need-reads
 
 check-requires : tie.Need-check-requires
 check-requires c κs = search needs

@@ -6,8 +6,8 @@ use Rattle.image.proofs.put_area.Tie as tie
 use Rattle.image.proofs.put_area.Reads as reads
 use Rattle.image.proofs.put_area.Lts as lts
 use Rattle.image.proofs.frames.put_queue.Reads as put-queue-reads
-use Rattle.queue.proofs.put.fill_zero.Reads as fill-zero-reads
-use Rattle.queue.proofs.put.put_be.Reads as put-be-reads
+use Rattle.queue.proofs.bytes.put.fill_zero.Reads as fill-zero-reads
+use Rattle.queue.proofs.bytes.put.put_be.Reads as put-be-reads
 
 put-be-requires : tie.Need-put-be-requires
 put-be-requires c κs = four-room (c .before .before .before .before .before .before .pre .is) _ (c .before .before .before .before .before .before .pre .room)

@@ -1,6 +1,6 @@
 -- Filled from its answers by tools/proofkit.py: change those, and fill it again.
 use Prim.Native.Nat.{ℕ}
-use Rattle.queue.proofs.PutLaws.{recast}
+use Rattle.queue.proofs.bytes.PutLaws.{recast}
 use borrow.Author.Needs.{needs}
 use lib.ListN.{length}
 use lib.Seq.{take-all}
@@ -11,7 +11,7 @@ use Rattle.image.proofs.put_shares.Statement.{statement}
 use Rattle.image.proofs.put_shares.Tie as tie
 use Rattle.image.proofs.put_shares.Reads as reads
 use Rattle.image.proofs.put_shares.Lts as lts
-use Rattle.queue.proofs.put.copy_part.Reads as copy-part-reads
+use Rattle.queue.proofs.bytes.put.copy_part.Reads as copy-part-reads
 
 slice-aggregate-copy-part : tie.Need-slice-aggregate-copy-part
 slice-aggregate-copy-part c = search needs

@@ -8,7 +8,7 @@ use Rattle.image.proofs.write.Reads as reads
 use Rattle.image.proofs.write.Lts as lts
 use Rattle.image.proofs.frames.put_image.Reads as put-image-reads
 use Rattle.image.proofs.image_len.Reads as image-len-reads
-use Rattle.queue.proofs.area.area_at.Reads as area-at-reads
+use Rattle.queue.proofs.check.area.area_at.Reads as area-at-reads
 
 area-at-requires : tie.Need-area-at-requires
 area-at-requires c κs = search needs

@@ -8,7 +8,7 @@ use Rattle.pokerbox.proofs.pokerbox_admit.Tie as tie
 use Rattle.pokerbox.proofs.pokerbox_admit.Reads as reads
 use Rattle.pokerbox.proofs.pokerbox_admit.Lts as lts
 use Rattle.pokerbox.proofs.number.Reads as number-reads
-use Rattle.queue.proofs.admit.admit.Reads as admit-reads
+use Rattle.queue.proofs.change.admit.admit.Reads as admit-reads
 
 admit-requires : tie.Need-admit-requires
 admit-requires c κs = search needs

@@ -7,7 +7,7 @@ use Rattle.pokerbox.proofs.pokerbox_best_fees.Tie as tie
 use Rattle.pokerbox.proofs.pokerbox_best_fees.Reads as reads
 use Rattle.pokerbox.proofs.pokerbox_best_fees.Lts as lts
 use Rattle.pokerbox.proofs.number.Reads as number-reads
-use Rattle.queue.proofs.fees.best_fees.Reads as best-fees-reads
+use Rattle.queue.proofs.read.fees.best_fees.Reads as best-fees-reads
 
 best-fees-requires : tie.Need-best-fees-requires
 best-fees-requires c κs = search needs

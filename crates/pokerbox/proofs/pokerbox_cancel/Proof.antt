@@ -8,7 +8,7 @@ use Rattle.pokerbox.proofs.pokerbox_cancel.Tie as tie
 use Rattle.pokerbox.proofs.pokerbox_cancel.Reads as reads
 use Rattle.pokerbox.proofs.pokerbox_cancel.Lts as lts
 use Rattle.pokerbox.proofs.number.Reads as number-reads
-use Rattle.queue.proofs.calls.cancel.Reads as cancel-reads
+use Rattle.queue.proofs.change.calls.cancel.Reads as cancel-reads
 
 cancel-requires : tie.Need-cancel-requires
 cancel-requires c κs = search needs

@@ -7,7 +7,7 @@ use Rattle.pokerbox.proofs.pokerbox_confirmations.Tie as tie
 use Rattle.pokerbox.proofs.pokerbox_confirmations.Reads as reads
 use Rattle.pokerbox.proofs.pokerbox_confirmations.Lts as lts
 use Rattle.pokerbox.proofs.number.Reads as number-reads
-use Rattle.queue.proofs.pieces.confirmations.Reads as confirmations-reads
+use Rattle.queue.proofs.read.pieces.confirmations.Reads as confirmations-reads
 
 confirmations-requires : tie.Need-confirmations-requires
 confirmations-requires c κs = search needs

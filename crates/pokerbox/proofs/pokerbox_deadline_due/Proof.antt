@@ -7,7 +7,7 @@ use Rattle.pokerbox.proofs.pokerbox_deadline_due.Tie as tie
 use Rattle.pokerbox.proofs.pokerbox_deadline_due.Reads as reads
 use Rattle.pokerbox.proofs.pokerbox_deadline_due.Lts as lts
 use Rattle.pokerbox.proofs.number.Reads as number-reads
-use Rattle.queue.proofs.reading.deadline_due.Reads as deadline-due-reads
+use Rattle.queue.proofs.read.reading.deadline_due.Reads as deadline-due-reads
 
 deadline-due-requires : tie.Need-deadline-due-requires
 deadline-due-requires c κs = search needs

@@ -7,7 +7,7 @@ use Rattle.pokerbox.proofs.pokerbox_due.Tie as tie
 use Rattle.pokerbox.proofs.pokerbox_due.Reads as reads
 use Rattle.pokerbox.proofs.pokerbox_due.Lts as lts
 use Rattle.pokerbox.proofs.number.Reads as number-reads
-use Rattle.queue.proofs.pieces.due.Reads as due-reads
+use Rattle.queue.proofs.read.pieces.due.Reads as due-reads
 
 due-requires : tie.Need-due-requires
 due-requires c κs = search needs

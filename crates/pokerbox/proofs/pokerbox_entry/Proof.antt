@@ -7,7 +7,7 @@ use Rattle.pokerbox.proofs.pokerbox_entry.Tie as tie
 use Rattle.pokerbox.proofs.pokerbox_entry.Reads as reads
 use Rattle.pokerbox.proofs.pokerbox_entry.Lts as lts
 use Rattle.pokerbox.proofs.number.Reads as number-reads
-use Rattle.queue.proofs.reading.entry.Reads as entry-reads
+use Rattle.queue.proofs.read.reading.entry.Reads as entry-reads
 
 entry-requires : tie.Need-entry-requires
 entry-requires c κs = search needs

@@ -8,7 +8,7 @@ use Rattle.pokerbox.proofs.pokerbox_expire.Tie as tie
 use Rattle.pokerbox.proofs.pokerbox_expire.Reads as reads
 use Rattle.pokerbox.proofs.pokerbox_expire.Lts as lts
 use Rattle.pokerbox.proofs.number.Reads as number-reads
-use Rattle.queue.proofs.calls.expire.Reads as expire-reads
+use Rattle.queue.proofs.change.calls.expire.Reads as expire-reads
 
 expire-requires : tie.Need-expire-requires
 expire-requires c κs = search needs

@@ -7,7 +7,7 @@ use Rattle.pokerbox.proofs.pokerbox_fresh.Tie as tie
 use Rattle.pokerbox.proofs.pokerbox_fresh.Reads as reads
 use Rattle.pokerbox.proofs.pokerbox_fresh.Lts as lts
 use Rattle.pokerbox.proofs.number.Reads as number-reads
-use Rattle.queue.proofs.limits.Limits.fresh.Reads as fresh-reads
+use Rattle.queue.proofs.layout.limits.Limits.fresh.Reads as fresh-reads
 
 fresh-requires : tie.Need-fresh-requires
 fresh-requires c κs = search needs

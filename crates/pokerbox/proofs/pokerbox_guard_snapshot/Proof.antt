@@ -7,7 +7,7 @@ use Rattle.pokerbox.proofs.pokerbox_guard_snapshot.Tie as tie
 use Rattle.pokerbox.proofs.pokerbox_guard_snapshot.Reads as reads
 use Rattle.pokerbox.proofs.pokerbox_guard_snapshot.Lts as lts
 use Rattle.pokerbox.proofs.number.Reads as number-reads
-use Rattle.queue.proofs.reserved.guard_snapshot.Reads as guard-snapshot-reads
+use Rattle.queue.proofs.read.reserved.guard_snapshot.Reads as guard-snapshot-reads
 
 guard-snapshot-requires : tie.Need-guard-snapshot-requires
 guard-snapshot-requires c κs = search needs

@@ -7,7 +7,7 @@ use Rattle.pokerbox.proofs.pokerbox_guarded_ids.Tie as tie
 use Rattle.pokerbox.proofs.pokerbox_guarded_ids.Reads as reads
 use Rattle.pokerbox.proofs.pokerbox_guarded_ids.Lts as lts
 use Rattle.pokerbox.proofs.number.Reads as number-reads
-use Rattle.queue.proofs.pieces.guarded_ids.Reads as guarded-ids-reads
+use Rattle.queue.proofs.read.pieces.guarded_ids.Reads as guarded-ids-reads
 
 guarded-ids-requires : tie.Need-guarded-ids-requires
 guarded-ids-requires c κs = search needs

@@ -7,7 +7,7 @@ use Rattle.pokerbox.proofs.pokerbox_is_empty.Tie as tie
 use Rattle.pokerbox.proofs.pokerbox_is_empty.Reads as reads
 use Rattle.pokerbox.proofs.pokerbox_is_empty.Lts as lts
 use Rattle.pokerbox.proofs.number.Reads as number-reads
-use Rattle.queue.proofs.reading.is_empty.Reads as is-empty-reads
+use Rattle.queue.proofs.read.reading.is_empty.Reads as is-empty-reads
 
 is-empty-requires : tie.Need-is-empty-requires
 is-empty-requires c κs = search needs

@@ -7,7 +7,7 @@ use Rattle.pokerbox.proofs.pokerbox_list.Tie as tie
 use Rattle.pokerbox.proofs.pokerbox_list.Reads as reads
 use Rattle.pokerbox.proofs.pokerbox_list.Lts as lts
 use Rattle.pokerbox.proofs.number.Reads as number-reads
-use Rattle.queue.proofs.pieces.list.Reads as list-reads
+use Rattle.queue.proofs.read.pieces.list.Reads as list-reads
 
 list-requires : tie.Need-list-requires
 list-requires c κs = search needs

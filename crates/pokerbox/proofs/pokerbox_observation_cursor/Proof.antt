@@ -7,7 +7,7 @@ use Rattle.pokerbox.proofs.pokerbox_observation_cursor.Tie as tie
 use Rattle.pokerbox.proofs.pokerbox_observation_cursor.Reads as reads
 use Rattle.pokerbox.proofs.pokerbox_observation_cursor.Lts as lts
 use Rattle.pokerbox.proofs.number.Reads as number-reads
-use Rattle.queue.proofs.reading.observation_cursor.Reads as observation-cursor-reads
+use Rattle.queue.proofs.read.reading.observation_cursor.Reads as observation-cursor-reads
 
 observation-cursor-requires : tie.Need-observation-cursor-requires
 observation-cursor-requires c κs = search needs

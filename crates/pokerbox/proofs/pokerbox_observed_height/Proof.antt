@@ -7,7 +7,7 @@ use Rattle.pokerbox.proofs.pokerbox_observed_height.Tie as tie
 use Rattle.pokerbox.proofs.pokerbox_observed_height.Reads as reads
 use Rattle.pokerbox.proofs.pokerbox_observed_height.Lts as lts
 use Rattle.pokerbox.proofs.number.Reads as number-reads
-use Rattle.queue.proofs.reading.observed_height.Reads as observed-height-reads
+use Rattle.queue.proofs.read.reading.observed_height.Reads as observed-height-reads
 
 observed-height-requires : tie.Need-observed-height-requires
 observed-height-requires c κs = search needs

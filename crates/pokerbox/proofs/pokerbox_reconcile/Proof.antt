@@ -8,7 +8,7 @@ use Rattle.pokerbox.proofs.pokerbox_reconcile.Tie as tie
 use Rattle.pokerbox.proofs.pokerbox_reconcile.Reads as reads
 use Rattle.pokerbox.proofs.pokerbox_reconcile.Lts as lts
 use Rattle.pokerbox.proofs.number.Reads as number-reads
-use Rattle.queue.proofs.reconcile.reconcile.Reads as reconcile-reads
+use Rattle.queue.proofs.change.reconcile.reconcile.Reads as reconcile-reads
 
 reconcile-requires : tie.Need-reconcile-requires
 reconcile-requires c κs = search needs

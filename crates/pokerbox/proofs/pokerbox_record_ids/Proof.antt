@@ -7,7 +7,7 @@ use Rattle.pokerbox.proofs.pokerbox_record_ids.Tie as tie
 use Rattle.pokerbox.proofs.pokerbox_record_ids.Reads as reads
 use Rattle.pokerbox.proofs.pokerbox_record_ids.Lts as lts
 use Rattle.pokerbox.proofs.number.Reads as number-reads
-use Rattle.queue.proofs.pieces.record_ids.Reads as record-ids-reads
+use Rattle.queue.proofs.read.pieces.record_ids.Reads as record-ids-reads
 
 record-ids-requires : tie.Need-record-ids-requires
 record-ids-requires c κs = search needs

@@ -8,7 +8,7 @@ use Rattle.pokerbox.proofs.pokerbox_reopen.Tie as tie
 use Rattle.pokerbox.proofs.pokerbox_reopen.Reads as reads
 use Rattle.pokerbox.proofs.pokerbox_reopen.Lts as lts
 use Rattle.pokerbox.proofs.number.Reads as number-reads
-use Rattle.queue.proofs.reopen.reopen.Reads as reopen-reads
+use Rattle.queue.proofs.change.reopen.reopen.Reads as reopen-reads
 
 reopen-requires : tie.Need-reopen-requires
 reopen-requires c κs = search needs

@@ -7,7 +7,7 @@ use Rattle.pokerbox.proofs.pokerbox_reservation_snapshot.Tie as tie
 use Rattle.pokerbox.proofs.pokerbox_reservation_snapshot.Reads as reads
 use Rattle.pokerbox.proofs.pokerbox_reservation_snapshot.Lts as lts
 use Rattle.pokerbox.proofs.number.Reads as number-reads
-use Rattle.queue.proofs.reserved.reservation_snapshot.Reads as reservation-snapshot-reads
+use Rattle.queue.proofs.read.reserved.reservation_snapshot.Reads as reservation-snapshot-reads
 
 reservation-snapshot-requires : tie.Need-reservation-snapshot-requires
 reservation-snapshot-requires c κs = search needs

@@ -7,7 +7,7 @@ use Rattle.pokerbox.proofs.pokerbox_reserved_inputs.Tie as tie
 use Rattle.pokerbox.proofs.pokerbox_reserved_inputs.Reads as reads
 use Rattle.pokerbox.proofs.pokerbox_reserved_inputs.Lts as lts
 use Rattle.pokerbox.proofs.number.Reads as number-reads
-use Rattle.queue.proofs.reserved.reserved_inputs.Reads as reserved-inputs-reads
+use Rattle.queue.proofs.read.reserved.reserved_inputs.Reads as reserved-inputs-reads
 
 reserved-inputs-requires : tie.Need-reserved-inputs-requires
 reserved-inputs-requires c κs = search needs

@@ -7,7 +7,7 @@ use Rattle.pokerbox.proofs.pokerbox_revision.Tie as tie
 use Rattle.pokerbox.proofs.pokerbox_revision.Reads as reads
 use Rattle.pokerbox.proofs.pokerbox_revision.Lts as lts
 use Rattle.pokerbox.proofs.number.Reads as number-reads
-use Rattle.queue.proofs.reading.revision.Reads as revision-reads
+use Rattle.queue.proofs.read.reading.revision.Reads as revision-reads
 
 revision-requires : tie.Need-revision-requires
 revision-requires c κs = search needs

@@ -7,7 +7,7 @@ use Rattle.pokerbox.proofs.pokerbox_selection_entries.Tie as tie
 use Rattle.pokerbox.proofs.pokerbox_selection_entries.Reads as reads
 use Rattle.pokerbox.proofs.pokerbox_selection_entries.Lts as lts
 use Rattle.pokerbox.proofs.number.Reads as number-reads
-use Rattle.queue.proofs.select.selection_at.Reads as selection-at-reads
+use Rattle.queue.proofs.read.select.selection_at.Reads as selection-at-reads
 
 selection-at-requires : tie.Need-selection-at-requires
 selection-at-requires c κs = search needs

@@ -7,7 +7,7 @@ use Rattle.pokerbox.proofs.pokerbox_selection_parents_first.Tie as tie
 use Rattle.pokerbox.proofs.pokerbox_selection_parents_first.Reads as reads
 use Rattle.pokerbox.proofs.pokerbox_selection_parents_first.Lts as lts
 use Rattle.pokerbox.proofs.number.Reads as number-reads
-use Rattle.queue.proofs.parents.parents_first.Reads as parents-first-reads
+use Rattle.queue.proofs.read.parents.parents_first.Reads as parents-first-reads
 
 parents-first-requires : tie.Need-parents-first-requires
 parents-first-requires c κs = search needs

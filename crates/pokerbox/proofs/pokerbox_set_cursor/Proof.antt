@@ -8,7 +8,7 @@ use Rattle.pokerbox.proofs.pokerbox_set_cursor.Tie as tie
 use Rattle.pokerbox.proofs.pokerbox_set_cursor.Reads as reads
 use Rattle.pokerbox.proofs.pokerbox_set_cursor.Lts as lts
 use Rattle.pokerbox.proofs.number.Reads as number-reads
-use Rattle.queue.proofs.calls.set_cursor.Reads as set-cursor-reads
+use Rattle.queue.proofs.change.calls.set_cursor.Reads as set-cursor-reads
 
 set-cursor-requires : tie.Need-set-cursor-requires
 set-cursor-requires c κs = search needs

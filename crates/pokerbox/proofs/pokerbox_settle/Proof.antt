@@ -7,7 +7,7 @@ use Rattle.pokerbox.proofs.pokerbox_settle.Tie as tie
 use Rattle.pokerbox.proofs.pokerbox_settle.Reads as reads
 use Rattle.pokerbox.proofs.pokerbox_settle.Lts as lts
 use Rattle.pokerbox.proofs.number.Reads as number-reads
-use Rattle.queue.proofs.calls.settle.Reads as settle-reads
+use Rattle.queue.proofs.change.calls.settle.Reads as settle-reads
 
 settle-requires : tie.Need-settle-requires
 settle-requires c κs = search needs

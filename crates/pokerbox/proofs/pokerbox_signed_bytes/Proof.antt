@@ -6,7 +6,7 @@ use Rattle.pokerbox.proofs.pokerbox_signed_bytes.Tie as tie
 use Rattle.pokerbox.proofs.pokerbox_signed_bytes.Reads as reads
 use Rattle.pokerbox.proofs.pokerbox_signed_bytes.Lts as lts
 use Rattle.pokerbox.proofs.kind_number.Reads as kind-number-reads
-use Rattle.queue.proofs.reading.signed_place.Reads as signed-place-reads
+use Rattle.queue.proofs.read.reading.signed_place.Reads as signed-place-reads
 
 signed-place-requires : tie.Need-signed-place-requires
 signed-place-requires c κs = search needs

@@ -5,7 +5,7 @@ use Rattle.pokerbox.proofs.sound.Statement.{statement}
 use Rattle.pokerbox.proofs.sound.Tie as tie
 use Rattle.pokerbox.proofs.sound.Reads as reads
 use Rattle.pokerbox.proofs.sound.Lts as lts
-use Rattle.queue.proofs.area.area_at.Reads as area-at-reads
+use Rattle.queue.proofs.check.area.area_at.Reads as area-at-reads
 
 area-at-requires : tie.Need-area-at-requires
 area-at-requires c κs = search needs

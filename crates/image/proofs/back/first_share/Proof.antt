@@ -6,7 +6,7 @@ use Rattle.image.proofs.back.first_share.Tie as tie
 use Rattle.image.proofs.back.first_share.Reads as reads
 use Rattle.image.proofs.back.first_share.Lts as lts
 use Rattle.image.proofs.back.same_shares.Reads as same-shares-reads
-use Rattle.queue.proofs.put.put_be.Reads as put-be-reads
+use Rattle.queue.proofs.bytes.put.put_be.Reads as put-be-reads
 
 slice-aggregate-put-be : tie.Need-slice-aggregate-put-be
 slice-aggregate-put-be c = search needs

@@ -1,7 +1,7 @@
 -- Filled from its answers by tools/proofkit.py: change those, and fill it again.
 use Rattle.image.proofs.BackLaws.{store-recs-said}
 use Rattle.image.proofs.ImageLaws.{head-room, recs-room, store-put}
-use Rattle.queue.specs.Forms.{textForm}
+use Rattle.queue.specs.layout.FormsCodec.{textForm}
 use Rattle.queue.specs.paper.Kinds.{newest, oldest, recSaid?}
 use Rattle.queue.specs.paper.Lists.{all?}
 use borrow.Author.Needs.{needs}

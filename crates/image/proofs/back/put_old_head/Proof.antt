@@ -1,14 +1,14 @@
 -- Filled from its answers by tools/proofkit.py: change those, and fill it again.
 use Rattle.image.proofs.BackLaws.{old-head-in, old-head-line, old-head-size}
-use Rattle.queue.proofs.PutLaws.{kept, sized, then}
+use Rattle.queue.proofs.bytes.PutLaws.{kept, sized, then}
 use borrow.Author.Needs.{needs}
 use native.Mathlib.Omega.{arith}
 use Rattle.image.proofs.back.put_old_head.Statement.{statement}
 use Rattle.image.proofs.back.put_old_head.Tie as tie
 use Rattle.image.proofs.back.put_old_head.Reads as reads
 use Rattle.image.proofs.back.put_old_head.Lts as lts
-use Rattle.queue.proofs.put.copy_text.Reads as copy-text-reads
-use Rattle.queue.proofs.put.put_u8.Reads as put-u8-reads
+use Rattle.queue.proofs.bytes.put.copy_text.Reads as copy-text-reads
+use Rattle.queue.proofs.bytes.put.put_u8.Reads as put-u8-reads
 
 sub-from : tie.Need-sub-from
 sub-from c = old-head-in (c .before .before .before .pre .is) (c .before .before .before .pre .frame) .0

@@ -1,6 +1,6 @@
 -- Filled from its answers by tools/proofkit.py: change those, and fill it again.
 use Rattle.image.proofs.BackLaws.{cut-in, old-in, old-line, old-size}
-use Rattle.queue.proofs.PutLaws.{kept, sized, then}
+use Rattle.queue.proofs.bytes.PutLaws.{kept, sized, then}
 use borrow.Author.Needs.{needs}
 use mathlib.Core.Path.{_∙_}
 use native.Mathlib.Omega.{arith}
@@ -9,8 +9,8 @@ use Rattle.image.proofs.back.put_old_rec.Tie as tie
 use Rattle.image.proofs.back.put_old_rec.Reads as reads
 use Rattle.image.proofs.back.put_old_rec.Lts as lts
 use Rattle.image.proofs.back.cut_at.Reads as cut-at-reads
-use Rattle.queue.proofs.put.copy_text.Reads as copy-text-reads
-use Rattle.queue.proofs.put.put_u8.Reads as put-u8-reads
+use Rattle.queue.proofs.bytes.put.copy_text.Reads as copy-text-reads
+use Rattle.queue.proofs.bytes.put.put_u8.Reads as put-u8-reads
 
 cut-at-requires : tie.Need-cut-at-requires
 cut-at-requires c κs = cut-in (c .before .before .pre .is) (c .before .before .pre .frame) (c .before .before .pre .said)

@@ -1,8 +1,8 @@
 -- Filled from its answers by tools/proofkit.py: change those, and fill it again.
 use Rattle.image.proofs.BackLaws.{Olding, olding-on, olding-room}
 use Rattle.image.proofs.ImageLaws.{turn-end, turn-here, turning}
-use Rattle.queue.proofs.PutLaws.{sized}
-use Rattle.queue.specs.Forms.{recIn, textForm}
+use Rattle.queue.proofs.bytes.PutLaws.{sized}
+use Rattle.queue.specs.layout.FormsCodec.{recIn, textForm}
 use Rattle.queue.specs.paper.Kinds.{newest, oldest}
 use borrow.Author.Needs.{needs}
 use native.Mathlib.Omega.{arith}
@@ -11,8 +11,8 @@ use Rattle.image.proofs.back.put_old_recs.Tie as tie
 use Rattle.image.proofs.back.put_old_recs.Reads as reads
 use Rattle.image.proofs.back.put_old_recs.Lts as lts
 use Rattle.image.proofs.back.put_old_rec.Reads as put-old-rec-reads
-use Rattle.queue.proofs.forms.after_in.Reads as after-in-reads
-use Rattle.queue.proofs.frame.rec_in.Reads as rec-in-reads
+use Rattle.queue.proofs.layout.forms.after_in.Reads as after-in-reads
+use Rattle.queue.proofs.layout.frame.rec_in.Reads as rec-in-reads
 
 abbrev Inv-loop : tie.InvT-loop
 Inv-loop s at n dst₀ to i₀ left₀ o₀ dst i left o = Olding s n at dst₀ to i left dst o

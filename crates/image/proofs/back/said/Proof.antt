@@ -8,7 +8,7 @@ use Rattle.image.proofs.back.said.Reads as reads
 use Rattle.image.proofs.back.said.Lts as lts
 use Rattle.image.proofs.back.first_share.Reads as first-share-reads
 use Rattle.image.proofs.back.sayable_recs.Reads as sayable-recs-reads
-use Rattle.queue.proofs.logic.both.Reads as both-reads
+use Rattle.queue.proofs.bytes.logic.both.Reads as both-reads
 
 first-share-requires : tie.Need-first-share-requires
 first-share-requires c κs = c .before .before .before .pre .is .head .fit

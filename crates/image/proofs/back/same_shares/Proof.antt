@@ -1,6 +1,6 @@
 -- Filled from its answers by tools/proofkit.py: change those, and fill it again.
 use Prim.Native.Nat.{_-_, _≤_}
-use Rattle.queue.proofs.LoopLaws.{same-over, same-turn}
+use Rattle.queue.proofs.bytes.ViewLaws.{same-over, same-turn}
 use Rattle.queue.specs.paper.Ids.{same?}
 use borrow.Author.Needs.{needs}
 use lib.ListN.{drop, length}
@@ -11,7 +11,7 @@ use Rattle.image.proofs.back.same_shares.Statement.{statement}
 use Rattle.image.proofs.back.same_shares.Tie as tie
 use Rattle.image.proofs.back.same_shares.Reads as reads
 use Rattle.image.proofs.back.same_shares.Lts as lts
-use Rattle.queue.proofs.logic.both.Reads as both-reads
+use Rattle.queue.proofs.bytes.logic.both.Reads as both-reads
 
 abbrev Inv-loop : tie.InvT-loop
 Inv-loop a b ok₀ i₀ ok i = (i ≤ 64) × (length a ≡ 64) × (length b ≡ 64) × ((ok && same? (drop i a) (drop i b)) ≡ same? a b)

@@ -8,8 +8,8 @@ use Rattle.image.proofs.back.sayable_recs.Tie as tie
 use Rattle.image.proofs.back.sayable_recs.Reads as reads
 use Rattle.image.proofs.back.sayable_recs.Lts as lts
 use Rattle.image.proofs.back.sayable.Reads as sayable-reads
-use Rattle.queue.proofs.forms.after_in.Reads as after-in-reads
-use Rattle.queue.proofs.frame.rec_in.Reads as rec-in-reads
+use Rattle.queue.proofs.layout.forms.after_in.Reads as after-in-reads
+use Rattle.queue.proofs.layout.frame.rec_in.Reads as rec-in-reads
 
 abbrev Inv-loop : tie.InvT-loop
 Inv-loop s at n i₀ left₀ i left = Saying s n at i left

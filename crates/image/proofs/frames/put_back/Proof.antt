@@ -1,6 +1,6 @@
 -- Filled from its answers by tools/proofkit.py: change those, and fill it again.
 use Rattle.image.proofs.ImageLaws.{back-older, back-same, back-same-long, narrow-in, older-in, older-long}
-use Rattle.queue.proofs.PutLaws.{kept, sized, then}
+use Rattle.queue.proofs.bytes.PutLaws.{kept, sized, then}
 use borrow.Author.Needs.{needs}
 use borrow.Author.Tests.{le-leb, lt-leb}
 use native.Mathlib.Omega.{arith}
@@ -9,7 +9,7 @@ use Rattle.image.proofs.frames.put_back.Tie as tie
 use Rattle.image.proofs.frames.put_back.Reads as reads
 use Rattle.image.proofs.frames.put_back.Lts as lts
 use Rattle.image.proofs.frames.put_unread.Reads as put-unread-reads
-use Rattle.queue.proofs.put.copy_view.Reads as copy-view-reads
+use Rattle.queue.proofs.bytes.put.copy_view.Reads as copy-view-reads
 
 sub-copy-view : tie.Need-sub-copy-view
 sub-copy-view c = omega (arith, c .before .before .before .before .before .pre .here, narrow-in (c .before .before .before .before .before .args .form) (c .before .before .before .before .before .pre .is) (c .before .before .before .before .before .pre .frame) (c .before .before .before .before .before .pre .narrow) .1)

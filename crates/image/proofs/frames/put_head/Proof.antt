@@ -1,15 +1,15 @@
 -- Filled from its answers by tools/proofkit.py: change those, and fill it again.
 use Rattle.image.proofs.ImageLaws.{head-bytes, head-in, head-long}
-use Rattle.queue.proofs.PutLaws.{kept, sized, then}
+use Rattle.queue.proofs.bytes.PutLaws.{kept, sized, then}
 use borrow.Author.Needs.{needs}
 use native.Mathlib.Omega.{arith}
 use Rattle.image.proofs.frames.put_head.Statement.{statement}
 use Rattle.image.proofs.frames.put_head.Tie as tie
 use Rattle.image.proofs.frames.put_head.Reads as reads
 use Rattle.image.proofs.frames.put_head.Lts as lts
-use Rattle.queue.proofs.head.put_limits.Reads as put-limits-reads
-use Rattle.queue.proofs.put.copy_view.Reads as copy-view-reads
-use Rattle.queue.proofs.put.put_u8.Reads as put-u8-reads
+use Rattle.queue.proofs.bytes.put.copy_view.Reads as copy-view-reads
+use Rattle.queue.proofs.bytes.put.put_u8.Reads as put-u8-reads
+use Rattle.queue.proofs.layout.head.put_limits.Reads as put-limits-reads
 
 sub-from : tie.Need-sub-from
 sub-from c = head-in (c .before .before .before .before .args .form) (c .before .before .before .before .pre .is) (c .before .before .before .before .pre .frame) .0

@@ -1,7 +1,7 @@
 -- Filled from its answers by tools/proofkit.py: change those, and fill it again.
 use Rattle.image.proofs.ImageLaws.{frame-in, head-room, line-of, line-size, recs-room, store-put}
-use Rattle.queue.proofs.PutLaws.{sized}
-use Rattle.queue.specs.Forms.{areaForm, textForm}
+use Rattle.queue.proofs.bytes.PutLaws.{sized}
+use Rattle.queue.specs.layout.FormsCodec.{areaForm, textForm}
 use Rattle.queue.specs.paper.Kinds.{newest}
 use borrow.Author.Needs.{needs}
 use native.Mathlib.Omega.{arith}

@@ -1,6 +1,6 @@
 -- Filled from its answers by tools/proofkit.py: change those, and fill it again.
 use Rattle.image.proofs.ImageLaws.{lead-has, lead-in, lead-no, lead-not, lead-yes}
-use Rattle.queue.proofs.PutLaws.{kept, recast, then}
+use Rattle.queue.proofs.bytes.PutLaws.{kept, recast, then}
 use borrow.Author.Needs.{needs}
 use borrow.Author.Tests.{le-leb, lt-leb}
 use mathlib.Core.Path.{refl}
@@ -9,8 +9,8 @@ use Rattle.image.proofs.frames.put_lead.Statement.{statement}
 use Rattle.image.proofs.frames.put_lead.Tie as tie
 use Rattle.image.proofs.frames.put_lead.Reads as reads
 use Rattle.image.proofs.frames.put_lead.Lts as lts
-use Rattle.queue.proofs.put.copy_view.Reads as copy-view-reads
-use Rattle.queue.proofs.put.put_u8.Reads as put-u8-reads
+use Rattle.queue.proofs.bytes.put.copy_view.Reads as copy-view-reads
+use Rattle.queue.proofs.bytes.put.put_u8.Reads as put-u8-reads
 
 copy-view-requires : tie.Need-copy-view-requires
 copy-view-requires c κs = let l = lead-in (c .before .before .before .before .before .args .form) (c .before .before .before .before .before .pre .is) (c .before .before .before .before .before .pre .frame) in (omega (arith, l .0, lead-has (c .before .before .before .before .before .args .form) (c .before .before .before .before .before .pre .is) (c .before .before .before .before .before .pre .frame) (le-leb 4 (c .before .before .before .before .before .args .form .kind) (c .before .if1 .taken))), omega (arith, l .1, c .before .before .before .before .before .pre .room))

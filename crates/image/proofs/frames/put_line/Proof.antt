@@ -1,13 +1,13 @@
 -- Filled from its answers by tools/proofkit.py: change those, and fill it again.
-use Rattle.queue.proofs.PutLaws.{kept, then}
+use Rattle.queue.proofs.bytes.PutLaws.{kept, then}
 use borrow.Author.Needs.{needs}
 use native.Mathlib.Omega.{arith}
 use Rattle.image.proofs.frames.put_line.Statement.{statement}
 use Rattle.image.proofs.frames.put_line.Tie as tie
 use Rattle.image.proofs.frames.put_line.Reads as reads
 use Rattle.image.proofs.frames.put_line.Lts as lts
-use Rattle.queue.proofs.put.put_text.Reads as put-text-reads
-use Rattle.queue.proofs.put.put_u8.Reads as put-u8-reads
+use Rattle.queue.proofs.bytes.put.put_text.Reads as put-text-reads
+use Rattle.queue.proofs.bytes.put.put_u8.Reads as put-u8-reads
 
 put-text-requires : tie.Need-put-text-requires
 put-text-requires c κs = (c .before .before .before .pre .0, omega (arith, c .before .before .before .pre .1))

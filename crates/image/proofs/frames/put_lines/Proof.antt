@@ -1,7 +1,7 @@
 -- Filled from its answers by tools/proofkit.py: change those, and fill it again.
 use Rattle.image.proofs.ImageLaws.{Turning, frame-in, line-of, line-size, turn-end, turn-here, turn-on, turn-room, turning}
-use Rattle.queue.proofs.PutLaws.{sized}
-use Rattle.queue.specs.Forms.{areaForm, recIn, textForm}
+use Rattle.queue.proofs.bytes.PutLaws.{sized}
+use Rattle.queue.specs.layout.FormsCodec.{areaForm, recIn, textForm}
 use Rattle.queue.specs.paper.Kinds.{newest}
 use borrow.Author.Needs.{needs}
 use native.Mathlib.Omega.{arith}
@@ -10,8 +10,8 @@ use Rattle.image.proofs.frames.put_lines.Tie as tie
 use Rattle.image.proofs.frames.put_lines.Reads as reads
 use Rattle.image.proofs.frames.put_lines.Lts as lts
 use Rattle.image.proofs.frames.put_line.Reads as put-line-reads
-use Rattle.queue.proofs.forms.after_in.Reads as after-in-reads
-use Rattle.queue.proofs.frame.rec_at.Reads as rec-at-reads
+use Rattle.queue.proofs.layout.forms.after_in.Reads as after-in-reads
+use Rattle.queue.proofs.layout.frame.rec_at.Reads as rec-at-reads
 
 abbrev Inv-loop : tie.InvT-loop
 Inv-loop s at n dst₀ to i₀ left₀ o₀ dst i left o = Turning areaForm (recIn (textForm newest)) s n at dst₀ to i left dst o

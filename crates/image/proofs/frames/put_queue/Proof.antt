@@ -1,6 +1,6 @@
 -- Filled from its answers by tools/proofkit.py: change those, and fill it again.
 use Rattle.image.proofs.ImageLaws.{head-room, recs-room, store-put}
-use Rattle.queue.specs.Forms.{areaForm}
+use Rattle.queue.specs.layout.FormsCodec.{areaForm}
 use borrow.Author.Needs.{needs}
 use native.Mathlib.Omega.{arith}
 use Rattle.image.proofs.frames.put_queue.Statement.{statement}

@@ -1,8 +1,8 @@
 -- Filled from its answers by tools/proofkit.py: change those, and fill it again.
 use Prim.Native.Nat.{_+_, ℕ}
 use Rattle.image.proofs.ImageLaws.{narrow-enc-is, narrow-in, narrow-size, rec-same, same-long}
-use Rattle.queue.proofs.PutLaws.{kept, sized, then}
-use Rattle.queue.specs.View.{view-fits}
+use Rattle.queue.proofs.bytes.PutLaws.{kept, sized, then}
+use Rattle.queue.specs.bytes.ViewAs.{view-fits}
 use borrow.Author.Needs.{needs}
 use borrow.Author.Tests.{le-leb, lt-leb}
 use mathlib.Core.Path.{ap}
@@ -15,8 +15,8 @@ use Rattle.image.proofs.frames.caller_end.Reads as caller-end-reads
 use Rattle.image.proofs.frames.priority_from.Reads as priority-from-reads
 use Rattle.image.proofs.frames.put_back.Reads as put-back-reads
 use Rattle.image.proofs.frames.put_lead.Reads as put-lead-reads
-use Rattle.queue.proofs.put.copy_view.Reads as copy-view-reads
-use Rattle.queue.proofs.put.put_be.Reads as put-be-reads
+use Rattle.queue.proofs.bytes.put.copy_view.Reads as copy-view-reads
+use Rattle.queue.proofs.bytes.put.put_be.Reads as put-be-reads
 
 copy-view-requires : tie.Need-copy-view-requires
 copy-view-requires c κs = (omega (arith, c .before .before .before .before .before .pre .frame .within), omega (arith, c .before .before .before .before .before .pre .room, same-long (c .before .before .before .before .before .args .form) (c .before .before .before .before .before .pre .is) (c .before .before .before .before .before .pre .frame) (le-leb 6 (c .before .before .before .before .before .args .form .kind) (c .before .if1 .taken))))

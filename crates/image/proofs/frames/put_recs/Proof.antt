@@ -1,6 +1,6 @@
 -- Filled from its answers by tools/proofkit.py: change those, and fill it again.
 use Rattle.image.proofs.ImageLaws.{Turning, turn-end, turn-here, turn-on, turn-room, turning}
-use Rattle.queue.specs.Forms.{areaForm, recIn}
+use Rattle.queue.specs.layout.FormsCodec.{areaForm, recIn}
 use borrow.Author.Needs.{needs}
 use native.Mathlib.Omega.{arith}
 use Rattle.image.proofs.frames.put_recs.Statement.{statement}
@@ -8,8 +8,8 @@ use Rattle.image.proofs.frames.put_recs.Tie as tie
 use Rattle.image.proofs.frames.put_recs.Reads as reads
 use Rattle.image.proofs.frames.put_recs.Lts as lts
 use Rattle.image.proofs.frames.put_rec.Reads as put-rec-reads
-use Rattle.queue.proofs.forms.after_in.Reads as after-in-reads
-use Rattle.queue.proofs.frame.rec_in.Reads as rec-in-reads
+use Rattle.queue.proofs.layout.forms.after_in.Reads as after-in-reads
+use Rattle.queue.proofs.layout.frame.rec_in.Reads as rec-in-reads
 
 abbrev Inv-loop : tie.InvT-loop
 Inv-loop s form at n dst₀ to i₀ left₀ o₀ dst i left o = Turning form (recIn areaForm) s n at dst₀ to i left dst o

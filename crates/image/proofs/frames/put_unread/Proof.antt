@@ -1,6 +1,6 @@
 -- Filled from its answers by tools/proofkit.py: change those, and fill it again.
-use Rattle.queue.proofs.ByteLaws.{be-same}
-use Rattle.queue.proofs.PutLaws.{nothing, recast}
+use Rattle.queue.proofs.bytes.PutByteLaws.{be-same}
+use Rattle.queue.proofs.bytes.PutLaws.{nothing, recast}
 use borrow.Author.Needs.{needs}
 use mathlib.Core.Path.{refl}
 use native.Mathlib.Omega.{arith}
@@ -8,7 +8,7 @@ use Rattle.image.proofs.frames.put_unread.Statement.{statement}
 use Rattle.image.proofs.frames.put_unread.Tie as tie
 use Rattle.image.proofs.frames.put_unread.Reads as reads
 use Rattle.image.proofs.frames.put_unread.Lts as lts
-use Rattle.queue.proofs.put.put_be.Reads as put-be-reads
+use Rattle.queue.proofs.bytes.put.put_be.Reads as put-be-reads
 
 put-be-requires : tie.Need-put-be-requires
 put-be-requires c κs = omega (arith, rw (c .before .if1 .taken) at (c .before .before .before .pre))

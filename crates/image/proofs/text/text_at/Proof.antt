@@ -1,6 +1,6 @@
 -- Filled from its answers by tools/proofkit.py: change those, and fill it again.
 use Rattle.image.proofs.ImageLaws.{kind-is, text-facts, text-good, text-long, text-none, text-other, text-unsound}
-use Rattle.queue.proofs.OpenLaws.{sound-range}
+use Rattle.queue.proofs.check.AreaLaws.{sound-range}
 use borrow.Author.Needs.{needs}
 use borrow.Author.Tests.{not-false, not-true}
 use mathlib.Core.Path.{_∙_, refl, sym}
@@ -9,12 +9,12 @@ use Rattle.image.proofs.text.text_at.Statement.{statement}
 use Rattle.image.proofs.text.text_at.Tie as tie
 use Rattle.image.proofs.text.text_at.Reads as reads
 use Rattle.image.proofs.text.text_at.Lts as lts
-use Rattle.queue.proofs.area.no_store.Reads as no-store-reads
-use Rattle.queue.proofs.area.sound_at.Reads as sound-at-reads
-use Rattle.queue.proofs.area.store_at.Reads as store-at-reads
-use Rattle.queue.proofs.frame.kind_at.Reads as kind-at-reads
-use Rattle.queue.proofs.frame.known.Reads as known-reads
-use Rattle.queue.proofs.limits.Limits.need.Reads as need-reads
+use Rattle.queue.proofs.check.area.no_store.Reads as no-store-reads
+use Rattle.queue.proofs.check.area.sound_at.Reads as sound-at-reads
+use Rattle.queue.proofs.check.area.store_at.Reads as store-at-reads
+use Rattle.queue.proofs.layout.frame.kind_at.Reads as kind-at-reads
+use Rattle.queue.proofs.layout.frame.known.Reads as known-reads
+use Rattle.queue.proofs.layout.limits.Limits.need.Reads as need-reads
 
 kind-at-requires : tie.Need-kind-at-requires
 kind-at-requires c κs = search needs

@@ -1,0 +1,49 @@
+-- Laws of bytes and text that are written from numbers and parts. Assumes nothing.
+use mathlib.Core.Path.{_≡_, refl, ap, sym, _∙_}
+use mathlib.Core.List.{List, [], _∷_, _++_, append-assoc, append-nil}
+use Prim.Native.Nat.{ℕ, zero, suc, _+_, _-_, _*_, _/_, _%_, _^_, _≤_, _<_}
+use native.Mathlib.Omega.{arith}
+use native.Mathlib.Nat.{div-add-mod', mod-lt, div-lt-iff-lt-mul, pow-suc}
+use native.Mathlib.Numerals.{add-one}
+use lib.ListN.{length, drop, take, getD, set, length-append, length-drop}
+use lib.Seq.{take-at, take-suc, getD-drop}
+use Rattle.queue.specs.Codec as codec
+use Rattle.queue.specs.Codec.{Bytes, Got, got, _>>=_, beDec}
+use Rattle.queue.specs.bytes.ReaderLaws.{be-snoc}
+use Rattle.queue.specs.bytes.PutAs.{Put, beLast}
+use Rattle.queue.specs.Hex.{digOf, textOf, text-append}
+use Rattle.queue.proofs.bytes.PutLaws.{recast, snoc}
+
+-- digits from the last are digits from the first
+be-dec : (n v : ℕ) (r : Bytes) → v < 256 ^ n → beDec n (beLast n v ++ r) ≡ got v r
+unfolding beDec
+be-dec zero v r h = let z : v ≡ 0 = omega arith in rw z
+be-dec (suc n) v r h =
+    let hv : v < 256 ^ n * 256 = rw pow-suc at h in
+    let p : 0 < 256 = omega arith in
+    let hq : v / 256 < 256 ^ n = div-lt-iff-lt-mul p .1 hv in
+    let i = be-dec n (v / 256) (v % 256 ∷ r) hq in
+    rw append-assoc (be-snoc n (beLast n (v / 256) ++ (v % 256 ∷ r)) (v / 256) r (v % 256) i (mod-lt v p) ∙ rw div-add-mod')
+
+-- what put_be writes is what the codec has
+pub be-same : (n v : ℕ) → v < 256 ^ n → beLast n v ≡ codec.be n v
+be-same n v h = let e = codec.be-bwd n (beLast n v ++ []) v [] (be-dec n v [] h) .0 in sym (append-nil (beLast n v)) ∙ e ∙ append-nil (codec.be n v)
+
+-- what stands between two places
+pub between : (s x : Bytes) (a b : ℕ) → drop a s ≡ x ++ drop b s → a ≤ b → b ≤ length s → (take (b - a) (drop a s) ≡ x) × (length x ≡ b - a)
+between s x a b e h k =
+    let l : length x ≡ b - a = omega (arith, ap length e, length-append x (drop b s), length-drop a s, length-drop b s) in
+    (rw e (take-at x (drop b s) (b - a) l), l)
+
+-- a turn of the loop that writes digits
+text-more : (src : List ℕ) (from j : ℕ) → from + j < length src → textOf (take (j + 1) (drop from src)) ≡ textOf (take j (drop from src)) ++ (digOf (getD src (from + j) 0 / 16) ∷ digOf (getD src (from + j) 0 % 16) ∷ [])
+unfolding textOf
+text-more src from j h =
+    let l : j < length (drop from src) = simp length-drop (omega arith) in
+    rw (add-one, take-suc (drop from src) j 0 l, getD-drop) (text-append (take j (drop from src)) (getD src (from + j) 0 ∷ []))
+
+pub text-turn : (src : List ℕ) (from : ℕ) (j : ℕ) {d d′ : List ℕ} {at o x y : ℕ} → Put d at (textOf (take j (drop from src))) (2 * j) o d′ → from + j < length src
+    → x ≡ digOf (getD src (from + j) 0 / 16) → y ≡ digOf (getD src (from + j) 0 % 16)
+    → Put d at (textOf (take (j + 1) (drop from src))) (2 * (j + 1)) (o + 2) (set (set d′ o x) (o + 1) y)
+text-turn src from j {d} {d′} {at} {o} {x} {y} p h e f =
+    recast (snoc y (snoc x p)) (append-assoc (textOf (take j (drop from src))) (x ∷ []) (y ∷ []) ∙ sym (rw (e, f) (text-more src from j h))) (omega arith) (omega arith)

@@ -1,0 +1,24 @@
+-- The changing calls: what refuses, what becomes of each record, the next area.
+pub mod WriteNextLaws
+pub mod ClashLaws
+pub mod FinishLaws
+pub mod WriteLaws
+pub mod FinishFloorLaws
+pub mod CallsLaws
+pub mod CallsCancelLaws
+pub mod CallsExpireLaws
+pub mod PlanLaws
+pub mod WritePlanLaws
+pub mod LentFindLaws
+pub mod ReopenLaws
+pub mod AdmitExitLaws
+pub mod AdmitLaws
+pub mod TouchLaws
+pub mod OwnLaws
+pub mod RanksLaws
+pub mod ReleaseLaws
+pub mod RanksPlanLaws
+pub mod ReconcileTrimLaws
+pub mod ReconcileLaws
+pub mod LentLaws
+pub mod OwnFlagLaws

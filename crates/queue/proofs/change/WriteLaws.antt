@@ -1,0 +1,177 @@
+-- Whole areas written from an area. Assumes nothing.
+use mathlib.Core.Path.{_≡_, refl, ap, sym, _∙_}
+use mathlib.Core.Bool.{Bool, true, false, cond, not}
+use mathlib.Core.Option.{Option, none, some}
+use mathlib.Core.Logic.{_⊎_}
+use mathlib.Core.List.{List, [], _∷_, _++_, append-assoc, append-nil}
+use Prim.Native.Nat.{ℕ, zero, suc, _+_, _-_, _*_, _%_, _^_, _≤_, _<_}
+use native.Mathlib.Omega.{arith}
+use native.Mathlib.Nat.{mod-lt}
+use lib.Dec.{ltb, leb}
+use lib.ListN.{length, drop, take, replicate, length-append, length-drop}
+use lib.Seq.{drop-drop, take-at, drop-at}
+use borrow.Author.Tests.{leb-true}
+use Rattle.queue.specs.Codec as codec
+use Rattle.queue.specs.Codec.{Got, fail, got, Codec, cases, All, beC, be-length, optC, optEnc, encs, decs, vec-bwd, vecC}
+use Rattle.queue.specs.Lists.{and-true}
+use Rattle.queue.specs.bytes.PutAs.{Put}
+use Rattle.queue.specs.bytes.Parts.{part}
+use Rattle.queue.specs.layout.FrameCodec.{Head, idC, limitsC, headC, recC}
+use Rattle.queue.specs.bytes.ReaderAs.{whole, listAt, behind, isGot, valOf, restOf}
+use Rattle.queue.specs.bytes.ReaderLaws.{false-true}
+use Rattle.queue.specs.bytes.ViewAs.{view}
+use Rattle.queue.specs.layout.FormsCodec.{formC, form-raw, afterIn, queueC, queue-enc, storeOf, headFor, ok-queue, ok-store}
+use Rattle.queue.specs.Areas.{readArea}
+use Rattle.queue.specs.layout.FrameAs.{limitsIn, HeadAs, head-T}
+use Rattle.queue.specs.check.AreaAs.{StoreAs, AreaAs}
+use Rattle.queue.specs.theorems.SoundParts.{Fit, fit-of, Right}
+use Rattle.queue.specs.layout.HeadAs.{frontLen, tipOf, tipSize, headWith, MarksFit, frontBytes, queueOf}
+use Rattle.queue.specs.layout.LimitsAs.{shares-long}
+use Rattle.queue.specs.change.WriteAs.{HeadIn, TipIs}
+use Rattle.queue.specs.theorems.Plain.{bytes-plain, limits-plain}
+use Rattle.queue.specs.paper.Records.{Bytes, Id, Limits, Rec, Queue}
+use Rattle.queue.specs.paper.Lists.{isSome, all?, count}
+use Rattle.queue.specs.paper.Sound.{need, holder?, right?, finishRight?, sound?, inRange, tombstones}
+use Rattle.queue.specs.paper.Area.{areaBytes, sharesBytes, over}
+use Rattle.queue.specs.paper.Calls.{numbers}
+use Rattle.queue.specs.paper.Kinds.{newest}
+use Rattle.queue.specs.paper.Changing.{moved, committed, finishThose, forget}
+use Rattle.queue.specs.declared.layout.frame.HeadR.{HeadR}
+use Rattle.queue.specs.declared.layout.frame.Height.{Height}
+use Rattle.queue.specs.declared.check.area.Area.{Area}
+use Rattle.queue.specs.declared.layout.head.Marks.{Marks}
+use Rattle.queue.proofs.bytes.PutLaws.{recast, kept}
+use Rattle.queue.proofs.bytes.PutByteLaws.{between}
+use Rattle.queue.proofs.layout.LimitsLaws.{sixteen}
+use Rattle.queue.proofs.check.AreaLaws.{Ranged, ranged}
+use Rattle.queue.proofs.layout.HeadLaws.{head-enc, front-enc, area-done}
+
+-- ---- the tip
+part-in : (v p x r : Bytes) (k : ℕ) → drop k v ≡ (p ++ x) ++ r → take (length x) (drop (k + length p) v) ≡ x
+part-in v p x r k e =
+    ap (take (length x)) (sym (drop-drop (length p) k v) ∙ ap (drop (length p)) (e ∙ append-assoc p x r) ∙ drop-at p (x ++ r) (length p) refl) ∙ take-at x r (length x) refl
+
+tip-enc : (c : ℕ) (i : Id) → beC 4 .enc c ++ optC idC .enc (some i) ≡ (codec.be 4 c ++ (1 ∷ [])) ++ i
+unfolding optC optEnc idC vecC beC
+tip-enc c i = ap (λ k. codec.be 4 c ++ (1 ∷ k)) (bytes-plain i) ∙ sym (append-assoc (codec.be 4 c) (1 ∷ []) i)
+
+tip-ok : (i : Id) → optC idC .ok (some i) → length i ≡ 32
+unfolding optC idC vecC
+tip-ok i h = h .1
+
+module _ (v : Bytes) (x : Head) (h : HeadR) (w : HeadAs v h x) where
+  tip-some : (i : Id) → x .tip ≡ some i → length i ≡ 32 → (take 32 (drop 94 v) ≡ i) × (126 ≤ length v)
+  tip-some i e l =
+      let a : drop 89 v ≡ ((codec.be 4 (x .cursor) ++ (1 ∷ [])) ++ i) ++ drop (h .after) v = ap (λ k. drop k v) (sym (w .marksAt)) ∙ w .marks ∙ ap (λ o. (beC 4 .enc (x .cursor) ++ optC idC .enc o) ++ drop (h .after) v) e ∙ ap (λ k. k ++ drop (h .after) v) (tip-enc (x .cursor) i) in
+      let n : length (codec.be 4 (x .cursor) ++ (1 ∷ [])) ≡ 5 = let y = be-length 4 (x .cursor) in length-append (codec.be 4 (x .cursor)) (1 ∷ []) ∙ omega arith in
+      let b = part-in v (codec.be 4 (x .cursor) ++ (1 ∷ [])) i (drop (h .after) v) 89 a in
+      let c : take 32 (drop 94 v) ≡ i = ap (λ k. take k (drop 94 v)) (sym l) ∙ ap (λ k. take (length i) (drop (89 + k) v)) (sym n) ∙ b in
+      (c, omega (arith, ap length a, length-append ((codec.be 4 (x .cursor) ++ (1 ∷ [])) ++ i) (drop (h .after) v), length-append (codec.be 4 (x .cursor) ++ (1 ∷ [])) i, length-drop 89 v, w .end, w .sizeAt))
+
+  pub tip-room : optC idC .ok (x .tip) → h .tip ≡ true → 126 ≤ length v
+  tip-room o t = go (x .tip) refl
+    where
+      go : (y : Option Id) → x .tip ≡ y → 126 ≤ length v
+      go none e = false-true (sym (ap isSome e) ∙ w .tip ∙ t)
+      go (some i) e = tip-some i e (tip-ok i (rw e at o)) .1
+
+  pub tip-here : {r : Id} → optC idC .ok (x .tip) → h .tip ≡ true → r ≡ part 32 v 94 → tipOf (h .tip) r ≡ x .tip
+  unfolding part
+  tip-here {r} o t f = go (x .tip) refl
+    where
+      go : (y : Option Id) → x .tip ≡ y → tipOf (h .tip) r ≡ x .tip
+      go none e = false-true (sym (ap isSome e) ∙ w .tip ∙ t)
+      go (some i) e = rw (t, e) (ap some (f ∙ tip-some i e (tip-ok i (rw e at o)) .0))
+
+  pub tip-none : (r : Id) → h .tip ≡ false → tipOf (h .tip) r ≡ x .tip
+  tip-none r t = go (x .tip) refl
+    where
+      go : (y : Option Id) → x .tip ≡ y → tipOf (h .tip) r ≡ x .tip
+      go none e = rw (t, e)
+      go (some i) e = false-true (sym t ∙ sym (w .tip) ∙ ap isSome e)
+
+-- ---- the records as they stand
+pub values : {A : Type 0} (𝓐 : Codec A) (n : ℕ) (s : Bytes) (at : ℕ) → whole 𝓐 n s at ≡ true → drop at s ≡ encs 𝓐 (listAt 𝓐 n s at) ++ behind 𝓐 n s at
+unfolding whole listAt behind
+values {A} 𝓐 n s at w = go (decs 𝓐 n (drop at s)) refl w
+  where
+    go : (o : Got (List A)) → decs 𝓐 n (drop at s) ≡ o → isGot o ≡ true → drop at s ≡ encs 𝓐 (valOf o) ++ restOf o
+    go fail p w = false-true w
+    go (got l r) p w = vec-bwd 𝓐 n (drop at s) l r p .0
+
+module _ {s : Bytes} {a : Area} {q : Queue} (w : AreaAs s a q) where
+  pub recs-here : (take (a .open .next - a .open .start) (drop (a .open .start) s) ≡ encs recC (q .recs)) × (length (encs recC (q .recs)) ≡ a .open .next - a .open .start)
+  recs-here =
+      let st = w .store in
+      let e : drop (a .open .start) s ≡ encs recC (q .recs) ++ drop (a .open .next) s =
+      values (formC false recC) (a .open .head .count) s (a .open .start) (st .all) ∙ rw (st .list, ← (st .end), form-raw recC) in
+      between s (encs recC (q .recs)) (a .open .start) (a .open .next) e (st .up) (st .ends)
+
+  pub the-limits : q .limits ≡ limitsIn (a .open .head .limits)
+  the-limits = sym (w .store .head .lim)
+
+  pub shares-sixteen : length (numbers (a .open .head .limits .shares)) ≡ 16
+  shares-sixteen = sixteen (a .open .head .limits .shares) (w .store .head .fit .long)
+
+  pub fit : Fit q
+  fit = fit-of q (w .sound) (w .range)
+
+  pub long-need : 512 ≤ a .need
+  unfolding need
+  long-need = omega (arith, w .need)
+
+  pub head-in : HeadIn s (a .open .head)
+  head-in = (headFor (storeOf q), w .store .head, fit .tip)
+
+  pub tip-of : (r : Id) → TipIs s (a .open .head) r → tipOf (a .open .head .tip) r ≡ q .tip
+  tip-of r t = t (headFor (storeOf q)) (w .store .head) (fit .tip)
+
+-- how long a queue's bytes are
+tip-long : (has : Bool) (tip : Id) → length tip ≡ 32 → length (optC idC .enc (tipOf has tip)) ≡ tipSize has
+unfolding optC optEnc idC vecC
+tip-long true tip h = let e = ap length (bytes-plain tip) in omega arith
+tip-long false tip h = refl
+
+sizes : (a b c d e f g h : Bytes) → length (a ++ (b ++ (c ++ (d ++ (e ++ (f ++ (g ++ h))))))) ≡ length a + (length b + (length c + (length d + (length e + (length f + (length g + length h))))))
+sizes a b c d e f g h = simp length-append
+
+pub limits-long : (l : Limits) → length (l .shares) ≡ 16 → length (limitsC .enc l) ≡ 80
+limits-long l h =
+    let b = be-length 4 (l .P) in let c = be-length 4 (l .B) in let d = be-length 4 (l .T) in let e = be-length 4 (l .K) in let f = shares-long (l .shares) in
+    ap length (limits-plain newest l) ∙ simp length-append (omega arith)
+
+front-long : (l : Limits) (m : Marks) (tip : Id) → length (l .shares) ≡ 16 → length tip ≡ 32 → length (frontBytes l m tip) ≡ frontLen + tipSize (m .tip)
+unfolding frontBytes
+front-long l m tip n h =
+    let a = be-length 4 (m .persisted .0) in let b = limits-long l n in
+    let f = be-length 8 (m .revision) in let g = be-length 4 (m .cursor .0) in let i = tip-long (m .tip) tip h in let j = be-length 8 (m .counter .0) in let k = be-length 4 (m .count) in
+    ap (λ y. length (codec.be 4 (m .persisted .0) ++ y)) (head-enc (headWith l m tip))
+    ∙ sizes (codec.be 4 (m .persisted .0)) (1 ∷ []) (limitsC .enc l) (codec.be 8 (m .revision)) (codec.be 4 (m .cursor .0)) (optC idC .enc (tipOf (m .tip) tip)) (codec.be 8 (m .counter .0)) (codec.be 4 (m .count))
+    ∙ omega arith
+
+pub queue-long : (l : Limits) (m : Marks) (tip : Id) (recs : List Rec) → length (l .shares) ≡ 16 → m .count ≡ length recs → length tip ≡ 32 → length (queueC .enc (queueOf l m tip recs)) ≡ frontLen + tipSize (m .tip) + length (encs recC recs)
+queue-long l m tip recs n e h = ap length (sym (front-enc l m tip recs e)) ∙ length-append (frontBytes l m tip) (encs recC recs) ∙ ap (λ k. k + length (encs recC recs)) (front-long l m tip n h)
+
+-- ---- one queue
+abbrev queue : ℕ → Limits → ℕ → ℕ → Option Id → ℕ → List Rec → Queue
+queue p l r c t n f = record { persisted = p; limits = l; revision = r; cursor = c; tip = t; counter = n; recs = f }
+
+pub same-queue : {p p′ r r′ c c′ n n′ : ℕ} {l l′ : Limits} {t t′ : Option Id} {f f′ : List Rec} → p ≡ p′ → l ≡ l′ → r ≡ r′ → c ≡ c′ → t ≡ t′ → n ≡ n′ → f ≡ f′ → queue p l r c t n f ≡ queue p′ l′ r′ c′ t′ n′ f′
+same-queue {p} {p′} {r} {r′} {c} {c′} {n} {n′} {l} {l′} {t} {t′} {f} {f′} e1 e2 e3 e4 e5 e6 e7 = rw (e1, e2, e3, e4, e5, e6, e7)
+
+pub one-queue : (s : Bytes) {q q′ : Queue} → readArea s ≡ some q → readArea s ≡ some q′ → q ≡ q′
+one-queue s e f = cc
+
+-- ---- what the floor asks
+all-stamps : (K c : ℕ) (l : List Rec) → All (Right K c) l → All (λ r. holder? r ≡ false → r .finish ≤ c) l
+all-stamps K c [] h = tt
+all-stamps K c (r ∷ l) h = (λ b. let e : finishRight? c false (r .finish) ≡ true = rw b at (h .0 .finish) in leb-true _ _ (and-true (leb 1 (r .finish)) _ e .1), all-stamps K c l (h .1))
+
+pub floor-needs : {s : Bytes} {a : Area} {q : Queue} → AreaAs s a q → (g : ℕ) → g ≤ a .open .head .count → a .open .head .counter .0 + g < 18446744073709551616
+    → (a .open .start ≤ length s) × (whole (formC false recC) (a .open .head .count) s (a .open .start) ≡ true) × (a .open .head .count < 4294967296) × (g ≤ a .open .head .count) × (a .open .head .counter .0 + g < 18446744073709551616) × (0 < a .open .head .limits .t) × (a .open .head .limits .t < 4294967296)
+    × All (λ r. holder? r ≡ false → r .finish ≤ a .open .head .counter .0) (listAt (formC false recC) (a .open .head .count) s (a .open .start)) × (tombstones (listAt (formC false recC) (a .open .head .count) s (a .open .start)) ≤ 1024)
+floor-needs {s} {a} {q} w g h k =
+    let st = w .store in
+    let f = fit w in
+    let t = head-T (st .head) in
+    (omega (arith, st .up, st .ends), st .all, st .head .countSmall, h, k, omega (arith, f .sound .range .T-low), st .head .fit .t, rw (st .list, ← (st .head .counter)) (all-stamps _ _ (q .recs) (f .sound .right)), rw (st .list) (omega (arith, f .sound .fewTombs, f .sound .range .T-high)))

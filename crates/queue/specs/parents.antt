@@ -1,5 +1,0 @@
-pub mod Counters
-pub mod CounterLaws
-pub mod Laws
-pub mod Claims
-pub mod Links

@@ -1,0 +1,4 @@
+pub mod Counters
+pub mod CounterLaws
+pub mod Laws
+pub mod Claims
