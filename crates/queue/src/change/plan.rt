@@ -10,11 +10,8 @@ ghost use Prim.Native.Nat.{_+_, _≤_, _<_};
 ghost use lib.ListN.{length};
 ghost use Rattle.queue.specs.change.PlanAs.{rowOf, Packs, RowAdded, numberN, stayF};
 
-// How many rows there can be: one for each record.
-pub const ROWS: usize = 3072;
-
 // Where a record stands, which of the area's records it is, its rank among those that the call finishes, from 1 on (0: it does not
-// finish it), and what becomes of it.
+// finish it), and what becomes of it. There are at most 3,072, one for each record.
 pub struct Row {
     pub place: usize,
     pub index: usize,
