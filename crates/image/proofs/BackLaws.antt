@@ -1,14 +1,5 @@
 -- Laws of the way back: a text of the newest kind, and the image of kind 01 of its queue. Assumes nothing.
-use mathlib.Core.Path.{_≡_, refl, ap, sym, _∙_}
-use mathlib.Core.Bool.{Bool, true, false, cond, not, _&&_}
-use mathlib.Core.Option.{Option, none, some}
-use mathlib.Core.List.{List, [], _∷_, _++_, append-assoc, append-nil}
-use Prim.Native.Nat.{ℕ, suc, _+_, _-_, _*_, _%_, _^_, _≤_, _<_}
-use native.Mathlib.Omega.{arith}
-use lib.Dec.{eqb}
-use lib.ListN.{length, drop, take, replicate, length-append}
-use lib.Seq.{take-at, length-take-le}
-use borrow.Author.Tests.{lt-ltb, le-ltb, eq-eqb, ne-eqb}
+use Rattle.queue.specs.Prelude.{_≡_, refl, ap, sym, _∙_, Bool, true, false, cond, not, _&&_, Option, none, some, List, [], _∷_, _++_, append-assoc, append-nil, ℕ, suc, _+_, _-_, _*_, _%_, _^_, _≤_, _<_, arith, eqb, length, drop, take, replicate, length-append, take-at, length-take-le, lt-ltb, le-ltb, eq-eqb, ne-eqb}
 use Rattle.queue.specs.declared.Kind.the-variants.{Nothing}
 use Rattle.queue.specs.declared.Answer.the-variants.{Refused, Done}
 use Rattle.queue.specs.declared.check.rules.Query.the-variants.{Holders}

@@ -1,11 +1,5 @@
 -- What a queue that was read from a text says of the queue, and what the writers of the other form need and ensure.
-use mathlib.Core.Path.{_≡_}
-use mathlib.Core.Bool.{Bool, true, false, cond, not, _&&_, _||_}
-use mathlib.Core.Option.{none, some}
-use mathlib.Core.List.{_∷_, _++_}
-use Prim.Native.Nat.{ℕ, _+_, _*_, _≤_, _<_}
-use lib.Dec.{ltb, leb, eqb}
-use lib.ListN.{length}
+use Rattle.queue.specs.Prelude.{_≡_, Bool, true, false, cond, not, _&&_, _||_, none, some, _∷_, _++_, ℕ, _+_, _*_, _≤_, _<_, ltb, leb, eqb, length}
 use Rattle.queue.specs.Codec.{beC}
 use Rattle.queue.specs.layout.FrameCodec.{Head, idC, readsEnc, signedEnc, headK, recK}
 use Rattle.queue.specs.layout.FormsCodec.{Framed, Store, headIn, recIn, storeIn, areaForm, textForm, storeOf, queueWith, queueC}

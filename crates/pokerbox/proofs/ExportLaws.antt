@@ -1,21 +1,14 @@
 -- The exits of the exported calls that are not a number of another call's answer. Assumes nothing.
-use mathlib.Core.Path.{_≡_, refl, ap, sym, _∙_}
-use mathlib.Core.Bool.{Bool, true, false}
-use mathlib.Core.Option.{Option, none, some}
-use mathlib.Core.List.{List}
-use Prim.Native.Nat.{ℕ, _+_, _≤_}
-use lib.ListN.{length, take, drop}
+use Rattle.queue.specs.Prelude.{_≡_, ap, _∙_, true, false, ℕ, _+_}
 use Rattle.queue.specs.declared.Kind.{Kind}
 use Rattle.queue.specs.declared.Kind.the-variants.{Nothing}
-use Rattle.queue.specs.declared.Answer.{Answer}
 use Rattle.queue.specs.declared.Answer.the-variants.{Refused, Done}
 use Rattle.queue.specs.declared.check.area.Area.{Area}
 use Rattle.queue.specs.declared.read.reading.Place.{Place}
-use Rattle.queue.specs.Areas.{readArea}
 use Rattle.queue.specs.check.AreaAs.{AreaIs}
 use Rattle.queue.specs.read.ReadingAs.{SignedAs}
 use Rattle.queue.specs.paper.Records.{Bytes}
-use Rattle.queue.specs.paper.Calls.{number, kindNumber, gives, soundOf, signedBytesOf}
+use Rattle.queue.specs.paper.Calls.{kindNumber, gives, soundOf, signedBytesOf}
 
 pub sound-yes : {s : Bytes} {x : Area} → AreaIs s x → x .ok ≡ true → Done Nothing ≡ soundOf s
 unfolding soundOf

@@ -1,11 +1,5 @@
 -- Each call on lent bytes answers and leaves what the plain machine works out; and what it works out is kept.
-use mathlib.Core.Path.{_≡_, refl}
-use mathlib.Core.Bool.{Bool, true, false, not, _||_}
-use mathlib.Core.Option.{Option, some}
-use mathlib.Core.List.{List, []}
-use Prim.Native.Nat.{ℕ, _+_, _<_, min}
-use lib.Dec.{ltb, leb}
-use lib.ListN.{length}
+use Rattle.queue.specs.Prelude.{_≡_, refl, Bool, true, false, not, _||_, Option, some, List, ℕ, _+_, _<_, min, ltb, leb, length}
 use Rattle.queue.specs.declared.Kind.{Kind}
 use Rattle.queue.specs.declared.Kind.the-variants.{Nothing, Memory, Whole, Cursor}
 use Rattle.queue.specs.declared.Answer.{Answer}
@@ -22,7 +16,7 @@ use Rattle.queue.specs.paper.Records.{Bytes, Id, Rec, Queue}
 use Rattle.queue.specs.paper.Lists.{isSome, any?, isEmpty?}
 use Rattle.queue.specs.paper.Sound.{need}
 use Rattle.queue.specs.paper.Changing.{Out, refused, done, top, topHeight, moved, Reconciling, touch, admit, cancel, expire, reconcile, reopen, setCursor, ownOf, touchedRecs, toRelease}
-use Rattle.queue.specs.paper.Calls.{id?, items, given, entryBytes, idsBytes, releasedBytes, nothingBytes, Call, admitting, cancelling, expiring, reconciling, reopening, settingCursor, admission, reconciliation, shape?, overK?, worked, rules, work, onLent, callOf}
+use Rattle.queue.specs.paper.Calls.{items, given, entryBytes, idsBytes, releasedBytes, nothingBytes, Call, admitting, cancelling, expiring, reconciling, reopening, settingCursor, admission, reconciliation, shape?, overK?, worked, rules, work, onLent, callOf}
 use Rattle.pokerbox.specs.paper.Claim.{CallOk, mover}
 
 -- ---- on lent bytes

@@ -1,14 +1,6 @@
 -- What a node lends by the numbers that it was given is enough: neither a fresh queue nor opening is then refused by 2. And the
 -- limits of an image are those of its queue. Assumes nothing.
-use mathlib.Core.Path.{_≡_, refl}
-use mathlib.Core.Bool.{Bool, true, false}
-use mathlib.Core.Option.{Option, none, some}
-use mathlib.Core.List.{[], _∷_, _++_}
-use Prim.Native.Nat.{ℕ, _≤_}
-use native.Mathlib.Omega.{arith}
-use lib.Dec.{ltb}
-use lib.ListN.{length, replicate}
-use borrow.Author.Tests.{le-ltb}
+use Rattle.queue.specs.Prelude.{_≡_, refl, Bool, true, false, Option, none, some, [], _∷_, _++_, ℕ, _≤_, arith, ltb, length, replicate, le-ltb}
 use Rattle.queue.specs.declared.Kind.the-variants.{Nothing}
 use Rattle.queue.specs.declared.Answer.the-variants.{Refused, Done}
 use Rattle.queue.specs.Codec.{cases}

@@ -1,14 +1,6 @@
 -- Demand 1: every exported call gives back the number of the first of its checks that holds, or its result; and a refusal other
 -- than 17 leaves what is lent as it was (statements in paper/Refusals).
-use mathlib.Core.Path.{_≡_, refl, ap, sym, _∙_}
-use mathlib.Core.Bool.{Bool, true, false, cond, not, _&&_, _||_}
-use mathlib.Core.Option.{Option, none, some}
-use mathlib.Core.List.{List, [], _∷_}
-use Prim.Native.Nat.{ℕ, _+_, min}
-use native.Mathlib.Omega.{arith}
-use lib.Dec.{ltb, leb, eqb}
-use lib.ListN.{length}
-use borrow.Author.Tests.{ltb-true, leb-true, eqb-true, eqb-false, eq-eqb, ne-eqb}
+use Rattle.queue.specs.Prelude.{_≡_, refl, ap, sym, _∙_, Bool, true, false, not, _&&_, _||_, Option, none, some, List, [], _∷_, ℕ, _+_, min, arith, ltb, leb, eqb, length, ltb-true, leb-true, eqb-true, eqb-false, eq-eqb, ne-eqb}
 use Rattle.queue.specs.declared.Kind.{Kind}
 use Rattle.queue.specs.declared.Kind.the-variants.{Nothing, Memory, Whole, Cursor}
 use Rattle.queue.specs.declared.Answer.{Answer}
@@ -22,11 +14,11 @@ use Rattle.queue.specs.paper.Lists.{isSome, maybe, any?, total, count, find, is
 use Rattle.queue.specs.paper.Sound.{inRange, sharesRight?, need, holder?, pending?, mined?, labelLen, clash?, crossed?}
 use Rattle.queue.specs.paper.Kinds.{oldest, says?}
 use Rattle.queue.specs.paper.Area.{imageUnder, imageBytes, over}
-use Rattle.queue.specs.paper.Changing.{Out, refused, done, top, topHeight, named?, reached?, Admission, pendings, pendingBytes, pendingsOf, shareOf, admitNew, admit, cancel, due?, expire, Reconciling, touch, reconcile, listed?, reopen, setCursor, ownOf, touchedRecs, toRelease}
-use Rattle.queue.specs.paper.Calls.{id?, entryBytes, idsBytes, releasedBytes, nothingBytes, items, given, Call, admitting, cancelling, expiring, reconciling, reopening, settingCursor, AdmitArgs, admission, ReconcileArgs, reconciliation, shape?, overK?, Worked, worked, rules, work, nextArea, onLent, callOf, limitsOf, freshOf, soundOf, settleShape?, settleOf, readOf, numberOf, lookUp, entryOf, signedPart, signedBytesOf}
+use Rattle.queue.specs.paper.Changing.{refused, done, top, topHeight, named?, reached?, Admission, pendings, pendingBytes, pendingsOf, shareOf, admitNew, admit, cancel, due?, expire, Reconciling, touch, reconcile, listed?, reopen, setCursor, ownOf, touchedRecs, toRelease}
+use Rattle.queue.specs.paper.Calls.{id?, entryBytes, idsBytes, releasedBytes, nothingBytes, items, Call, admitting, cancelling, expiring, reconciling, reopening, settingCursor, AdmitArgs, admission, ReconcileArgs, reconciliation, shape?, overK?, Worked, worked, rules, work, nextArea, onLent, callOf, limitsOf, freshOf, soundOf, settleShape?, settleOf, readOf, numberOf, lookUp, entryOf, signedPart, signedBytesOf}
 use Rattle.queue.specs.paper.Fees.{bestFees, candidates, sizeOf, feeOf, bestBytes, searchOf, budget?, bestFeesOf}
 use Rattle.image.specs.paper.Image.{imageOf, openOf, Five, needOf, imageLimitsOf, readNewest, convertOf}
-use Rattle.pokerbox.specs.paper.Refusals.{Checks, firstOf, refusal, Answers, unsound?, on, answer, known?, ruleChecks, callChecks, settleChecks, freshChecks, feesChecks, convertChecks, Demand1}
+use Rattle.pokerbox.specs.paper.Refusals.{Checks, firstOf, refusal, Answers, unsound?, on, answer, ruleChecks, callChecks, settleChecks, freshChecks, feesChecks, convertChecks, Demand1}
 
 refused-17 : {n : ℕ} → Refused 17 ≡ Refused n → n ≡ 17
 refused-17 {n} e = let z : _≡_ {A = ℕ} 17 n = cc in sym z

@@ -1,11 +1,5 @@
 -- Short lists of steps for document 02, P1: that the claim speaks of something, and where it ends.
-use mathlib.Core.Path.{_≡_, refl}
-use mathlib.Core.Bool.{true}
-use mathlib.Core.Option.{none, some}
-use mathlib.Core.List.{List, [], _∷_, _++_}
-use Prim.Native.Nat.{ℕ, _+_, _≤_, _<_}
-use native.Mathlib.Omega.{arith}
-use lib.ListN.{length, replicate, length-replicate}
+use Rattle.queue.specs.Prelude.{_≡_, refl, true, none, some, List, [], _∷_, _++_, ℕ, _+_, _≤_, _<_, arith, length, replicate, length-replicate}
 use Rattle.queue.specs.Codec.{All, all-append}
 use Rattle.queue.specs.paper.Records.{Bytes, Id, Limits}
 use Rattle.queue.specs.paper.Lists.{map}

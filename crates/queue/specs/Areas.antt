@@ -1,14 +1,5 @@
 -- What an area and an image hold: reading finds a queue exactly where its bytes stand.
-use mathlib.Core.Path.{_≡_, refl, ap, sym, _∙_}
-use mathlib.Core.Bool.{Bool, true, false, cond, _&&_}
-use mathlib.Core.Option.{Option, none, some}
-use mathlib.Core.List.{[], _∷_, _++_, append-assoc, append-nil}
-use Prim.Native.Nat.{ℕ, zero, suc, _+_, _-_, _≤_}
-use native.Mathlib.Omega.{arith}
-use lib.Dec.{ltb, leb, eqb}
-use lib.ListN.{length, take, drop, getD, replicate, take-append-drop, length-append, length-drop, length-replicate}
-use lib.Seq.{take-at, length-take-le, drop-cons}
-use borrow.Author.Tests.{ltb-true, ltb-false, leb-true, le-leb, eqb-true, eq-eqb, ne-eqb}
+use Rattle.queue.specs.Prelude.{_≡_, refl, ap, sym, _∙_, Bool, true, false, cond, _&&_, Option, none, some, [], _∷_, _++_, append-assoc, append-nil, ℕ, zero, suc, _-_, _≤_, arith, ltb, leb, eqb, length, take, drop, getD, replicate, take-append-drop, length-append, length-drop, length-replicate, take-at, length-take-le, drop-cons, ltb-true, ltb-false, leb-true, le-leb, eqb-true, eq-eqb, ne-eqb}
 use Rattle.queue.specs.Codec.{Got, fail, got, cases, cond-cases, encs}
 use Rattle.queue.specs.Lists.{and-true}
 use Rattle.queue.specs.bytes.ReaderAs.{Reads}

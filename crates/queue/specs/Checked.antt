@@ -1,24 +1,16 @@
 -- The changing calls as the functions decide them, one check after the other; each is what `callOf` says (`admit-is` and the
 -- others).
-use mathlib.Core.Path.{_≡_, refl, sym}
-use mathlib.Core.Bool.{Bool, true, false, cond, _&&_}
-use mathlib.Core.Option.{Option, none, some}
-use mathlib.Core.List.{List, []}
-use Prim.Native.Nat.{ℕ}
-use lib.Dec.{ltb}
-use lib.ListN.{length, take}
-use Rattle.queue.specs.declared.Kind.the-variants.{Nothing, Memory, Whole, Cursor}
+use Rattle.queue.specs.Prelude.{_≡_, refl, sym, Bool, true, false, cond, Option, none, some, [], ℕ, ltb, length}
 use Rattle.queue.specs.declared.Answer.{Answer}
 use Rattle.queue.specs.declared.Answer.the-variants.{Refused, Done}
 use Rattle.queue.specs.Codec.{cases}
 use Rattle.queue.specs.bytes.ReaderLaws.{false-true}
 use Rattle.queue.specs.Areas.{readArea}
 use Rattle.queue.specs.paper.Records.{Bytes, Queue}
-use Rattle.queue.specs.paper.Lists.{map}
 use Rattle.queue.specs.paper.Sound.{need}
 use Rattle.queue.specs.paper.Area.{over}
 use Rattle.queue.specs.paper.Changing.{Out, refused, done, admit, cancel, expire, reconcile, reopen, setCursor}
-use Rattle.queue.specs.paper.Calls.{id?, whole?, items, flag?, given, givenId?, idList?, entryBytes, idsBytes, releasedBytes, nothingBytes, AdmitArgs, admission, ReconcileArgs, reconciliation, Call, admitting, cancelling, expiring, reconciling, reopening, settingCursor, shape?, overK?, Worked, refusing, worked, rules, work, nextArea, onLent, callOf}
+use Rattle.queue.specs.paper.Calls.{id?, items, given, givenId?, idList?, entryBytes, idsBytes, releasedBytes, nothingBytes, AdmitArgs, admission, ReconcileArgs, reconciliation, Call, admitting, cancelling, expiring, reconciling, reopening, settingCursor, shape?, overK?, worked, rules, work, nextArea, onLent, callOf}
 
 -- what a call that writes one area or one output gives back, and leaves there
 abbrev pub Written : Type 0

@@ -1,4 +1,5 @@
 pub mod paper
+pub mod Prelude
 pub mod Codec
 pub mod Lists
 pub mod Hex

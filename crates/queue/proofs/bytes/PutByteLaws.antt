@@ -1,14 +1,7 @@
 -- Laws of bytes and text that are written from numbers and parts. Assumes nothing.
-use mathlib.Core.Path.{_≡_, refl, ap, sym, _∙_}
-use mathlib.Core.List.{List, [], _∷_, _++_, append-assoc, append-nil}
-use Prim.Native.Nat.{ℕ, zero, suc, _+_, _-_, _*_, _/_, _%_, _^_, _≤_, _<_}
-use native.Mathlib.Omega.{arith}
-use native.Mathlib.Nat.{div-add-mod', mod-lt, div-lt-iff-lt-mul, pow-suc}
-use native.Mathlib.Numerals.{add-one}
-use lib.ListN.{length, drop, take, getD, set, length-append, length-drop}
-use lib.Seq.{take-at, take-suc, getD-drop}
+use Rattle.queue.specs.Prelude.{_≡_, ap, sym, _∙_, List, [], _∷_, _++_, append-assoc, append-nil, ℕ, zero, suc, _+_, _-_, _*_, _/_, _%_, _^_, _≤_, _<_, arith, div-add-mod', mod-lt, div-lt-iff-lt-mul, pow-suc, add-one, length, drop, take, getD, set, length-append, length-drop, take-at, take-suc, getD-drop}
 use Rattle.queue.specs.Codec as codec
-use Rattle.queue.specs.Codec.{Bytes, Got, got, _>>=_, beDec}
+use Rattle.queue.specs.Codec.{Bytes, got, beDec}
 use Rattle.queue.specs.bytes.ReaderLaws.{be-snoc}
 use Rattle.queue.specs.bytes.PutAs.{Put, beLast}
 use Rattle.queue.specs.Hex.{digOf, textOf, text-append}

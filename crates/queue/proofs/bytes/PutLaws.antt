@@ -1,13 +1,5 @@
 -- The laws of `splice` and of `Put`. None has a side condition but `splice-is`. Assumes nothing.
-use mathlib.Core.Path.{_≡_, refl, sym, ap, _∙_}
-use Prim.Native.Nat.{ℕ, zero, suc, _+_, _-_, _*_, _≤_, _<_, _/_, _%_}
-use native.Mathlib.Nat.{add-zero, suc-add, add-suc, add-assoc, not-suc-le-zero, le-of-suc-le-suc, zero-add}
-use native.Mathlib.Numerals.{add-one}
-use native.Mathlib.Omega.{arith}
-use mathlib.Core.List.{List, [], _∷_, _++_, append-assoc, append-nil}
-use lib.ListN.{length, set, take, drop, getD, replicate, length-set, length-append, length-replicate, length-drop, replicate-append-replicate}
-use lib.Seq.{set-comm, sets, sets-eq, take-suc, getD-drop, set-set, length-take-le, drop-at, take-append-seam, take-set-le, drop-set-lt, set-append-left}
-use borrow.Rule.Slice.PartMut.{midOf, postOf, putMid, put-same}
+use Rattle.queue.specs.Prelude.{_≡_, refl, sym, ap, _∙_, List, [], _∷_, _++_, ℕ, zero, suc, _+_, _-_, _≤_, _<_, _/_, _%_, arith, add-zero, suc-add, add-suc, zero-add, add-one, length, set, take, drop, getD, replicate, length-set, length-append, length-drop, replicate-append-replicate, set-comm, sets, sets-eq, take-suc, getD-drop, take-set-le, drop-set-lt, set-append-left}
 use Rattle.queue.specs.bytes.PutAs.{splice, beLast, Put}
 use Rattle.queue.specs.paper.Area.{over}
 

@@ -1,15 +1,5 @@
 -- The laws of the loops over a view: a number, a copy, an order. Assumes nothing.
-use mathlib.Core.Path.{_≡_, refl, sym, ap, _∙_}
-use Prim.Native.Nat.{ℕ, zero, suc, _+_, _-_, _*_, _≤_, _<_, _^_}
-use mathlib.Core.Bool.{Bool, true, false, _&&_}
-use mathlib.Core.List.{List, [], _∷_, _++_}
-use native.Mathlib.Omega.{arith}
-use native.Mathlib.Nat.{pow-suc, pow-le-pow-right, add-zero}
-use native.Mathlib.Numerals.{add-one, unary-clauses}
-use lib.Dec.{lit<, ltb, eqb}
-use lib.ListN.{length, getD, take, drop, set, length-drop, drop-of-length-le}
-use lib.Seq.{take-suc-set, take-suc, getD-drop, take-all, drop-cons}
-use borrow.Author.Tests.{lt-ltb, le-ltb, ltb-true, ltb-false, eq-eqb, ne-eqb}
+use Rattle.queue.specs.Prelude.{_≡_, refl, sym, ap, _∙_, Bool, true, false, _&&_, List, _∷_, ℕ, zero, suc, _+_, _-_, _*_, _≤_, _<_, _^_, arith, pow-suc, pow-le-pow-right, add-zero, add-one, unary-clauses, lit<, ltb, eqb, length, getD, take, drop, set, length-drop, drop-of-length-le, take-suc-set, take-suc, getD-drop, take-all, drop-cons, lt-ltb, le-ltb, ltb-true, ltb-false, eq-eqb, ne-eqb}
 use Rattle.queue.specs.Codec.{cases}
 use Rattle.queue.specs.bytes.Parts.{part}
 use Rattle.queue.specs.paper.Ids.{cmpL, same?}

@@ -1,15 +1,5 @@
 -- Admission: a new record's bytes, room for it, and the area with it. Assumes nothing.
-use mathlib.Core.Path.{_≡_, refl, ap, sym, _∙_}
-use mathlib.Core.Bool.{Bool, true, false, cond, _&&_}
-use mathlib.Core.Option.{some}
-use mathlib.Core.List.{List, [], _∷_, _++_, append-assoc}
-use Prim.Native.Nat.{ℕ, suc, _+_, _-_, _/_, _%_, _^_, _≤_, _<_}
-use native.Mathlib.Omega.{arith}
-use native.Mathlib.Nat.{div-add-mod'}
-use lib.Dec.{leb, eqb}
-use lib.ListN.{length, drop, take, replicate, length-append, getD}
-use lib.Seq.{take-all}
-use borrow.Author.Tests.{lt-ltb, le-ltb, le-leb, lt-leb, eq-eqb, ne-eqb}
+use Rattle.queue.specs.Prelude.{_≡_, refl, ap, sym, _∙_, Bool, true, false, cond, _&&_, some, List, [], _∷_, _++_, append-assoc, ℕ, suc, _+_, _-_, _/_, _%_, _^_, _≤_, _<_, arith, div-add-mod', leb, eqb, length, drop, take, replicate, length-append, getD, take-all, lt-ltb, le-ltb, le-leb, lt-leb, eq-eqb, ne-eqb}
 use Rattle.queue.specs.layout.FrameAs.{termsAt, factsOf, limitsIn, head-P, head-B}
 use Rattle.queue.specs.Codec as codec
 use Rattle.queue.specs.Codec.{cases, encs, be-length}

@@ -1,43 +1,33 @@
 -- Cancellation, exit by exit. Assumes nothing.
-use mathlib.Core.Path.{_≡_, refl, ap, sym, _∙_}
-use mathlib.Core.Bool.{Bool, true, false, cond, not, _&&_, _||_}
-use mathlib.Core.Option.{Option, none, some}
-use mathlib.Core.List.{List, [], _∷_, _++_, append-assoc, append-nil}
-use Prim.Native.Nat.{ℕ, zero, suc, _+_, _-_, _*_, _^_, _≤_, _<_}
-use native.Mathlib.Omega.{arith}
-use lib.Dec.{ltb, leb, eqb}
-use lib.ListN.{length, drop, take, length-append, length-drop}
-use lib.Seq.{drop-drop, length-take-le}
-use borrow.Author.Tests.{lt-ltb, le-ltb, ltb-true, ltb-false, eq-eqb, ne-eqb}
+use Rattle.queue.specs.Prelude.{_≡_, refl, ap, sym, _∙_, Bool, true, false, none, List, [], _∷_, _++_, append-assoc, append-nil, ℕ, _+_, _-_, _≤_, _<_, arith, ltb, length, drop, take, length-append, length-drop, drop-drop, lt-ltb, le-ltb, eq-eqb, ne-eqb}
 use Rattle.queue.specs.Codec as codec
-use Rattle.queue.specs.Codec.{Codec, cases, All, encs}
+use Rattle.queue.specs.Codec.{cases, All}
 use Rattle.queue.specs.Lists.{Pairwise, all-map}
 use Rattle.queue.specs.bytes.ListLaws.{find-only, find-count}
-use Rattle.queue.specs.bytes.PutAs.{Put, splice, beLast}
+use Rattle.queue.specs.bytes.PutAs.{Put, splice}
 use Rattle.queue.specs.layout.FrameCodec.{termsC, placeC, recC}
 use Rattle.queue.specs.bytes.Parts.{part}
 use Rattle.queue.specs.bytes.ViewAs.{view}
-use Rattle.queue.specs.bytes.ReaderAs.{Reads, whole, listAt}
-use Rattle.queue.specs.bytes.ReaderLaws.{false-true}
-use Rattle.queue.specs.layout.FormsCodec.{formC, Framed, queueC}
+use Rattle.queue.specs.bytes.ReaderAs.{whole, listAt}
+use Rattle.queue.specs.layout.FormsCodec.{formC}
 use Rattle.queue.specs.Areas.{readArea}
 use Rattle.queue.specs.theorems.Bound.{fits-need}
 use Rattle.queue.specs.theorems.SoundParts.{Fit, fit-sound, fit-ok}
-use Rattle.queue.specs.theorems.CallsKeeps.{Kept, Leaves, leaves-kept, named-once, cancel-leaves}
+use Rattle.queue.specs.theorems.CallsKeeps.{leaves-kept, named-once, cancel-leaves}
 use Rattle.queue.specs.theorems.Plain.{terms-plain, place-plain}
-use Rattle.queue.specs.layout.FrameAs.{termsAt, factsOf, SeenAs}
-use Rattle.queue.specs.check.AreaAs.{AreaAs, AreaIs}
+use Rattle.queue.specs.layout.FrameAs.{termsAt, factsOf}
+use Rattle.queue.specs.check.AreaAs.{AreaIs}
 use Rattle.queue.specs.change.FinishAs.{picked}
-use Rattle.queue.specs.read.ReadingAs.{FoundAs, Here, EntryIn, entryAt, entryLen}
+use Rattle.queue.specs.read.ReadingAs.{FoundAs, EntryIn, entryAt, entryLen}
 use Rattle.queue.specs.change.WriteAs.{ended, EndedFrom, EndedTo}
 use Rattle.queue.specs.change.CallsAs.{endBytes, FoundIn, HeldIn, CancelTold}
-use Rattle.queue.specs.paper.Records.{Bytes, Id, Limits, Rec, Queue}
-use Rattle.queue.specs.paper.Lists.{isSome, find, count, concat}
-use Rattle.queue.specs.paper.Sound.{need, holder?, mined?, pending?, inputs}
-use Rattle.queue.specs.paper.Area.{termsBytes, placeBytes, areaBytes, over}
-use Rattle.queue.specs.paper.Changing.{Out, refused, done, top, named?, committed, finished, finishThose, forget, cancel, finishAll}
+use Rattle.queue.specs.paper.Records.{Bytes, Id, Rec}
+use Rattle.queue.specs.paper.Lists.{find, count}
+use Rattle.queue.specs.paper.Sound.{need, holder?, mined?}
+use Rattle.queue.specs.paper.Area.{termsBytes, placeBytes, over}
+use Rattle.queue.specs.paper.Changing.{refused, done, top, named?, committed, finished, cancel}
 use Rattle.queue.specs.Checked.{Outcome, outcome, told, cancelOf}
-use Rattle.queue.specs.paper.Calls.{id?, entryBytes}
+use Rattle.queue.specs.paper.Calls.{entryBytes}
 use Rattle.queue.specs.declared.Kind.the-variants.{Nothing, Whole}
 use Rattle.queue.specs.declared.Answer.the-variants.{Refused, Done}
 use Rattle.queue.specs.declared.layout.frame.Seen.{Seen}

@@ -1,38 +1,27 @@
 -- Expiry, exit by exit, and the ids of those finished. Assumes nothing.
-use mathlib.Core.Path.{_≡_, refl, ap, sym, _∙_}
-use mathlib.Core.Bool.{Bool, true, false, cond, not, _&&_, _||_}
-use mathlib.Core.Option.{Option, none, some}
-use mathlib.Core.List.{List, [], _∷_, _++_, append-assoc, append-nil}
-use Prim.Native.Nat.{ℕ, zero, suc, _+_, _-_, _*_, _^_, _≤_, _<_}
-use native.Mathlib.Omega.{arith}
-use native.Mathlib.Nat.{zero-add}
-use lib.Dec.{ltb, leb, eqb}
-use lib.ListN.{length, drop, take, length-append, length-drop}
-use borrow.Author.Tests.{lt-ltb, le-ltb, ltb-true, ltb-false, eq-eqb, ne-eqb, eqb-true, eqb-false}
+use Rattle.queue.specs.Prelude.{_≡_, refl, ap, sym, _∙_, Bool, true, false, none, List, [], _∷_, _++_, append-nil, ℕ, zero, suc, _+_, _-_, _*_, _^_, _≤_, _<_, arith, ltb, eqb, length, length-append, lt-ltb, le-ltb, eqb-true, eqb-false}
 use Rattle.queue.specs.Codec as codec
-use Rattle.queue.specs.Codec.{Codec, cases, All, encs, be-length}
+use Rattle.queue.specs.Codec.{cases, All, be-length}
 use Rattle.queue.specs.Lists.{all-map, and-true}
-use Rattle.queue.specs.bytes.ListLaws.{all-every}
 use Rattle.queue.specs.bytes.PutAs.{Put, splice, beLast}
 use Rattle.queue.specs.layout.FrameCodec.{recC}
-use Rattle.queue.specs.bytes.ViewAs.{view}
-use Rattle.queue.specs.bytes.ReaderAs.{Reads, whole, listAt}
-use Rattle.queue.specs.bytes.ReaderLaws.{Turn, false-true, none-left}
-use Rattle.queue.specs.layout.FormsCodec.{areaForm, formC, queueC, turn-in, ok-queue, ok-store, storeOf}
+use Rattle.queue.specs.bytes.ReaderAs.{whole, listAt}
+use Rattle.queue.specs.bytes.ReaderLaws.{Turn, none-left}
+use Rattle.queue.specs.layout.FormsCodec.{areaForm, formC, turn-in, ok-queue, ok-store, storeOf}
 use Rattle.queue.specs.Areas.{readArea}
 use Rattle.queue.specs.theorems.Bound.{fits-need}
 use Rattle.queue.specs.theorems.SoundParts.{Fit, Right, fit-sound, fit-ok}
-use Rattle.queue.specs.theorems.CallsKeeps.{Kept, Leaves, leaves-kept, pending-held, expire-leaves}
-use Rattle.queue.specs.check.AreaAs.{AreaAs, AreaIs}
+use Rattle.queue.specs.theorems.CallsKeeps.{leaves-kept, pending-held, expire-leaves}
+use Rattle.queue.specs.check.AreaAs.{AreaIs}
 use Rattle.queue.specs.change.FinishAs.{picked, pickedS}
 use Rattle.queue.specs.change.WriteAs.{ended, EndedFrom, EndedTo}
 use Rattle.queue.specs.change.CallsAs.{idIf, pickedIds, AreaIn, ExpireTold}
-use Rattle.queue.specs.paper.Records.{Bytes, Id, Limits, Rec, Queue}
-use Rattle.queue.specs.paper.Lists.{one, any?, filter, find, map, concat, count}
-use Rattle.queue.specs.paper.Sound.{need, holder?, mined?, pending?, heldRight?}
-use Rattle.queue.specs.paper.Area.{areaBytes, over}
-use Rattle.queue.specs.paper.Changing.{Out, refused, done, top, committed, due?, finishAll, expire}
-use Rattle.queue.specs.Checked.{Outcome, outcome, told, expireOf}
+use Rattle.queue.specs.paper.Records.{Bytes, Id, Rec}
+use Rattle.queue.specs.paper.Lists.{one, any?, filter, map, concat, count}
+use Rattle.queue.specs.paper.Sound.{need, holder?, pending?}
+use Rattle.queue.specs.paper.Area.{over}
+use Rattle.queue.specs.paper.Changing.{done, top, committed, due?, expire}
+use Rattle.queue.specs.Checked.{Outcome, outcome, expireOf}
 use Rattle.queue.specs.paper.Calls.{idsBytes}
 use Rattle.queue.specs.declared.Kind.the-variants.{Nothing, Whole}
 use Rattle.queue.specs.declared.Answer.the-variants.{Refused, Done}
@@ -44,9 +33,9 @@ use Rattle.queue.specs.declared.change.finish.Change.{Change}
 use Rattle.queue.specs.declared.change.finish.Change.the-variants.{Due}
 use Rattle.queue.proofs.layout.TurnLaws.{SeenIn, ReadsRec}
 use Rattle.queue.proofs.bytes.PutLaws as puts
-use Rattle.queue.proofs.bytes.PutLaws.{Left, begun, onward, kept, then, over-splice, length-be, recast}
+use Rattle.queue.proofs.bytes.PutLaws.{Left, begun, onward, kept, then, over-splice}
 use Rattle.queue.proofs.bytes.PutByteLaws.{be-same}
-use Rattle.queue.proofs.change.FinishLaws.{picked-is, raw-after, raw-within, id-32, id-long}
+use Rattle.queue.proofs.change.FinishLaws.{picked-is, raw-after, raw-within, id-32}
 use Rattle.queue.proofs.change.WriteLaws.{fit, one-queue}
 
 -- ---- the ids of those picked

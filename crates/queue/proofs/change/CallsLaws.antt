@@ -1,47 +1,36 @@
 -- The changing calls and settling, exit by exit. Assumes nothing.
-use mathlib.Core.Path.{_≡_, refl, ap, sym, _∙_}
-use mathlib.Core.Bool.{Bool, true, false, cond, not, _&&_, _||_}
-use mathlib.Core.Option.{Option, none, some}
-use mathlib.Core.List.{List, [], _∷_, _++_, append-assoc, append-nil}
-use Prim.Native.Nat.{ℕ, zero, suc, _+_, _-_, _*_, _^_, _≤_, _<_}
-use native.Mathlib.Omega.{arith}
-use native.Mathlib.Nat.{zero-add}
-use lib.Dec.{ltb, leb, eqb}
-use lib.ListN.{length, drop, take, getD, replicate, length-append, length-drop}
-use lib.Seq.{take-at, drop-at, drop-drop}
-use borrow.Author.Tests.{lt-ltb, le-ltb, le-leb, lt-leb, leb-true, ltb-true, ltb-false, eq-eqb, ne-eqb, eqb-true, eqb-false}
+use Rattle.queue.specs.Prelude.{_≡_, refl, ap, sym, _∙_, Bool, true, false, not, _&&_, _||_, none, some, [], _∷_, _++_, append-assoc, append-nil, ℕ, zero, suc, _+_, _-_, _^_, _≤_, _<_, arith, ltb, leb, eqb, length, drop, take, replicate, length-append, take-at, drop-at, lt-ltb, le-ltb, lt-leb, eq-eqb, ne-eqb, eqb-true, eqb-false}
 use Rattle.queue.specs.Codec as codec
-use Rattle.queue.specs.Codec.{Codec, cases, All, beC, be-length, optC, encs, vecC, byteC}
+use Rattle.queue.specs.Codec.{cases, All, be-length, optC, encs, vecC, byteC}
 use Rattle.queue.specs.Lists.{and-true}
 use Rattle.queue.specs.bytes.PutAs.{Put, splice, beLast}
 use Rattle.queue.specs.layout.FrameCodec.{idC, recC}
 use Rattle.queue.specs.bytes.Parts.{part}
 use Rattle.queue.specs.bytes.ViewAs.{view}
-use Rattle.queue.specs.bytes.ReaderAs.{whole, listAt}
+use Rattle.queue.specs.bytes.ReaderAs.{whole}
 use Rattle.queue.specs.bytes.ReaderLaws as readlaws
-use Rattle.queue.specs.bytes.ReaderLaws.{false-true}
-use Rattle.queue.specs.layout.FormsCodec.{formC, queueC}
-use Rattle.queue.specs.Areas.{readArea, layout}
-use Rattle.queue.specs.theorems.Bound.{fits-need, area-size, reads-area, over-same}
-use Rattle.queue.specs.theorems.SoundParts.{Fit, fit-of, fit-sound, fit-ok}
-use Rattle.queue.specs.theorems.CallsKeeps.{Kept, Leaves, leaves-kept, fresh-fit, moved-fit, settled-fit}
+use Rattle.queue.specs.layout.FormsCodec.{queueC}
+use Rattle.queue.specs.Areas.{readArea}
+use Rattle.queue.specs.theorems.Bound.{fits-need, area-size, reads-area}
+use Rattle.queue.specs.theorems.SoundParts.{fit-of, fit-sound, fit-ok}
+use Rattle.queue.specs.theorems.CallsKeeps.{fresh-fit, moved-fit}
 use Rattle.queue.specs.check.AreaAs.{AreaAs, AreaIs}
-use Rattle.queue.specs.layout.HeadAs.{tipOf, frontBytes, queueOf}
+use Rattle.queue.specs.layout.HeadAs.{tipOf, frontBytes}
 use Rattle.queue.specs.change.WriteAs.{MovedFrom, MovedTo}
-use Rattle.queue.specs.paper.Records.{Bytes, Id, Limits, Rec, Queue}
+use Rattle.queue.specs.paper.Records.{Bytes, Id, Limits, Queue}
 use Rattle.queue.specs.layout.LimitsAs.{LentShares}
 use Rattle.queue.specs.paper.Lists.{all?, map, concat}
 use Rattle.queue.specs.paper.Sound.{inRange, sharesRight?, limitsRight?, need}
 use Rattle.queue.specs.paper.Area.{headUnder, headBytes, recBytes, queueBytes, areaBytes, over}
 use Rattle.queue.specs.paper.Changing.{moved, setCursor}
-use Rattle.queue.specs.Checked.{Outcome, outcome, Written, written, setCursorOf}
-use Rattle.queue.specs.paper.Calls.{id?, numbers, limitsOf, fresh, freshOf, settleShape?, settleOf}
-use Rattle.queue.specs.declared.Kind.the-variants.{Nothing, Memory, Whole}
+use Rattle.queue.specs.Checked.{outcome, written, setCursorOf}
+use Rattle.queue.specs.paper.Calls.{numbers, limitsOf, fresh, freshOf, settleShape?, settleOf}
+use Rattle.queue.specs.declared.Kind.the-variants.{Nothing, Memory}
 use Rattle.queue.specs.declared.Answer.the-variants.{Refused, Done}
 use Rattle.queue.specs.declared.layout.frame.Height.{Height}
 use Rattle.queue.specs.declared.check.area.Area.{Area}
 use Rattle.queue.specs.declared.layout.head.Marks.{Marks}
-use Rattle.queue.proofs.bytes.PutLaws.{nothing, recast, over-splice, splice-is}
+use Rattle.queue.proofs.bytes.PutLaws.{nothing, recast, over-splice}
 use Rattle.queue.proofs.bytes.PutByteLaws.{be-same}
 use Rattle.queue.proofs.layout.HeadLaws.{area-done}
 use Rattle.queue.proofs.layout.LimitsLaws.{sixteen, zeros-fit}

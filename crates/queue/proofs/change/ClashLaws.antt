@@ -1,25 +1,12 @@
 -- The laws of lent ids in a table: their rows, bisection by id, the loops, and that it is the clash. Assumes nothing.
-use mathlib.Core.Path.{_≡_, refl, ap, sym, _∙_}
-use mathlib.Core.Bool.{Bool, true, false, cond, not, _&&_, _||_}
-use mathlib.Core.List.{List, [], _∷_, _++_}
-use Prim.Native.Nat.{ℕ, zero, suc, _+_, _-_, _*_, _/_, _≤_, _<_}
-use native.Mathlib.Omega.{arith}
-use native.Mathlib.Numerals.{add-one}
-use native.Mathlib.Nat.{zero-add}
-use lib.Dec.{ltb, eqb}
-use lib.ListN.{length, take, drop, getD, set}
-use lib.Seq.{take-suc-set, length-take-le}
-use borrow.Author.Tests.{eqb-true, eqb-false, eq-eqb, ne-eqb, ltb-true, ltb-false, lt-ltb}
+use Rattle.queue.specs.Prelude.{_≡_, refl, ap, sym, _∙_, Bool, true, false, _||_, List, [], _∷_, _++_, ℕ, _+_, _-_, _/_, _≤_, _<_, arith, zero-add, add-one, ltb, eqb, length, take, getD, set, take-suc-set, eqb-false, ltb-true, ltb-false, lt-ltb}
 use Rattle.queue.specs.Codec.{cases}
 use Rattle.queue.specs.bytes.Parts.{part}
-use Rattle.queue.specs.bytes.OrderLaws.{cmp-self, same-is, same-self, same-sym}
+use Rattle.queue.specs.bytes.OrderLaws.{cmp-self, same-is, same-sym}
 use Rattle.queue.specs.layout.FrameCodec.{recC, idC}
 use Rattle.queue.specs.layout.FormsCodec.{formC, afterIn}
 use Rattle.queue.specs.bytes.ViewAs.{view}
-use Rattle.queue.specs.bytes.ReaderAs.{Reads, whole, listAt}
-use Rattle.queue.specs.bytes.ReaderLaws.{Turn, false-true}
-use Rattle.queue.specs.change.ReopenAs.{idsAt}
-use Rattle.queue.specs.check.FilterAs.{hasIn}
+use Rattle.queue.specs.bytes.ReaderAs.{Reads, listAt}
 use Rattle.queue.specs.check.SuspectsAs.{idR, upTo, Shuffled, InOrder}
 use Rattle.queue.specs.change.ClashAs.{rowHas, RowsOf, CutId, anyOf, listOf, MeetsIs, meetsIds, clashes}
 use Rattle.queue.specs.change.TouchAs.{SeenHere}

@@ -1,7 +1,5 @@
 -- The laws of a floor in an area that was checked. Assumes nothing.
-use mathlib.Core.Path.{_≡_, sym, ap, _∙_}
-use mathlib.Core.Bool.{false}
-use Prim.Native.Nat.{ℕ, _-_, _≤_}
+use Rattle.queue.specs.Prelude.{_≡_, false, _-_, _≤_}
 use Rattle.queue.specs.layout.FrameCodec.{recC}
 use Rattle.queue.specs.layout.FormsCodec.{formC}
 use Rattle.queue.specs.bytes.ReaderAs.{listAt}

@@ -1,38 +1,22 @@
 -- Finishing and forgetting: what stays, by the floor, and the loop that counts. Assumes nothing.
-use mathlib.Core.Path.{_≡_, refl, ap, sym, _∙_}
-use mathlib.Core.Bool.{Bool, true, false, cond, not, _&&_, _||_}
-use mathlib.Core.Option.{Option, none, some}
-use mathlib.Core.Logic.{_⊎_, ⊎-elim}
-use mathlib.Core.List.{List, [], _∷_, _++_, append-assoc, append-nil}
-use Prim.Native.Nat.{ℕ, zero, suc, _+_, _-_, _*_, _/_, _%_, _^_, _≤_, _<_}
-use native.Mathlib.Omega.{arith}
-use native.Mathlib.Nat.{zero-add, add-zero}
-use lib.Dec.{ltb, leb, eqb}
-use lib.ListN.{length, drop, take, length-append, length-drop}
-use lib.Seq.{drop-drop, drop-at, length-take-le}
-use borrow.Author.Tests.{lt-ltb, le-ltb, ltb-true, ltb-false, leb-true, leb-false, le-leb, lt-leb, eq-eqb, ne-eqb}
-use Rattle.queue.specs.Codec as codec
-use Rattle.queue.specs.Codec.{Got, fail, got, Codec, cases, All, beC, pairC, mapC, optC, optEnc, encs, byteC, vecC}
-use Rattle.queue.specs.Lists.{and-true}
-use Rattle.queue.specs.layout.FrameCodec.{idC, termsC, placeC, bodyC, heldC, recK, recC, tagC}
-use Rattle.queue.specs.bytes.ReaderAs.{Reads, whole, listAt}
-use Rattle.queue.specs.bytes.ReaderLaws.{Turn, false-true, none-left}
-use Rattle.queue.specs.bytes.ViewAs.{view}
-use Rattle.queue.specs.layout.FormsCodec.{formC, form-raw, afterIn, Framed, turn-in}
-use Rattle.queue.specs.layout.FrameAs.{termsAt, factsOf, SeenAs}
+use Rattle.queue.specs.Prelude.{_≡_, refl, ap, sym, _∙_, Bool, true, false, cond, _&&_, _||_, Option, none, some, _⊎_, ⊎-elim, List, [], _∷_, _++_, append-assoc, ℕ, _+_, _-_, _≤_, _<_, arith, zero-add, ltb, leb, length, drop, drop-drop, drop-at, lt-ltb, le-ltb, ltb-true, ltb-false, le-leb}
+use Rattle.queue.specs.Codec.{cases, All, pairC, mapC, encs, vecC}
+use Rattle.queue.specs.layout.FrameCodec.{idC, recK, recC}
+use Rattle.queue.specs.bytes.ReaderAs.{listAt}
+use Rattle.queue.specs.layout.FormsCodec.{formC, afterIn}
+use Rattle.queue.specs.layout.FrameAs.{factsOf, SeenAs}
 use Rattle.queue.specs.check.RulesAs.{weight, sum, dueF, aboveF}
 use Rattle.queue.specs.paper.Records.{Bytes, Id, Rec}
-use Rattle.queue.specs.paper.Lists.{one, total, count, filter}
-use Rattle.queue.specs.paper.Ids.{cmpL}
+use Rattle.queue.specs.paper.Lists.{one, count, filter}
 use Rattle.queue.specs.paper.Sound.{holder?, tombstones}
-use Rattle.queue.specs.paper.Changing.{named?, due?, reached?, finished, finishThose, higher, forget}
+use Rattle.queue.specs.paper.Changing.{due?, reached?, finished, finishThose, higher, forget}
 use Rattle.queue.specs.change.FinishAs.{picked, pickedS, Floors, above}
 use Rattle.queue.specs.change.PlanAs.{stayR}
 use Rattle.queue.specs.declared.layout.frame.Seen.{Seen}
 use Rattle.queue.specs.declared.check.rules.Query.the-variants.{Tombstones}
 use Rattle.queue.specs.declared.change.finish.Change.{Change}
 use Rattle.queue.specs.declared.change.finish.Change.the-variants.{Named, Due}
-use Rattle.queue.proofs.layout.TurnLaws.{Scan, start, on, stop, end, SeenIn, ReadsRec, seen, see}
+use Rattle.queue.proofs.layout.TurnLaws.{Scan, on, end, SeenIn, ReadsRec, seen, see}
 use Rattle.queue.specs.check.NumbersAs.{newAbove}
 
 -- ---- a record that was read is picked as the record is

@@ -1,14 +1,5 @@
 -- The search for an id among lent ids that rise. Assumes nothing.
-use mathlib.Core.Path.{_≡_, refl, ap, sym, _∙_}
-use mathlib.Core.Bool.{true, false}
-use mathlib.Core.List.{List, [], _∷_, _++_, append-assoc}
-use Prim.Native.Nat.{ℕ, zero, suc, _+_, _*_, _≤_, _<_}
-use native.Mathlib.Omega.{arith}
-use native.Mathlib.Nat.{le-of-suc-le-suc}
-use lib.Dec.{ltb}
-use lib.ListN.{length, take, drop, getD, length-append}
-use lib.Seq.{take-at, drop-at, drop-drop}
-use borrow.Author.Tests.{ltb-true, ltb-false, eqb-true, eq-eqb, ne-eqb}
+use Rattle.queue.specs.Prelude.{_≡_, refl, ap, sym, _∙_, true, false, List, [], _∷_, _++_, append-assoc, ℕ, zero, suc, _+_, _*_, _≤_, _<_, arith, le-of-suc-le-suc, ltb, length, take, drop, getD, length-append, take-at, drop-at, drop-drop, ltb-true, ltb-false, eqb-true, eq-eqb, ne-eqb}
 use Rattle.queue.specs.Codec.{Got, fail, got, All, decs, vec-bwd, vecC, cases}
 use Rattle.queue.specs.Lists.{and-true}
 use Rattle.queue.specs.bytes.OrderLaws.{cmp-flip, below-trans}

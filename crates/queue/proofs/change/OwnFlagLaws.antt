@@ -1,16 +1,5 @@
 -- Flags as the bits of words. Assumes nothing.
-use mathlib.Core.Path.{_≡_, refl, ap, sym, _∙_}
-use mathlib.Core.Bool.{Bool, true, false, cond, _&&_}
-use mathlib.Core.List.{List, [], _∷_, _++_}
-use Prim.Native.Nat.{ℕ, zero, suc, _+_, _*_, _/_, _%_, _^_, _≤_, _<_}
-use native.Mathlib.Omega.{arith}
-use native.Mathlib.Nat.{pow-succ', mod-lt, div-add-mod', div-one, div-div-eq-div-mul, div-lt-iff-lt-mul, max-zero, mul-comm}
-use lib.Bits.{bitOr, or-zero-r}
-use lib.Pow.{pow-pos}
-use lib.Dec.{ltb, leb, eqb}
-use lib.ListN.{length, getD, set, length-append, List·getD-append}
-use lib.Seq.{getD-append-add}
-use borrow.Author.Tests.{ltb-true, leb-true}
+use Rattle.queue.specs.Prelude.{_≡_, refl, ap, sym, _∙_, Bool, true, false, cond, _&&_, List, [], _∷_, _++_, ℕ, zero, suc, _+_, _*_, _/_, _%_, _^_, _≤_, _<_, arith, pow-succ', mod-lt, div-add-mod', div-one, div-div-eq-div-mul, div-lt-iff-lt-mul, max-zero, mul-comm, ltb, leb, eqb, bitOr, or-zero-r, pow-pos, length, getD, set, length-append, List·getD-append, getD-append-add, ltb-true, leb-true}
 use Rattle.queue.specs.Lists.{and-true}
 use Rattle.queue.specs.change.OwnAs.{set?, wordBits, bitsIn, flagsOf, FlagsAre}
 use Rattle.queue.specs.read.LinksAs.{bitL, Zero}

@@ -1,14 +1,5 @@
 -- Which inputs are owned: the flags, the rows, and the loops over them. Assumes nothing.
-use mathlib.Core.Path.{_≡_, refl, ap, sym, _∙_}
-use mathlib.Core.Bool.{Bool, true, false, cond, not, _&&_, _||_}
-use mathlib.Core.List.{List, [], _∷_, _++_, append-assoc}
-use Prim.Native.Nat.{ℕ, zero, suc, _+_, _-_, _*_, _≤_, _<_}
-use native.Mathlib.Omega.{arith}
-use native.Mathlib.Numerals.{add-one}
-use lib.Dec.{ltb, leb, eqb}
-use lib.ListN.{length, take, drop, getD, set, length-append, length-drop, length-set, take-append-drop}
-use lib.Seq.{drop-cons, drop-drop, take-suc-set, take-all, take-append-seam, drop-append-seam, length-take-le}
-use borrow.Author.Tests.{eq-eqb, ne-eqb, lt-ltb, eqb-true, ltb-true, leb-true}
+use Rattle.queue.specs.Prelude.{_≡_, refl, ap, sym, _∙_, Bool, true, false, cond, _&&_, _||_, List, [], _∷_, _++_, append-assoc, ℕ, zero, suc, _+_, _-_, _≤_, _<_, arith, add-one, ltb, eqb, length, take, drop, getD, set, length-append, length-drop, drop-cons, drop-drop, take-suc-set, take-all, take-append-seam, drop-append-seam, eq-eqb, ne-eqb, lt-ltb, eqb-true}
 use Rattle.queue.specs.Codec.{cases}
 use Rattle.queue.specs.Lists.{and-true}
 use Rattle.queue.specs.layout.FrameCodec.{recC, idC}
@@ -24,12 +15,12 @@ use Rattle.queue.specs.check.SuspectsAs.{idR, noR, later, Shuffled}
 use Rattle.queue.specs.change.TouchAs.{ownIds}
 use Rattle.queue.specs.change.OwnAs.{wantedOf, wantedAt, set?, bitsIn, Fits, markAll, missAll, flagsOf, FlagsAre, FlagsFrom, Noted, Covering, Settled, Taken, QuickFor}
 use Rattle.queue.specs.paper.Records.{Bytes, Id, Rec}
-use Rattle.queue.specs.paper.Lists.{one, any?, all?, total, count, map}
+use Rattle.queue.specs.paper.Lists.{one, any?, all?, count}
 use Rattle.queue.specs.paper.Ids.{same?}
 use Rattle.queue.specs.paper.Sound.{inputs, outputs, reads, wanted, among?}
 use Rattle.queue.specs.paper.Changing.{queuedOutputs}
 use Rattle.queue.specs.declared.layout.frame.Seen.{Seen}
-use Rattle.queue.proofs.layout.TurnLaws.{Scan, start, here, on, stop, end, SeenIn, ReadsRec, seen, see}
+use Rattle.queue.proofs.layout.TurnLaws.{Scan, start, here, on, end, SeenIn, ReadsRec, see}
 use Rattle.queue.proofs.check.ScanLaws.{nothingF}
 use Rattle.queue.proofs.check.FilterLaws.{mark-size, mark-here, mark-old}
 use Rattle.queue.proofs.check.SuspectsLaws.{id-bytes}

@@ -1,22 +1,10 @@
 -- The rows of a plan: in one number, gathered over the records, and applied. Assumes nothing.
-use mathlib.Core.Path.{_≡_, refl, ap, sym, _∙_}
-use mathlib.Core.Bool.{Bool, true, false, cond, not, _&&_, _||_}
-use mathlib.Core.Option.{Option, none, some}
-use mathlib.Core.Logic.{_⊎_, ⊎-elim, inl, inr}
-use mathlib.Core.List.{List, [], _∷_, _++_, append-assoc, append-nil}
-use Prim.Native.Nat.{ℕ, zero, suc, _+_, _-_, _*_, _/_, _%_, _^_, _≤_, _<_}
-use native.Mathlib.Omega.{arith}
-use native.Mathlib.Numerals.{add-one}
-use lib.Dec.{leb, eqb}
-use lib.ListN.{length, take, getD, set, length-append, length-set}
-use lib.Seq.{take-suc-set}
-use borrow.Author.Tests.{eq-eqb, ne-eqb, eqb-true, eqb-false}
-use Rattle.queue.specs.Codec as codec
-use Rattle.queue.specs.Codec.{All, Codec, cases, encs, got}
+use Rattle.queue.specs.Prelude.{_≡_, refl, ap, sym, _∙_, Bool, true, false, cond, not, _&&_, _||_, ⊎-elim, inl, inr, List, [], _∷_, _++_, append-assoc, append-nil, ℕ, _+_, _-_, _*_, _/_, _%_, _^_, _≤_, _<_, arith, add-one, leb, eqb, length, take, getD, set, length-append, length-set, take-suc-set, eq-eqb, ne-eqb, eqb-true}
+use Rattle.queue.specs.Codec.{All, cases, encs}
 use Rattle.queue.specs.Lists.{and-true}
 use Rattle.queue.specs.layout.FrameCodec.{recC}
-use Rattle.queue.specs.bytes.ReaderAs.{Reads, whole, listAt}
-use Rattle.queue.specs.bytes.ReaderLaws.{Turn, false-true, none-left}
+use Rattle.queue.specs.bytes.ReaderAs.{whole, listAt}
+use Rattle.queue.specs.bytes.ReaderLaws.{Turn, none-left}
 use Rattle.queue.specs.layout.FormsCodec.{formC, turn-in}
 use Rattle.queue.specs.layout.FrameAs.{factsOf}
 use Rattle.queue.specs.theorems.Plain.{rec-plain}
@@ -25,11 +13,10 @@ use Rattle.queue.specs.read.FindAs.{recsIn}
 use Rattle.queue.specs.change.TouchAs.{asTouched, verdictOf}
 use Rattle.queue.specs.change.RanksAs.{numbered}
 use Rattle.queue.specs.change.PlanAs.{rowOf, Packs, idle?, RowAdded, stateF, reasonF, stateN, reasonN, markN, placeAfter, becomes, numberN, verdictIn, made, RowFit, edited, RowsAt, rowMade, RowFits, Planned, stayF}
-use Rattle.queue.specs.paper.Records.{Bytes, Id, Rec, Queue}
-use Rattle.queue.specs.paper.Lists.{one, filter, maybe}
-use Rattle.queue.specs.paper.Sound.{need, holder?}
+use Rattle.queue.specs.paper.Records.{Bytes, Rec}
+use Rattle.queue.specs.paper.Lists.{maybe}
 use Rattle.queue.specs.paper.Area.{recUnder}
-use Rattle.queue.specs.paper.Changing.{withdrawnMark, confirm, finished, reopened}
+use Rattle.queue.specs.paper.Changing.{confirm, finished, reopened}
 use Rattle.queue.specs.declared.check.area.Area.{Area}
 use Rattle.queue.specs.declared.layout.frame.Seen.{Seen}
 use Rattle.queue.specs.declared.layout.frame.Facts.{Facts}

@@ -1,27 +1,19 @@
 -- The rank of a released record, by rows in the order of their ids. Assumes nothing.
-use mathlib.Core.Path.{_≡_, refl, ap, sym, _∙_}
-use mathlib.Core.Bool.{Bool, true, false, cond, _&&_, _||_}
-use mathlib.Core.List.{List, [], _∷_}
-use Prim.Native.Nat.{ℕ, zero, suc, _+_, _-_, _≤_, _<_}
-use native.Mathlib.Omega.{arith}
-use lib.Dec.{ltb, eqb}
-use lib.ListN.{length, getD, set, length-set, take, drop}
-use lib.Seq.{getD-set-same, getD-set-other, drop-drop}
-use borrow.Author.Tests.{eq-eqb, ne-eqb, eqb-true, eqb-false, ltb-true, ltb-false, lt-ltb}
+use Rattle.queue.specs.Prelude.{_≡_, refl, ap, sym, _∙_, Bool, true, false, _&&_, List, [], _∷_, ℕ, zero, suc, _+_, _≤_, _<_, arith, ltb, eqb, length, getD, set, take, getD-set-same, getD-set-other, drop-drop, eq-eqb, ne-eqb, eqb-true, eqb-false, ltb-true, ltb-false, lt-ltb}
 use Rattle.queue.specs.Codec.{cases}
 use Rattle.queue.specs.Lists.{and-true}
-use Rattle.queue.specs.bytes.OrderLaws.{cmp-self, same-is, same-self, or-true, or-false}
+use Rattle.queue.specs.bytes.OrderLaws.{cmp-self, same-is, or-true, or-false}
 use Rattle.queue.specs.bytes.ReaderLaws.{false-true}
 use Rattle.queue.specs.bytes.Parts.{part}
 use Rattle.queue.specs.bytes.ViewAs.{view}
 use Rattle.queue.specs.read.SelectAs.{idAt}
-use Rattle.queue.specs.check.SuspectsAs.{idR, noR, upTo, later, Shuffled, InOrder, Cut}
-use Rattle.queue.specs.change.RanksAs.{RankRows, Ranked}
+use Rattle.queue.specs.check.SuspectsAs.{idR, noR, later, Cut}
+use Rattle.queue.specs.change.RanksAs.{Ranked}
 use Rattle.queue.specs.paper.Records.{Bytes, Id}
 use Rattle.queue.specs.paper.Ids.{cmpL, same?}
 use Rattle.queue.specs.paper.Lists.{any?, map}
-use Rattle.queue.specs.paper.Changing.{onePast, placeIn}
-use Rattle.queue.proofs.check.SuspectsRowLaws.{up-by, later-no, rising, any-none, any-some, look-none, look-here}
+use Rattle.queue.specs.paper.Changing.{placeIn}
+use Rattle.queue.proofs.check.SuspectsRowLaws.{up-by, later-no, rising, any-some, look-none, look-here}
 use Rattle.queue.proofs.change.OwnLaws.{shuffled-any}
 
 -- ---- the rows, one after the other

@@ -1,15 +1,5 @@
 -- The ranks of the released, and the rows of a reconciliation. Assumes nothing.
-use mathlib.Core.Path.{_≡_, refl, ap, sym, _∙_}
-use mathlib.Core.Bool.{Bool, true, false, cond, not, _||_}
-use mathlib.Core.Option.{Option, none, some}
-use mathlib.Core.List.{List, [], _∷_, _++_}
-use Prim.Native.Nat.{ℕ, zero, suc, _+_, _-_, _*_, _/_, _%_, _≤_, _<_}
-use native.Mathlib.Omega.{arith}
-use native.Mathlib.Numerals.{add-one}
-use lib.Dec.{leb, eqb}
-use lib.ListN.{length, take, drop, getD, drop-of-length-le}
-use lib.Seq.{drop-cons}
-use borrow.Author.Tests.{eq-eqb, ne-eqb, eqb-true, eqb-false}
+use Rattle.queue.specs.Prelude.{_≡_, refl, ap, sym, _∙_, Bool, true, false, cond, not, _||_, List, [], _∷_, _++_, ℕ, zero, suc, _+_, _-_, _%_, _≤_, _<_, arith, add-one, leb, eqb, length, take, drop, getD, drop-of-length-le, drop-cons, eq-eqb, ne-eqb, eqb-false}
 use Rattle.queue.specs.bytes.ListLaws.{map-length}
 use Rattle.queue.specs.Codec.{All, cases}
 use Rattle.queue.specs.layout.FrameCodec.{recC}
@@ -24,12 +14,11 @@ use Rattle.queue.specs.read.SelectAs.{idAt}
 use Rattle.queue.specs.change.TouchAs.{asTouched, verdictOf, InEntry}
 use Rattle.queue.specs.change.ReleaseAs.{nextV, nextL}
 use Rattle.queue.specs.theorems.ReconcileKeeps.{place-le}
-use Rattle.queue.specs.change.PlanAs.{Packs, RowAdded, becomes, numberN, verdictIn, made, RowFit, Planned, stayF, stayR}
+use Rattle.queue.specs.change.PlanAs.{Packs, RowAdded, numberN, made, RowFit, Planned, stayF, stayR}
 use Rattle.queue.specs.change.RanksAs.{numbered, keptOf, keptL, keptIn}
 use Rattle.queue.specs.paper.Records.{Bytes, Id, Rec}
 use Rattle.queue.specs.paper.Lists.{isSome, filter, map, maybe}
 use Rattle.queue.specs.paper.Ids.{cmpL, same?}
-use Rattle.queue.specs.paper.Sound.{holder?}
 use Rattle.queue.specs.paper.Changing.{confirm, finished, onePast, placeIn, releaseOne}
 use Rattle.queue.specs.declared.check.area.Area.{Area}
 use Rattle.queue.specs.declared.layout.frame.Seen.{Seen}
@@ -38,7 +27,7 @@ use Rattle.queue.specs.declared.change.plan.Row.{Row}
 use Rattle.queue.specs.declared.change.touch.Verdict.{Verdict}
 use Rattle.queue.proofs.layout.TurnLaws.{ReadsRec}
 use Rattle.queue.proofs.change.ReleaseLaws.{all-at}
-use Rattle.queue.proofs.change.PlanLaws.{row, made-out, become-judged, visit-turn, PlanLoop, plan-loop, plan-next, plan-close}
+use Rattle.queue.proofs.change.PlanLaws.{row, become-judged, visit-turn, PlanLoop, plan-loop, plan-next, plan-close}
 
 -- ---- the rank of an id
 unfoldable pub shift : ℕ → ℕ → ℕ

@@ -1,55 +1,43 @@
 -- Reconciliation, exit by exit. Assumes nothing.
-use mathlib.Core.Path.{_≡_, refl, ap, sym, _∙_}
-use mathlib.Core.Bool.{Bool, true, false, cond, not, _&&_, _||_}
-use mathlib.Core.Option.{Option, none, some}
-use mathlib.Core.List.{List, [], _∷_, _++_}
-use mathlib.Core.Logic.{_⊎_}
-use Prim.Native.Nat.{ℕ, zero, suc, _+_, _-_, _*_, _/_, _%_, _^_, _≤_, _<_, min}
-use native.Mathlib.Omega.{arith}
-use native.Mathlib.Nat.{mod-lt, min-eq-left, min-eq-right, min-le-left}
-use lib.Dec.{ltb, leb, eqb}
-use lib.ListN.{length, take, drop, replicate, length-append, length-take}
-use lib.Seq.{length-take-le}
-use borrow.Author.Tests.{lt-ltb, le-ltb, ltb-false, le-leb, lt-leb, leb-true, eq-eqb, ne-eqb, eqb-true}
-use Rattle.queue.specs.layout.FrameAs.{limitsIn, head-P, head-B, head-T}
+use Rattle.queue.specs.Prelude.{_≡_, refl, ap, sym, _∙_, Bool, true, false, cond, not, _||_, none, some, _⊎_, List, [], _∷_, _++_, ℕ, _+_, _-_, _*_, _/_, _%_, _^_, _≤_, _<_, min, arith, mod-lt, min-eq-left, min-eq-right, min-le-left, ltb, leb, eqb, length, take, length-append, length-take, length-take-le, lt-ltb, le-ltb, ltb-false}
+use Rattle.queue.specs.layout.FrameAs.{head-P, head-B, head-T}
 use Rattle.queue.specs.Codec as codec
-use Rattle.queue.specs.Codec.{All, cases, encs, optC}
+use Rattle.queue.specs.Codec.{All, cases, optC}
 use Rattle.queue.specs.bytes.PutAs.{Put, splice, beLast}
 use Rattle.queue.specs.layout.FrameCodec.{recC, idC}
 use Rattle.queue.specs.bytes.Parts.{part}
 use Rattle.queue.specs.bytes.ViewAs.{view}
-use Rattle.queue.specs.bytes.ReaderAs.{whole, listAt}
+use Rattle.queue.specs.bytes.ReaderAs.{listAt}
 use Rattle.queue.specs.layout.FormsCodec.{formC, queueC}
 use Rattle.queue.specs.Areas.{readArea}
 use Rattle.queue.specs.theorems.Bound.{fits-need}
-use Rattle.queue.specs.Lists.{Pairwise, Sub, sub-pairwise, and-true}
+use Rattle.queue.specs.Lists.{Pairwise, sub-pairwise, and-true}
 use Rattle.queue.specs.bytes.ListLaws.{filter-sub, all-every, sort-all, map-length}
 use Rattle.queue.specs.bytes.OrderLaws.{or-false}
-use Rattle.queue.specs.theorems.SoundParts.{Right, Fit, fit-sound, fit-ok, Before}
+use Rattle.queue.specs.theorems.SoundParts.{Fit, fit-sound, fit-ok, Before}
 use Rattle.queue.specs.theorems.CallsKeeps.{Alike, alike-rising, leaves-kept, moved-fit}
-use Rattle.queue.specs.theorems.ReconcileKeeps.{Reconcilable, touched-alike, reconcile-leaves, released-all, released}
-use Rattle.queue.specs.check.AreaAs.{limits, AreaAs, AreaIs}
-use Rattle.queue.specs.layout.HeadAs.{tipOf, tipSize, frontBytes, queueOf}
+use Rattle.queue.specs.theorems.ReconcileKeeps.{touched-alike, reconcile-leaves, released-all, released}
+use Rattle.queue.specs.check.AreaAs.{limits, AreaIs}
 use Rattle.queue.specs.check.RulesAs.{sum}
 use Rattle.queue.specs.change.FinishAs.{above}
 use Rattle.queue.specs.change.CallsAs.{AreaIn}
 use Rattle.queue.specs.change.WriteAs.{MovedFrom, MovedTo}
-use Rattle.queue.specs.theorems.Arguments.{Small, reconciling-ok}
+use Rattle.queue.specs.theorems.Arguments.{reconciling-ok}
 use Rattle.queue.specs.change.LentAs.{ReconcileAsked}
-use Rattle.queue.specs.change.ReopenAs.{IdsRise, idsAt}
+use Rattle.queue.specs.change.ReopenAs.{idsAt}
 use Rattle.queue.specs.read.SelectAs.{Row, rows, Even, Table, ahead?, idAt, RecStands}
 use Rattle.queue.specs.change.TouchAs.{appliedIn, ownIds, InEntry, Judged, changed?, changes?}
-use Rattle.queue.specs.change.ReleaseAs.{nextR, nextV, nextL, minedOf, StandsAt, bytesAt, MinedRow, FallingRows, MinedRows, MinedGathered, walkR, walkC}
+use Rattle.queue.specs.change.ReleaseAs.{nextR, nextV, nextL, minedOf, StandsAt, bytesAt, FallingRows, MinedRows, MinedGathered, walkR, walkC}
 use Rattle.queue.specs.change.RanksAs.{keptOf, keptL, keptIn}
 use Rattle.queue.specs.change.PlanAs.{plannedQ, PlanFor, Planned}
 use Rattle.queue.specs.theorems.Decided.{decided-number}
 use Rattle.queue.specs.paper.Decisions.{minedHolder?, decisions}
 use Rattle.queue.specs.change.ReconcileAs.{asked, LentTo, JudgedIn, anyTouched, wholeQ, GoneAre, DecidedAre, ChangedIs, cursorKind, cursorTo, CursorTold, WholePlan, WholeTo, FloorFor, goneBytes, ReconcileTold}
 use Rattle.queue.specs.paper.Records.{Bytes, Id, Limits, Rec, Queue}
-use Rattle.queue.specs.paper.Lists.{isSome, one, any?, count, filter, find, sort, map, concat, maybe, isEmpty?}
-use Rattle.queue.specs.paper.Sound.{need, finishRight?, holder?, mined?, content}
+use Rattle.queue.specs.paper.Lists.{isSome, one, any?, count, filter, sort, map, concat, maybe, isEmpty?}
+use Rattle.queue.specs.paper.Sound.{need, holder?, mined?, content}
 use Rattle.queue.specs.paper.Area.{areaBytes, over}
-use Rattle.queue.specs.paper.Changing.{Out, refused, done, top, topHeight, Applied, Reconciling, touch, touchFound, minedHeight, newer?, releases, releaseOne, trimmed, committed, moved, reconcile, ownOf, touchedRecs, toRelease}
+use Rattle.queue.specs.paper.Changing.{done, top, topHeight, Applied, Reconciling, touch, minedHeight, newer?, releases, releaseOne, trimmed, committed, moved, reconcile, ownOf, touchedRecs, toRelease}
 use Rattle.queue.specs.Checked.{Outcome, outcome, told, reconcileShape?, reconcileOf}
 use Rattle.queue.specs.paper.Calls.{releasedBytes, idsBytes, ReconcileArgs, reconcileArgs, reconciliation}
 use Rattle.queue.specs.declared.Kind.the-variants.{Memory, Whole, Cursor}
@@ -60,7 +48,7 @@ use Rattle.queue.specs.declared.change.block.Block.{Block}
 use Rattle.queue.specs.declared.layout.frame.Height.{Height}
 use Rattle.queue.specs.declared.layout.head.Marks.{Marks}
 use Rattle.queue.specs.declared.check.rules.Query.the-variants.{Tombstones}
-use Rattle.queue.proofs.bytes.PutLaws.{then, recast, kept, over-splice, length-be}
+use Rattle.queue.proofs.bytes.PutLaws.{then, recast, kept, over-splice}
 use Rattle.queue.proofs.bytes.PutByteLaws.{be-same}
 use Rattle.queue.proofs.change.WriteLaws.{fit, one-queue, same-queue, the-limits}
 use Rattle.queue.proofs.read.ReadingLaws.{key}

@@ -1,13 +1,5 @@
 -- Forgetting after a release is a filter by the floor. Assumes nothing.
-use mathlib.Core.Path.{_≡_, refl, ap, sym, _∙_}
-use mathlib.Core.Bool.{Bool, true, false, cond, not, _&&_, _||_}
-use mathlib.Core.Logic.{_⊎_}
-use mathlib.Core.List.{List, [], _∷_}
-use Prim.Native.Nat.{ℕ, zero, suc, _+_, _-_, _≤_}
-use native.Mathlib.Omega.{arith}
-use lib.Dec.{ltb, leb, eqb}
-use lib.ListN.{length}
-use borrow.Author.Tests.{eq-eqb, ne-eqb}
+use Rattle.queue.specs.Prelude.{_≡_, refl, ap, sym, _∙_, Bool, true, false, cond, not, _&&_, _||_, _⊎_, List, [], _∷_, ℕ, zero, suc, _+_, _-_, _≤_, arith, ltb, leb, eqb, length, eq-eqb, ne-eqb}
 use Rattle.queue.specs.Codec.{cases, All}
 use Rattle.queue.specs.Lists.{Pairwise, all-map, and-true, sub-pairwise, total-same}
 use Rattle.queue.specs.bytes.ListLaws.{filter-sub, filter-total, sort-all, sort-total, sort-apart, map-pairwise}
@@ -23,7 +15,7 @@ use Rattle.queue.specs.paper.Records.{Id, Limits, Rec}
 use Rattle.queue.specs.paper.Lists.{one, total, filter, sort, map}
 use Rattle.queue.specs.paper.Ids.{below?}
 use Rattle.queue.specs.paper.Sound.{holder?, mined?, content, tombstones}
-use Rattle.queue.specs.paper.Changing.{finished, higher, forget, minedHeight, newer?, releases, onePast, placeIn, releaseOne, trimmed}
+use Rattle.queue.specs.paper.Changing.{finished, higher, minedHeight, newer?, releases, onePast, placeIn, releaseOne, trimmed}
 use Rattle.queue.specs.declared.check.rules.Query.the-variants.{Tombstones}
 use Rattle.queue.proofs.change.FinishLaws.{floors-of, forget-floor, new-none, new-one, zero-leb}
 use Rattle.queue.specs.check.NumbersAs.{newAbove}

@@ -1,35 +1,24 @@
 -- The Mined holders, their order, and which of them are released. Assumes nothing.
-use mathlib.Core.Path.{_≡_, refl, ap, sym, _∙_}
-use mathlib.Core.Bool.{Bool, true, false, cond, _&&_, _||_}
-use mathlib.Core.Option.{Option, none, some}
-use mathlib.Core.List.{List, [], _∷_, _++_, append-assoc, append-nil}
-use Prim.Native.Nat.{ℕ, zero, suc, _+_, _-_, _*_, _/_, _%_, _^_, _≤_, _<_}
-use native.Mathlib.Omega.{arith}
-use native.Mathlib.Numerals.{add-one}
-use native.Mathlib.Nat.{le-of-suc-le-suc}
-use lib.Dec.{ltb, leb, eqb}
-use lib.ListN.{length, take, drop, getD, set, length-drop, length-set, drop-of-length-le}
-use lib.Seq.{drop-cons, take-suc, take-all, take-suc-set}
-use borrow.Author.Tests.{eq-eqb, ne-eqb, lt-leb, eqb-true}
+use Rattle.queue.specs.Prelude.{_≡_, refl, ap, sym, _∙_, Bool, true, false, cond, _&&_, _||_, Option, none, some, List, [], _∷_, _++_, append-assoc, append-nil, ℕ, zero, suc, _+_, _-_, _*_, _/_, _%_, _≤_, _<_, arith, le-of-suc-le-suc, add-one, ltb, leb, eqb, length, take, drop, getD, set, length-drop, length-set, drop-of-length-le, drop-cons, take-suc, take-all, take-suc-set, eq-eqb, ne-eqb, lt-leb, eqb-true}
 use Rattle.queue.specs.Codec.{All, cases}
 use Rattle.queue.specs.Lists.{Pairwise}
 use Rattle.queue.specs.bytes.ListLaws.{and-false, sort-all}
 use Rattle.queue.specs.bytes.OrderLaws.{cmp-flip}
 use Rattle.queue.specs.layout.FrameCodec.{recC}
 use Rattle.queue.specs.bytes.ViewAs.{view}
-use Rattle.queue.specs.bytes.ReaderAs.{Reads, whole, listAt}
+use Rattle.queue.specs.bytes.ReaderAs.{whole, listAt}
 use Rattle.queue.specs.bytes.ReaderLaws.{Turn, beAt, false-true, none-left}
 use Rattle.queue.specs.layout.FormsCodec.{formC, afterIn}
 use Rattle.queue.specs.layout.FrameAs.{factsOf, placeHeight}
 use Rattle.queue.specs.theorems.SoundParts.{Before}
-use Rattle.queue.specs.read.SelectAs.{Row, rows, Even, Table, aheadOf, ahead?, Added, idAt, idOf, RecStands, PlaceAdded}
-use Rattle.queue.specs.change.TouchAs.{entryIn, SeenOf, asTouched, verdictOf, InEntry}
+use Rattle.queue.specs.read.SelectAs.{Row, rows, Even, aheadOf, ahead?, Added, idAt, RecStands, PlaceAdded}
+use Rattle.queue.specs.change.TouchAs.{SeenOf, asTouched, verdictOf, InEntry}
 use Rattle.queue.specs.change.ReleaseAs.{nextV, nextL, minedOf, minedF, heightF, bytesAt, MinedRow, FallingRows, MinedRows, MinedGathered, walkR, walkC}
 use Rattle.queue.specs.paper.Decisions.{minedHolder?}
 use Rattle.queue.specs.paper.Records.{Bytes, Id, Limits, Rec}
 use Rattle.queue.specs.paper.Lists.{total, filter, insert, sort, map, maybe}
-use Rattle.queue.specs.paper.Ids.{cmpL, below?, same?}
-use Rattle.queue.specs.paper.Sound.{holder?, mined?, content}
+use Rattle.queue.specs.paper.Ids.{cmpL, below?}
+use Rattle.queue.specs.paper.Sound.{holder?, content}
 use Rattle.queue.specs.paper.Changing.{confirm, minedHeight, newer?, releases}
 use Rattle.queue.specs.declared.layout.frame.Seen.{Seen}
 use Rattle.queue.specs.declared.layout.frame.Facts.{Facts}

@@ -1,15 +1,6 @@
 -- Reopening: lent ids, the listed, their rows, and the call exit by exit. Assumes nothing.
-use mathlib.Core.Path.{_≡_, refl, ap, sym, _∙_}
-use mathlib.Core.Bool.{Bool, true, false, cond, not, _&&_}
-use mathlib.Core.Option.{Option, none, some}
-use mathlib.Core.List.{List, [], _∷_, _++_, append-nil}
-use Prim.Native.Nat.{ℕ, zero, suc, _+_, _-_, _*_, _/_, _%_, _^_, _≤_, _<_}
-use native.Mathlib.Omega.{arith}
-use native.Mathlib.Nat.{add-zero, mod-lt, div-add-mod'}
-use lib.Dec.{ltb, eqb}
-use lib.ListN.{length, drop, take, length-drop, take-append-drop}
-use borrow.Author.Tests.{lt-ltb, le-ltb, eq-eqb, ne-eqb}
-use Rattle.queue.specs.Codec.{got, Codec, cases, All, encs, decs, vec-fwd}
+use Rattle.queue.specs.Prelude.{_≡_, refl, ap, sym, _∙_, Bool, true, false, cond, not, _&&_, none, some, List, [], _∷_, _++_, append-nil, ℕ, zero, suc, _+_, _-_, _*_, _/_, _%_, _^_, _≤_, _<_, arith, add-zero, mod-lt, div-add-mod', ltb, eqb, length, drop, take, length-drop, take-append-drop, lt-ltb, le-ltb, eq-eqb, ne-eqb}
+use Rattle.queue.specs.Codec.{got, cases, encs, decs, vec-fwd}
 use Rattle.queue.specs.layout.FrameCodec.{idC, recC}
 use Rattle.queue.specs.bytes.ViewAs.{view}
 use Rattle.queue.specs.bytes.ReaderAs.{Reads, whole, listAt, isGot, valOf}
@@ -19,24 +10,24 @@ use Rattle.queue.specs.layout.FormsCodec.{formC, queueC}
 use Rattle.queue.specs.Areas.{readArea}
 use Rattle.queue.specs.theorems.Bound.{fits-need}
 use Rattle.queue.specs.theorems.SoundParts.{Fit, fit-sound, fit-ok}
-use Rattle.queue.specs.theorems.CallsKeeps.{Kept, Leaves, leaves-kept, reopen-leaves}
+use Rattle.queue.specs.theorems.CallsKeeps.{leaves-kept, reopen-leaves}
 use Rattle.queue.specs.theorems.Plain.{ids-plain}
 use Rattle.queue.specs.layout.FrameAs.{factsOf, SeenAs}
-use Rattle.queue.specs.check.AreaAs.{AreaAs, AreaIs}
+use Rattle.queue.specs.check.AreaAs.{AreaIs}
 use Rattle.queue.specs.theorems.Arguments.{Small, items-ok, ids-ok}
 use Rattle.queue.specs.change.WriteAs.{TipIs, marksAfter}
 use Rattle.queue.specs.change.CallsAs.{AreaIn}
 use Rattle.queue.specs.read.FindAs.{recsIn}
-use Rattle.queue.specs.change.PlanAs.{Packs, RowAdded, made, RowFit, plannedQ, PlanFor, Planned}
-use Rattle.queue.specs.change.ReopenAs.{IdsIn, IdsRise, idsAt, listedS, again, againQ, AgainFrom, AgainTo, ReopenTold}
+use Rattle.queue.specs.change.PlanAs.{Packs, RowAdded, made, plannedQ, PlanFor, Planned}
+use Rattle.queue.specs.change.ReopenAs.{IdsIn, idsAt, listedS, again, againQ, AgainFrom, AgainTo, ReopenTold}
 use Rattle.queue.specs.paper.Records.{Bytes, Id, Rec, Queue}
 use Rattle.queue.specs.paper.Lists.{any?, map, concat}
 use Rattle.queue.specs.paper.Ids.{cmpL, rise?}
-use Rattle.queue.specs.paper.Sound.{need, mined?, among?}
+use Rattle.queue.specs.paper.Sound.{need, among?}
 use Rattle.queue.specs.paper.Area.{areaBytes, over}
-use Rattle.queue.specs.paper.Changing.{Out, refused, done, committed, reopened, listed?, reopen}
+use Rattle.queue.specs.paper.Changing.{done, committed, listed?, reopen}
 use Rattle.queue.specs.Checked.{Outcome, outcome, told, reopenOf}
-use Rattle.queue.specs.paper.Calls.{nothingBytes, pieces, items, whole?}
+use Rattle.queue.specs.paper.Calls.{nothingBytes, pieces, items}
 use Rattle.queue.specs.declared.Kind.the-variants.{Nothing, Whole}
 use Rattle.queue.specs.declared.Answer.the-variants.{Refused, Done}
 use Rattle.queue.specs.declared.layout.frame.Seen.{Seen}

@@ -1,17 +1,5 @@
 -- What a reconciliation makes of one record. Assumes nothing.
-use mathlib.Core.Path.{_≡_, refl, ap, sym, _∙_}
-use mathlib.Core.Bool.{Bool, true, false, cond, not, _&&_, _||_}
-use mathlib.Core.Option.{Option, none, some}
-use mathlib.Core.List.{List, [], _∷_, _++_, append-assoc, append-nil}
-use Prim.Native.Nat.{ℕ, zero, suc, _+_, _-_, _*_, _/_, _%_, _^_, _≤_, _<_}
-use native.Mathlib.Omega.{arith}
-use native.Mathlib.Numerals.{add-one}
-use native.Mathlib.Nat.{pow-succ', mul-assoc, mul-comm, zero-add, suc-add, le-of-suc-le-suc}
-use lib.Dec.{eqb}
-use lib.Arith.{digits-div, digits-mod}
-use lib.ListN.{length, take, drop, getD, set, length-append, length-drop, length-set}
-use lib.Seq.{take-take, take-suc, take-suc-set, drop-drop, getD-drop, drop-append-seam, take-append-seam}
-use borrow.Author.Tests.{eq-eqb, ne-eqb, eqb-true, eqb-false}
+use Rattle.queue.specs.Prelude.{_≡_, refl, ap, sym, _∙_, Bool, true, false, cond, _&&_, _||_, Option, none, some, List, [], _∷_, _++_, append-assoc, append-nil, ℕ, zero, suc, _+_, _-_, _*_, _/_, _%_, _^_, _≤_, _<_, arith, pow-succ', mul-assoc, mul-comm, zero-add, suc-add, le-of-suc-le-suc, add-one, eqb, digits-div, digits-mod, length, take, drop, getD, set, length-append, length-drop, length-set, take-take, take-suc, take-suc-set, drop-drop, getD-drop, drop-append-seam, take-append-seam, eq-eqb, ne-eqb, eqb-true, eqb-false}
 use Rattle.queue.specs.Codec as codec
 use Rattle.queue.specs.Codec.{All, cases, be-length, optC, pairC, vecC}
 use Rattle.queue.specs.layout.FrameCodec.{recC, idC, placeC}
@@ -26,21 +14,21 @@ use Rattle.queue.specs.theorems.SoundParts.{fields-of}
 use Rattle.queue.specs.change.OwnAs.{wantedAt}
 use Rattle.queue.specs.change.TouchAs.{entryIn, appliedIn, entryIds, EntriesRise, EntryAs, SeenOf, SeenHere, ConfirmedIs, ownIds, judgeF, asTouched, verdictOf, InEntry, TouchIs, VerdictOn, Judged, changed?, changes?}
 use Rattle.queue.specs.paper.Records.{Bytes, Id, Rec, queued, conflicted}
-use Rattle.queue.specs.paper.Lists.{isSome, any?, all?, find, map, concat}
+use Rattle.queue.specs.paper.Lists.{isSome, any?, all?, find}
 use Rattle.queue.specs.paper.Ids.{cmpL, same?, rise?}
-use Rattle.queue.specs.paper.Sound.{pending?, mined?, among?, wanted, outputs}
+use Rattle.queue.specs.paper.Sound.{pending?, among?, wanted, outputs}
 use Rattle.queue.specs.paper.Area.{beVal, placeBytes}
 use Rattle.queue.specs.paper.Changing.{Applied, confirmed?, confirm, judge, queuedOutputs, touchFound}
-use Rattle.queue.specs.paper.Calls.{pieces, appliedOf}
+use Rattle.queue.specs.paper.Calls.{appliedOf}
 use Rattle.queue.specs.declared.layout.frame.Seen.{Seen}
 use Rattle.queue.specs.declared.layout.frame.Facts.{Facts}
 use Rattle.queue.specs.declared.read.find.Found.{Found}
 use Rattle.queue.specs.declared.change.touch.Verdict.{Verdict}
-use Rattle.queue.proofs.layout.TurnLaws.{Scan, start, here, on, stop, end, SeenIn, ReadsRec, seen, see}
+use Rattle.queue.proofs.layout.TurnLaws.{Scan, start, here, on, stop, end, ReadsRec, seen}
 use Rattle.queue.specs.bytes.OrderLaws.{cmp-flip, same-sym, below-not-same, or-false}
 use Rattle.queue.proofs.check.ScanLaws.{nothingF}
 use Rattle.queue.proofs.bytes.PutByteLaws.{between}
-use Rattle.queue.proofs.change.LentFindLaws.{Finding, finding, find-end, at-low, at-high, rest-rises, rising-at}
+use Rattle.queue.proofs.change.LentFindLaws.{Finding, find-end, at-low, at-high, rest-rises, rising-at}
 
 -- ---- numbers and parts of an applied entry
 val-snoc : (l : Bytes) (b : ℕ) → beVal (l ++ (b ∷ [])) ≡ beVal l * 256 + b

@@ -1,50 +1,32 @@
 -- Whole areas written from an area. Assumes nothing.
-use mathlib.Core.Path.{_≡_, refl, ap, sym, _∙_}
-use mathlib.Core.Bool.{Bool, true, false, cond, not}
-use mathlib.Core.Option.{Option, none, some}
-use mathlib.Core.Logic.{_⊎_}
-use mathlib.Core.List.{List, [], _∷_, _++_, append-assoc, append-nil}
-use Prim.Native.Nat.{ℕ, zero, suc, _+_, _-_, _*_, _%_, _^_, _≤_, _<_}
-use native.Mathlib.Omega.{arith}
-use native.Mathlib.Nat.{mod-lt}
-use lib.Dec.{ltb, leb}
-use lib.ListN.{length, drop, take, replicate, length-append, length-drop}
-use lib.Seq.{drop-drop, take-at, drop-at}
-use borrow.Author.Tests.{leb-true}
+use Rattle.queue.specs.Prelude.{_≡_, refl, ap, sym, _∙_, Bool, true, false, Option, none, some, List, [], _∷_, _++_, append-assoc, ℕ, _+_, _-_, _≤_, _<_, arith, leb, length, drop, take, length-append, length-drop, drop-drop, take-at, drop-at, leb-true}
 use Rattle.queue.specs.Codec as codec
-use Rattle.queue.specs.Codec.{Got, fail, got, Codec, cases, All, beC, be-length, optC, optEnc, encs, decs, vec-bwd, vecC}
+use Rattle.queue.specs.Codec.{Got, fail, got, Codec, All, beC, be-length, optC, optEnc, encs, decs, vec-bwd, vecC}
 use Rattle.queue.specs.Lists.{and-true}
-use Rattle.queue.specs.bytes.PutAs.{Put}
 use Rattle.queue.specs.bytes.Parts.{part}
-use Rattle.queue.specs.layout.FrameCodec.{Head, idC, limitsC, headC, recC}
+use Rattle.queue.specs.layout.FrameCodec.{Head, idC, limitsC, recC}
 use Rattle.queue.specs.bytes.ReaderAs.{whole, listAt, behind, isGot, valOf, restOf}
 use Rattle.queue.specs.bytes.ReaderLaws.{false-true}
-use Rattle.queue.specs.bytes.ViewAs.{view}
-use Rattle.queue.specs.layout.FormsCodec.{formC, form-raw, afterIn, queueC, queue-enc, storeOf, headFor, ok-queue, ok-store}
+use Rattle.queue.specs.layout.FormsCodec.{formC, form-raw, queueC, storeOf, headFor}
 use Rattle.queue.specs.Areas.{readArea}
 use Rattle.queue.specs.layout.FrameAs.{limitsIn, HeadAs, head-T}
-use Rattle.queue.specs.check.AreaAs.{StoreAs, AreaAs}
+use Rattle.queue.specs.check.AreaAs.{AreaAs}
 use Rattle.queue.specs.theorems.SoundParts.{Fit, fit-of, Right}
-use Rattle.queue.specs.layout.HeadAs.{frontLen, tipOf, tipSize, headWith, MarksFit, frontBytes, queueOf}
+use Rattle.queue.specs.layout.HeadAs.{frontLen, tipOf, tipSize, headWith, frontBytes, queueOf}
 use Rattle.queue.specs.layout.LimitsAs.{shares-long}
 use Rattle.queue.specs.change.WriteAs.{HeadIn, TipIs}
 use Rattle.queue.specs.theorems.Plain.{bytes-plain, limits-plain}
 use Rattle.queue.specs.paper.Records.{Bytes, Id, Limits, Rec, Queue}
-use Rattle.queue.specs.paper.Lists.{isSome, all?, count}
-use Rattle.queue.specs.paper.Sound.{need, holder?, right?, finishRight?, sound?, inRange, tombstones}
-use Rattle.queue.specs.paper.Area.{areaBytes, sharesBytes, over}
+use Rattle.queue.specs.paper.Lists.{isSome, count}
+use Rattle.queue.specs.paper.Sound.{need, holder?, finishRight?, tombstones}
 use Rattle.queue.specs.paper.Calls.{numbers}
 use Rattle.queue.specs.paper.Kinds.{newest}
-use Rattle.queue.specs.paper.Changing.{moved, committed, finishThose, forget}
 use Rattle.queue.specs.declared.layout.frame.HeadR.{HeadR}
-use Rattle.queue.specs.declared.layout.frame.Height.{Height}
 use Rattle.queue.specs.declared.check.area.Area.{Area}
 use Rattle.queue.specs.declared.layout.head.Marks.{Marks}
-use Rattle.queue.proofs.bytes.PutLaws.{recast, kept}
 use Rattle.queue.proofs.bytes.PutByteLaws.{between}
 use Rattle.queue.proofs.layout.LimitsLaws.{sixteen}
-use Rattle.queue.proofs.check.AreaLaws.{Ranged, ranged}
-use Rattle.queue.proofs.layout.HeadLaws.{head-enc, front-enc, area-done}
+use Rattle.queue.proofs.layout.HeadLaws.{head-enc, front-enc}
 
 -- ---- the tip
 part-in : (v p x r : Bytes) (k : ℕ) → drop k v ≡ (p ++ x) ++ r → take (length x) (drop (k + length p) v) ≡ x

@@ -1,17 +1,7 @@
 -- The bytes of a record after its verdict. Assumes nothing.
-use mathlib.Core.Path.{_≡_, refl, ap, sym, _∙_}
-use mathlib.Core.Bool.{Bool, true, false, cond, _&&_, _||_}
-use mathlib.Core.Option.{Option, none, some}
-use mathlib.Core.List.{List, [], _∷_, _++_, append-assoc, append-nil}
-use Prim.Native.Nat.{ℕ, zero, suc, _+_, _-_, _*_, _^_, _≤_, _<_}
-use native.Mathlib.Omega.{arith}
-use native.Mathlib.Nat.{le-of-suc-le-suc}
-use lib.Dec.{leb, eqb}
-use lib.ListN.{length, take, drop, getD, length-append, length-drop, take-append-drop, drop-of-length-le}
-use lib.Seq.{drop-drop, take-take, take-all, length-take-le}
-use borrow.Author.Tests.{eq-eqb, ne-eqb, eqb-true, eqb-false}
+use Rattle.queue.specs.Prelude.{_≡_, refl, ap, sym, _∙_, Bool, false, cond, _&&_, _||_, none, some, [], _∷_, _++_, append-assoc, append-nil, ℕ, zero, suc, _+_, _-_, _^_, _≤_, _<_, arith, le-of-suc-le-suc, eqb, length, take, drop, length-append, length-drop, take-append-drop, drop-of-length-le, drop-drop, take-take, take-all, length-take-le, eq-eqb, ne-eqb, eqb-true}
 use Rattle.queue.specs.Codec as codec
-use Rattle.queue.specs.Codec.{All, Codec, cases, beC, encs, got}
+use Rattle.queue.specs.Codec.{cases, beC, encs, got}
 use Rattle.queue.specs.bytes.PutAs.{Put, beLast}
 use Rattle.queue.specs.layout.FrameCodec.{recC, termsC, placeC, bodyC}
 use Rattle.queue.specs.bytes.ViewAs.{view}
@@ -22,9 +12,8 @@ use Rattle.queue.specs.theorems.Plain.{terms-plain, place-plain, body-pl
 use Rattle.queue.specs.theorems.Arguments.{Small}
 use Rattle.queue.specs.change.TouchAs.{entryIn, SeenOf}
 use Rattle.queue.specs.change.PlanAs.{PartsIn, stateF, reasonF, stateN, reasonN, markN, placeAfter, becomes, leadBytes, placeN, placeLen, tailN, tailLen, nextBytes, nextLen, stepN}
-use Rattle.queue.specs.paper.Records.{Bytes, Id, Held, Rec}
-use Rattle.queue.specs.paper.Area.{beVal, flagged, termsBytes, placeBytes, heldBytes, recBytes, recUnder}
-use Rattle.queue.specs.paper.Changing.{withdrawnMark}
+use Rattle.queue.specs.paper.Records.{Bytes, Rec}
+use Rattle.queue.specs.paper.Area.{beVal, flagged, termsBytes, placeBytes, heldBytes, recUnder}
 use Rattle.queue.specs.paper.Kinds.{newest}
 use Rattle.queue.specs.declared.layout.frame.Seen.{Seen}
 use Rattle.queue.specs.declared.layout.frame.Facts.{Facts}

@@ -1,46 +1,31 @@
 -- An area written from an area and the rows of a plan: the loop over the rows, and the whole area. Assumes nothing.
-use mathlib.Core.Path.{_≡_, refl, ap, sym, _∙_}
-use mathlib.Core.Bool.{Bool, true, false, cond, not, _||_}
-use mathlib.Core.Option.{Option, none, some}
-use mathlib.Core.Logic.{_⊎_}
-use mathlib.Core.List.{List, [], _∷_, _++_, append-assoc, append-nil}
-use Prim.Native.Nat.{ℕ, zero, suc, _+_, _-_, _*_, _%_, _^_, _≤_, _<_}
-use native.Mathlib.Omega.{arith}
-use native.Mathlib.Nat.{add-zero, mod-lt}
-use native.Mathlib.Numerals.{add-one}
-use lib.Dec.{ltb, leb, eqb}
-use lib.ListN.{length, take, drop, getD, replicate, length-append, length-drop, take-append-drop, drop-of-length-le}
-use lib.Seq.{drop-cons, drop-drop, drop-at}
-use borrow.Author.Tests.{le-leb, lt-leb, eq-eqb, ne-eqb}
-use Rattle.queue.specs.Codec.{All, Codec, cases, encs, got}
+use Rattle.queue.specs.Prelude.{_≡_, refl, ap, sym, _∙_, Bool, true, false, cond, not, _||_, some, _⊎_, List, [], _∷_, _++_, append-assoc, append-nil, ℕ, _+_, _-_, _%_, _^_, _≤_, _<_, arith, add-zero, mod-lt, add-one, ltb, leb, eqb, length, take, drop, getD, replicate, length-append, length-drop, take-append-drop, drop-of-length-le, drop-cons, drop-drop, drop-at, eq-eqb, ne-eqb}
+use Rattle.queue.specs.Codec.{All, cases, encs, got}
 use Rattle.queue.specs.bytes.PutAs.{Put}
 use Rattle.queue.specs.layout.FrameCodec.{recC}
-use Rattle.queue.specs.bytes.ReaderAs.{whole, listAt}
+use Rattle.queue.specs.bytes.ReaderAs.{listAt}
 use Rattle.queue.specs.bytes.ReaderLaws.{none-left}
 use Rattle.queue.specs.layout.FormsCodec.{formC, form-raw, queueC, storeOf, areaForm, ok-queue, ok-store}
 use Rattle.queue.specs.Areas.{readArea}
 use Rattle.queue.specs.layout.FrameAs.{factsOf, limitsIn, head-T}
-use Rattle.queue.specs.check.AreaAs.{AreaAs}
-use Rattle.queue.specs.layout.HeadAs.{frontLen, tipOf, tipSize, frontBytes, queueOf}
-use Rattle.queue.specs.layout.HeadAs as fronts
+use Rattle.queue.specs.layout.HeadAs.{frontLen, tipOf, tipSize, frontBytes}
 use Rattle.queue.specs.theorems.Arguments.{Small}
 use Rattle.queue.specs.check.RulesAs.{sum}
 use Rattle.queue.specs.change.CallsAs.{AreaIn}
 use Rattle.queue.specs.read.ReadingAs.{Here}
 use Rattle.queue.specs.read.FindAs.{recsIn}
 use Rattle.queue.specs.change.FinishAs.{picked, pickedS, endWhat, endState, endReason, above}
-use Rattle.queue.specs.change.WriteAs.{HeadIn, TipIs, MovedFrom, marksAfter, ended, EndedFrom}
-use Rattle.queue.specs.change.PlanAs.{rowOf, Packs, RowAdded, becomes, numberN, verdictIn, made, RowFit, edited, RowsAt, rowMade, RowFits, plannedIn, RowsIn, plannedQ, PlanFor, Planned, stepN, stayF, stayR, endedL}
+use Rattle.queue.specs.change.WriteAs.{TipIs, MovedFrom, marksAfter, ended, EndedFrom}
+use Rattle.queue.specs.change.PlanAs.{rowOf, Packs, RowAdded, numberN, verdictIn, made, RowFit, edited, RowsAt, rowMade, RowFits, plannedIn, RowsIn, plannedQ, PlanFor, Planned, stepN, stayF, stayR, endedL}
 use Rattle.queue.specs.paper.Records.{Bytes, Id, Limits, Rec, Queue}
 use Rattle.queue.specs.paper.Lists.{one, count, filter}
-use Rattle.queue.specs.paper.Sound.{need, holder?, tombstones}
+use Rattle.queue.specs.paper.Sound.{need, holder?}
 use Rattle.queue.specs.paper.Area.{areaBytes, over}
 use Rattle.queue.specs.paper.Changing.{moved, committed, finished, finishThose, forget}
 use Rattle.queue.specs.declared.check.area.Area.{Area}
 use Rattle.queue.specs.declared.check.area.Open.{Open}
 use Rattle.queue.specs.declared.change.finish.Change.{Change}
 use Rattle.queue.specs.declared.change.finish.Change.the-variants.{Named, Due}
-use Rattle.queue.specs.declared.layout.frame.HeadR.{HeadR}
 use Rattle.queue.specs.declared.layout.frame.Height.{Height}
 use Rattle.queue.specs.declared.layout.frame.Seen.{Seen}
 use Rattle.queue.specs.declared.layout.head.Marks.{Marks}
@@ -52,9 +37,9 @@ use Rattle.queue.proofs.bytes.PutLaws as puts
 use Rattle.queue.proofs.bytes.PutLaws.{recast, kept, Left, begun, onward}
 use Rattle.queue.proofs.bytes.PutByteLaws.{between}
 use Rattle.queue.proofs.layout.HeadLaws.{area-done}
-use Rattle.queue.proofs.change.FinishLaws.{encs-append, raw-after, raw-within, picked-is, Picks, forget-floor, floors}
+use Rattle.queue.proofs.change.FinishLaws.{encs-append, picked-is, Picks, forget-floor, floors}
 use Rattle.queue.proofs.read.ReadingLaws.{one-here, met}
-use Rattle.queue.proofs.change.WriteLaws.{fit, recs-here, the-limits, shares-sixteen, queue-long, same-queue, one-queue, tip-of, floor-needs}
+use Rattle.queue.proofs.change.WriteLaws.{fit, recs-here, the-limits, shares-sixteen, queue-long, same-queue, one-queue, tip-of}
 use Rattle.queue.proofs.change.WriteNextLaws.{step-is}
 use Rattle.queue.proofs.change.PlanLaws.{row, made-same, made-out, made-cancelled, made-expired, number-1, number-some, number-small, rec-some, Reached, reach, no-rows, no-rows-at, visit-turn, PlanLoop, plan-loop, plan-next, plan-close}
 

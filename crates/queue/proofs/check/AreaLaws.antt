@@ -1,29 +1,20 @@
 -- A queue found in bytes or in a text: limits, counts, and each exit of its readers. Assumes nothing.
-use mathlib.Core.Path.{_≡_, refl, ap, sym, _∙_}
-use mathlib.Core.Bool.{Bool, true, false, cond, not, _&&_}
-use mathlib.Core.Option.{Option, none, some}
-use mathlib.Core.List.{List, [], _∷_, _++_}
-use Prim.Native.Nat.{ℕ, zero, suc, _+_, _-_, _*_, _≤_, _<_}
-use native.Mathlib.Omega.{arith}
-use native.Mathlib.Nat.{mul-le-mul, zero-add}
-use lib.Dec.{ltb, leb, eqb}
-use lib.ListN.{length, drop, take}
-use borrow.Author.Tests.{leb-true, le-leb, lt-leb, eqb-true, eq-eqb, ne-eqb}
-use Rattle.queue.specs.Codec.{Got, fail, got, _>>=_, Codec, cases, beC, be-length, pairC, pairDec, mapC, decs, vec-bwd}
+use Rattle.queue.specs.Prelude.{_≡_, refl, ap, sym, _∙_, Bool, true, false, cond, _&&_, none, some, List, [], _∷_, ℕ, _+_, _-_, _*_, _≤_, _<_, arith, mul-le-mul, leb, length, drop, take, leb-true, le-leb, lt-leb}
+use Rattle.queue.specs.Codec.{Got, fail, got, Codec, cases, beC, be-length, pairC, pairDec, mapC, decs, vec-bwd}
 use Rattle.queue.specs.Lists.{and-true}
-use Rattle.queue.specs.layout.FrameCodec.{Head, headK, recC}
-use Rattle.queue.specs.bytes.ReaderAs.{Reads, whole, listAt, behind, isGot, valOf}
+use Rattle.queue.specs.layout.FrameCodec.{headK, recC}
+use Rattle.queue.specs.bytes.ReaderAs.{Reads, whole, listAt, isGot, valOf}
 use Rattle.queue.specs.bytes.ReaderLaws.{false-true, weaken}
 use Rattle.queue.specs.bytes.ViewAs.{view}
-use Rattle.queue.specs.layout.FormsCodec.{formC, afterIn, endsLine, Framed, framed, frame-bad, taken, Many, Store, headFor, recIn, storeIn, areaForm, store-read, queueC, storeOf, queue-read}
-use Rattle.queue.specs.Areas.{readArea, readGot, zero?, reads-stands, area-found, area-none}
+use Rattle.queue.specs.layout.FormsCodec.{formC, afterIn, endsLine, Framed, framed, frame-bad, taken, Many, Store, recIn, storeIn, areaForm, store-read, queueC, storeOf, queue-read}
+use Rattle.queue.specs.Areas.{readArea, zero?, reads-stands, area-found, area-none}
 use Rattle.queue.specs.layout.FrameAs.{factsOf, limitsIn, HeadUnder}
 use Rattle.queue.specs.check.RulesAs.{weight, sum}
 use Rattle.queue.specs.check.ScanAs.{SumsAs, countsN}
-use Rattle.queue.specs.check.AreaAs.{StoreAs, soundL, sound-list, filledBy, FilledAs, AreaAs, AreaIs}
+use Rattle.queue.specs.check.AreaAs.{StoreAs, soundL, sound-list, filledBy, FilledAs, AreaIs}
 use Rattle.queue.specs.paper.Ids.{rise?}
 use Rattle.queue.specs.paper.Records.{Bytes, Limits, Rec, Queue}
-use Rattle.queue.specs.paper.Lists.{one, all?, map}
+use Rattle.queue.specs.paper.Lists.{all?, map}
 use Rattle.queue.specs.paper.Sound.{inRange, need, holder?, holders, holderBytes, minedHolders, minedBytes, tombstones, right?, counts?, distinct?, apart?, readApart?, sound?, sharesRight?, limitsRight?}
 use Rattle.queue.specs.declared.layout.frame.HeadR.{HeadR}
 use Rattle.queue.specs.declared.layout.frame.Form.{Form}

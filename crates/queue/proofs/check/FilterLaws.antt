@@ -1,16 +1,5 @@
 -- The filter's laws, and the pass that uses it: inputs in one record only. Finish numbers by counts. Assumes nothing.
-use mathlib.Core.Path.{_≡_, refl, ap, ap₂, sym, _∙_, subst}
-use mathlib.Core.Bool.{Bool, true, false, cond, not, _&&_, _||_}
-use mathlib.Core.List.{List, [], _∷_}
-use Prim.Native.Nat.{ℕ, _+_, _-_, _*_, _/_, _%_, _≤_, _<_, max}
-use native.Mathlib.Omega.{arith}
-use native.Mathlib.Nat.{mod-lt, max-le, le-max-left, le-max-right, le-antisymm, le-trans}
-use lib.Arith.{bin-ind, digits-div, digits-mod}
-use lib.Bits.{bitOr, or-step, or-self, or-comm}
-use lib.Dec.{eqb, ltb}
-use lib.ListN.{length, getD, length-set}
-use lib.Seq.{getD-set-same, getD-set-other}
-use borrow.Author.Tests.{eqb-true, eqb-false, eq-eqb, ne-eqb, ltb-true, ltb-false}
+use Rattle.queue.specs.Prelude.{_≡_, refl, ap, ap₂, sym, _∙_, subst, Bool, true, false, cond, not, _&&_, _||_, List, [], _∷_, ℕ, _+_, _-_, _*_, _/_, _%_, _≤_, _<_, max, arith, mod-lt, max-le, le-max-left, le-max-right, le-antisymm, le-trans, eqb, ltb, bin-ind, digits-div, digits-mod, bitOr, or-step, or-self, or-comm, length, getD, length-set, getD-set-same, getD-set-other, eqb-true, eqb-false, eq-eqb, ne-eqb, ltb-true, ltb-false}
 use Rattle.queue.specs.Codec.{cases}
 use Rattle.queue.specs.Lists.{and-true}
 use Rattle.queue.specs.bytes.OrderLaws.{same-is, same-self, same-sym}

@@ -1,20 +1,9 @@
 -- The laws of a table of finish numbers: counting in it, equal neighbours, the search for the floor. Assumes nothing.
-use mathlib.Core.Path.{_≡_, refl, ap, sym, _∙_}
-use mathlib.Core.Bool.{Bool, true, false, cond, not, _&&_}
-use mathlib.Core.Logic.{_⊎_, inl, inr}
-use mathlib.Core.List.{List, [], _∷_, _++_, append-assoc, append-nil}
-use Prim.Native.Nat.{ℕ, zero, suc, _+_, _-_, _≤_, _<_}
-use native.Mathlib.Omega.{arith}
-use native.Mathlib.Numerals.{add-one}
-use lib.Dec.{ltb, leb, eqb}
-use lib.ListN.{length, take, drop, getD, set, length-append, drop-of-length-le}
-use lib.Seq.{drop-cons, take-suc-set, length-take-le}
-use borrow.Author.Tests.{eqb-true, eqb-false, eq-eqb, ltb-true, ltb-false, lt-ltb, le-ltb, leb-true, leb-false}
+use Rattle.queue.specs.Prelude.{_≡_, refl, ap, sym, _∙_, Bool, true, false, cond, _⊎_, inl, inr, List, [], _∷_, _++_, append-assoc, append-nil, ℕ, zero, suc, _+_, _-_, _≤_, _<_, arith, add-one, ltb, leb, eqb, length, take, drop, getD, set, length-append, drop-of-length-le, drop-cons, take-suc-set, length-take-le, eqb-true, eq-eqb, ltb-true, ltb-false, lt-ltb, le-ltb, leb-true, leb-false}
 use Rattle.queue.specs.Codec.{cases, All}
-use Rattle.queue.specs.Lists.{and-true}
 use Rattle.queue.specs.layout.FormsCodec.{recIn, afterIn}
-use Rattle.queue.specs.bytes.ReaderAs.{whole, listAt}
-use Rattle.queue.specs.bytes.ReaderLaws.{false-true, none-left}
+use Rattle.queue.specs.bytes.ReaderAs.{listAt}
+use Rattle.queue.specs.bytes.ReaderLaws.{false-true}
 use Rattle.queue.specs.layout.FrameAs.{factsOf}
 use Rattle.queue.specs.check.RulesAs.{weight, sum, aboveF}
 use Rattle.queue.specs.change.FinishAs.{above}
@@ -29,7 +18,7 @@ use Rattle.queue.specs.declared.layout.frame.Form.{Form}
 use Rattle.queue.specs.declared.layout.frame.Seen.{Seen}
 use Rattle.queue.specs.declared.check.rules.Query.the-variants.{Tombstones}
 use Rattle.queue.proofs.layout.TurnLaws.{Scan, on, end, ReadsForm, seen-in, see-in}
-use Rattle.queue.proofs.check.FilterLaws.{mark-here, mark-old, mark-size, distinct-yes, distinct-no}
+use Rattle.queue.proofs.check.FilterLaws.{mark-here, mark-old, distinct-yes, distinct-no}
 
 -- ---- what the numbers say of the records
 pub numbers-long : (l : List Rec) → length (numbersOf l) ≡ tombstones l

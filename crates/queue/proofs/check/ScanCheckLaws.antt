@@ -1,11 +1,5 @@
 -- The laws of the check's one pass: frames, counts, rules of one record and rising ids. Assumes nothing.
-use mathlib.Core.Path.{_≡_, refl, ap, sym, _∙_}
-use mathlib.Core.Bool.{Bool, true, false, not, _&&_, _||_}
-use mathlib.Core.List.{List, [], _∷_}
-use Prim.Native.Nat.{ℕ, _+_, _-_, _*_, _≤_, _<_}
-use native.Mathlib.Omega.{arith}
-use lib.Dec.{eqb}
-use lib.ListN.{length}
+use Rattle.queue.specs.Prelude.{_≡_, refl, ap, sym, _∙_, Bool, true, false, not, _&&_, _||_, List, [], _∷_, ℕ, _+_, _-_, _*_, _≤_, _<_, arith, eqb, length}
 use Rattle.queue.specs.layout.FrameCodec.{idC}
 use Rattle.queue.specs.bytes.ViewAs.{view}
 use Rattle.queue.specs.check.FilterAs.{hashL, hashN, hasIn, NewSeen}
@@ -28,7 +22,7 @@ use Rattle.queue.specs.declared.check.rules.Query.{Query}
 use Rattle.queue.specs.declared.check.rules.Query.the-variants.{Holders, HeldBytes, MinedHolders, MinedBytes}
 use Rattle.queue.proofs.layout.TurnLaws.{ReadsForm}
 use Rattle.queue.proofs.check.FilterLaws.{Walk, walk-start, walk-new, walk-apart, walk-distinct}
-use Rattle.queue.proofs.check.ScanLaws.{Framing, frames-in, frames-go, frames-short, frames-line, frames-end}
+use Rattle.queue.proofs.check.ScanLaws.{Framing, frames-go, frames-short, frames-line, frames-end}
 
 and-assoc : (a b c : Bool) → ((a && b) && c) ≡ (a && (b && c))
 and-assoc true b c = refl

@@ -1,32 +1,20 @@
 -- Each loop's turn and end, over plain values. Assumes nothing.
-use mathlib.Core.Path.{_≡_, refl, ap, sym, _∙_}
-use mathlib.Core.Bool.{Bool, true, false, cond, not, _&&_}
-use mathlib.Core.List.{List, [], _∷_, _++_}
-use Prim.Native.Nat.{ℕ, zero, suc, _+_, _-_, _*_, _≤_, _<_}
-use native.Mathlib.Omega.{arith}
-use native.Mathlib.Numerals.{add-one}
-use lib.Bits.{bitOr, or-add-and, and-le-l, and-le-r}
-use lib.Dec.{eqb}
-use lib.ListN.{length, drop, take, getD}
-use lib.Seq.{drop-cons}
-use borrow.Author.Tests.{eq-eqb, ne-eqb, eqb-true, eqb-false}
-use Rattle.queue.specs.Codec.{Codec, cases}
+use Rattle.queue.specs.Prelude.{_≡_, refl, ap, sym, _∙_, Bool, true, false, cond, _&&_, List, ℕ, zero, suc, _+_, _-_, _≤_, _<_, arith, add-one, eqb, bitOr, or-add-and, and-le-l, and-le-r, length, drop, take, getD, drop-cons, eq-eqb, ne-eqb, eqb-true, eqb-false}
+use Rattle.queue.specs.Codec.{cases}
 use Rattle.queue.specs.layout.FrameCodec.{recC, idC}
-use Rattle.queue.specs.layout.FormsCodec.{formC, afterIn, endsLine, Framed, framed, recIn}
+use Rattle.queue.specs.layout.FormsCodec.{formC, afterIn, endsLine, framed, recIn}
 use Rattle.queue.specs.bytes.ViewAs.{view}
 use Rattle.queue.specs.bytes.ReaderAs.{Reads, whole, listAt, behind}
-use Rattle.queue.specs.bytes.ReaderLaws.{Turn, turn, none-left, whole-step, whole-bad, false-true}
-use Rattle.queue.specs.layout.FrameAs.{factsOf, SeenAs}
+use Rattle.queue.specs.bytes.ReaderLaws.{none-left, whole-step, whole-bad}
 use Rattle.queue.specs.check.RulesAs.{weight, sum}
 use Rattle.queue.specs.Areas.{zero?, zeroIn}
 use Rattle.queue.specs.paper.Records.{Bytes, Id, Rec}
-use Rattle.queue.specs.paper.Lists.{any?, total}
 use Rattle.queue.specs.paper.Ids.{cmpL}
 use Rattle.queue.specs.paper.Sound.{among?}
 use Rattle.queue.specs.declared.layout.frame.Form.{Form}
 use Rattle.queue.specs.declared.layout.frame.Seen.{Seen}
 use Rattle.queue.specs.declared.check.rules.Query.{Query}
-use Rattle.queue.proofs.layout.TurnLaws.{Scan, start, here, on, stop, end, SeenIn, ReadsForm, ReadsRec, seen, see}
+use Rattle.queue.proofs.layout.TurnLaws.{Scan, here, on, stop, end, ReadsForm, ReadsRec, see}
 
 -- ---- counts
 unfoldable pub sumFrom : Query → ℕ → List Rec → ℕ

@@ -1,15 +1,5 @@
 -- The laws of the suspects: what a look through the rows says of the records, the loops that gather rows. Assumes nothing.
-use mathlib.Core.Path.{_≡_, refl, ap, sym, _∙_, subst}
-use mathlib.Core.Bool.{Bool, true, false, cond, not, _&&_, _||_}
-use mathlib.Core.List.{List, [], _∷_, _++_}
-use mathlib.Core.Logic.{inl, inr, ⊎-elim}
-use Prim.Native.Nat.{ℕ, zero, suc, _+_, _-_, _*_, _≤_, _<_}
-use native.Mathlib.Omega.{arith}
-use native.Mathlib.Numerals.{add-one}
-use lib.Dec.{ltb, leb, eqb}
-use lib.ListN.{length, take, drop, getD, set, length-drop, length-append, length-set}
-use lib.Seq.{drop-drop, drop-nil, take-all, take-at, take-suc-set, length-take-le}
-use borrow.Author.Tests.{eqb-true, eqb-false, eq-eqb, ne-eqb, ltb-true, ltb-false, lt-ltb, leb-true, le-leb}
+use Rattle.queue.specs.Prelude.{_≡_, refl, ap, sym, _∙_, subst, Bool, true, false, not, _&&_, _||_, inl, inr, ⊎-elim, List, [], _∷_, _++_, ℕ, zero, suc, _+_, _-_, _≤_, _<_, arith, add-one, ltb, eqb, length, take, drop, getD, set, length-drop, length-append, drop-drop, take-all, take-at, take-suc-set, length-take-le, eqb-true, eqb-false, ne-eqb, ltb-true, ltb-false, lt-ltb, leb-true, le-leb}
 use Rattle.queue.specs.Codec.{cases, encs, byteC, vecC}
 use Rattle.queue.specs.bytes.Parts.{part}
 use Rattle.queue.specs.Lists.{and-true, and-both}
@@ -23,7 +13,7 @@ use Rattle.queue.specs.check.FilterAs.{hashL, marked, markL, hasIn}
 use Rattle.queue.specs.check.SuspectsAs.{idR, noR, later, meets, crosses, held?, first?, Shuffled, Grown, Noted, Said, AllMarked, Owned}
 use Rattle.queue.specs.paper.Records.{Bytes, Id, Rec}
 use Rattle.queue.specs.paper.Ids.{same?}
-use Rattle.queue.specs.paper.Lists.{one, any?, all?, total, count}
+use Rattle.queue.specs.paper.Lists.{one, any?, all?, count}
 use Rattle.queue.specs.paper.Sound.{inputs, among?, used?, apart?}
 use Rattle.queue.specs.declared.layout.frame.Form.{Form}
 use Rattle.queue.specs.declared.layout.frame.Seen.{Seen}

@@ -1,24 +1,14 @@
 -- The laws of the suspects' rows: their ids, their order, the sort's swaps, the bisection. Assumes nothing.
-use mathlib.Core.Path.{_≡_, refl, ap, sym, _∙_}
-use mathlib.Core.Bool.{Bool, true, false, cond, _&&_, _||_}
-use mathlib.Core.List.{List, [], _∷_, _++_}
-use Prim.Native.Nat.{ℕ, zero, suc, _+_, _-_, _*_, _/_, _%_, _≤_, _<_}
-use native.Mathlib.Omega.{arith}
-use native.Mathlib.Numerals.{add-one, unary-clauses}
-use lib.Arith.{digits-div, digits-mod}
-use lib.Dec.{ltb, leb, eqb}
-use lib.ListN.{length, take, drop, getD, set, length-drop, length-set, drop-of-length-le}
-use lib.Seq.{drop-drop, drop-cons, drop-nil, getD-set-same, getD-set-other}
-use borrow.Author.Tests.{eqb-true, eqb-false, eq-eqb, ne-eqb, ltb-true, ltb-false, lt-ltb, le-ltb, leb-true, leb-false, le-leb}
+use Rattle.queue.specs.Prelude.{_≡_, refl, ap, sym, _∙_, Bool, true, false, _&&_, _||_, List, [], _∷_, ℕ, zero, suc, _+_, _-_, _*_, _/_, _%_, _≤_, _<_, arith, add-one, ltb, leb, eqb, digits-div, digits-mod, length, take, drop, getD, set, length-drop, length-set, drop-of-length-le, drop-drop, drop-cons, drop-nil, getD-set-same, getD-set-other, eqb-true, eqb-false, eq-eqb, ne-eqb, ltb-true, ltb-false, le-ltb, leb-true, le-leb}
 use Rattle.queue.specs.Codec.{cases}
 use Rattle.queue.specs.bytes.Parts.{part}
 use Rattle.queue.specs.Lists.{and-true}
-use Rattle.queue.specs.bytes.OrderLaws.{cmp-self, cmp-flip, same-is, same-self, below-trans, or-true, or-false}
+use Rattle.queue.specs.bytes.OrderLaws.{cmp-self, cmp-flip, same-is, below-trans, or-true}
 use Rattle.queue.specs.bytes.ReaderLaws.{false-true}
 use Rattle.queue.specs.bytes.ViewAs.{view, pairs}
 use Rattle.queue.specs.check.SuspectsAs.{idR, noR, upTo, later, Shuffled, InOrder, Cut}
 use Rattle.queue.specs.paper.Records.{Bytes, Id}
-use Rattle.queue.specs.paper.Ids.{cmpL, same?, below?}
+use Rattle.queue.specs.paper.Ids.{cmpL, same?}
 use Rattle.queue.specs.paper.Lists.{any?, total}
 
 -- ---- where an id stands

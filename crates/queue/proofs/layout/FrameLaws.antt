@@ -1,19 +1,8 @@
 -- Laws of the readers of frames, as their proofs cite them. Assumes nothing.
-use mathlib.Core.Path.{_≡_, refl, ap, sym, _∙_}
-use mathlib.Core.Bool.{Bool, true, false, cond, not, _&&_, _||_}
-use mathlib.Core.Option.{Option, none, some}
-use mathlib.Core.List.{List, [], _∷_, _++_, append-assoc}
-use Prim.Native.Nat.{ℕ, zero, suc, _+_, _-_, _*_, _^_, _≤_, _<_}
-use native.Mathlib.Omega.{arith}
-use native.Mathlib.Nat.{pow-le-pow-right, mul-le-mul, pow-suc, le-trans, le-of-lt}
-use native.Mathlib.Numerals.{add-one}
-use lib.Dec.{lit<, ltb, eqb}
-use lib.ListN.{length, drop, take, getD, length-append, length-drop}
-use lib.Seq.{drop-cons, take-at}
-use borrow.Author.Tests.{lt-ltb, eq-eqb, ne-eqb}
-use Rattle.queue.specs.Codec.{Bytes, Got, fail, got, _>>=_, Codec, cases, byteC, be, beDec, beC, pairDec, pairC, mapC, optEnc, optC, decs, vecC, countedC, encs, vec-bwd}
-use Rattle.queue.specs.paper.Records.{Id, Limits, Terms, Held, Rec}
-use Rattle.queue.specs.layout.FrameCodec.{tagC, tagDec, idC, labelC, widen, low32, Narrow, widen-low, low-widen, narrowC, termsK, termsOf, termsTuple, heldK, heldOf, heldTuple, idsC, readsC, bodyK, signedEnc, placeC, markSince, markC, restK, recK, recOf, recTuple, Four, fourC, sixteenC, sharesC, limitsFrom, limitsTuple, limitsK, Head, headK, headOf, headTuple}
+use Rattle.queue.specs.Prelude.{_≡_, refl, ap, sym, _∙_, Bool, true, false, cond, not, _&&_, _||_, Option, none, some, List, [], _∷_, _++_, append-assoc, ℕ, zero, suc, _+_, _*_, _^_, _≤_, _<_, arith, pow-le-pow-right, mul-le-mul, le-trans, le-of-lt, add-one, lit<, ltb, eqb, length, drop, take, getD, length-append, length-drop, drop-cons, take-at, lt-ltb, eq-eqb, ne-eqb}
+use Rattle.queue.specs.Codec.{Bytes, fail, got, Codec, cases, byteC, be, beC, pairC, mapC, optEnc, optC, decs, vecC, countedC, encs, vec-bwd}
+use Rattle.queue.specs.paper.Records.{Id, Limits, Held, Rec}
+use Rattle.queue.specs.layout.FrameCodec.{tagC, tagDec, idC, labelC, widen, low32, Narrow, widen-low, low-widen, narrowC, termsK, termsOf, termsTuple, heldK, heldOf, heldTuple, bodyK, placeC, markSince, markC, restK, recK, recOf, recTuple, Four, fourC, sixteenC, sharesC, limitsFrom, limitsTuple, limitsK, headK, headOf, headTuple}
 use Rattle.queue.specs.layout.Choice.{fixC, sinceC, guardDec, guardC, thenDec, thenC, viaC, viaDec}
 use Rattle.queue.specs.theorems.OlderKinds.{mark-enc, mark-up}
 use Rattle.queue.specs.bytes.PutAs as written
@@ -21,8 +10,8 @@ use Rattle.queue.specs.bytes.Parts.{part}
 use Rattle.queue.specs.layout.LimitsAs.{pos256}
 use Rattle.queue.specs.Lists.{and-true}
 use Rattle.queue.specs.bytes.ReaderAs.{Reads, Span, flagDec, flagC, Counted, OptSpan, whole, listAt}
-use Rattle.queue.specs.bytes.ReaderLaws.{drop-none, false-true, pair, mapped, weaken, OptW, opt-absent, opt-present, SmallAt, beAt, be-here, Spans, short, spanned, spans-be, spans-byte, spans-pair, spans-vec, spans-id, counted, opt-span, none-left}
-use Rattle.queue.specs.layout.FrameAs.{termsFrom, optNum, placeHeight, factsOf, ListAs, TagAt, MarkAt, CallerAt, PriorityAt, ReadsAt, NumAt, OptAt, PlaceAs, TermsAs, BodyAs, RestAs, Bounded, SeenFrom, SeenUnder, LimAs, limitsIn, SharesAs, SharesAt, LimitsAs, limitsLen, HeadUnder}
+use Rattle.queue.specs.bytes.ReaderLaws.{drop-none, false-true, pair, mapped, weaken, OptW, opt-absent, opt-present, beAt, be-here, Spans, short, spanned, spans-be, spans-byte, spans-pair, spans-vec, spans-id, counted, opt-span, none-left}
+use Rattle.queue.specs.layout.FrameAs.{termsFrom, optNum, placeHeight, factsOf, ListAs, TagAt, MarkAt, CallerAt, PriorityAt, ReadsAt, NumAt, OptAt, PlaceAs, TermsAs, BodyAs, RestAs, SeenFrom, SeenUnder, LimAs, limitsIn, SharesAs, SharesAt, LimitsAs, limitsLen, HeadUnder}
 use Rattle.queue.specs.paper.Lists.{isSome}
 use Rattle.queue.specs.paper.Kinds.{hasMark3, markSaid?, hasCallers, hasReads, hasWide, firstShare}
 use Rattle.queue.specs.paper.Sound.{labelLen, inputs, outputs, reads, content}

@@ -1,30 +1,23 @@
 -- The front of an area as it is written, and a whole area written: records, front, zeros. Assumes nothing.
-use mathlib.Core.Path.{_≡_, refl, ap, sym, _∙_}
-use mathlib.Core.Bool.{Bool, true, false, cond}
-use mathlib.Core.Option.{Option, none, some}
-use mathlib.Core.List.{List, [], _∷_, _++_, append-assoc, append-nil}
-use Prim.Native.Nat.{ℕ, zero, suc, _+_, _-_, _*_, _^_, _≤_, _<_}
-use native.Mathlib.Omega.{arith}
-use lib.ListN.{length, drop, take, replicate, length-append, length-replicate}
-use lib.Seq.{take-all}
+use Rattle.queue.specs.Prelude.{_≡_, refl, ap, sym, _∙_, Bool, true, false, List, [], _∷_, _++_, append-assoc, ℕ, _+_, _-_, _≤_, arith, length, drop, take, replicate, take-all}
 use Rattle.queue.specs.Codec as codec
-use Rattle.queue.specs.Codec.{Codec, beC, pairC, mapC, optC, optEnc, vecC, byteC, encs}
+use Rattle.queue.specs.Codec.{beC, pairC, mapC, optC, optEnc, vecC, encs}
 use Rattle.queue.specs.bytes.PutAs.{Put, splice, beLast}
 use Rattle.queue.specs.paper.Kinds.{newest}
 use Rattle.queue.specs.layout.FrameCodec.{Head, idC, limitsC, headK, headC, tagC}
-use Rattle.queue.specs.layout.FormsCodec.{queueC, queue-enc, storeOf, headFor}
+use Rattle.queue.specs.layout.FormsCodec.{queueC, queue-enc}
 use Rattle.queue.specs.layout.FrameCodec.{recC}
 use Rattle.queue.specs.Areas.{layout}
 use Rattle.queue.specs.theorems.Plain.{bytes-plain, area-plain, limits-plain}
 use Rattle.queue.specs.layout.FrameAs.{limitsIn, LimitsFit}
 use Rattle.queue.specs.declared.layout.limits.Limits as code
 use Rattle.queue.specs.layout.HeadAs.{frontLen, tipOf, tipSize, headWith, MarksFit, startBytes, marksBytes, frontBytes, queueOf}
-use Rattle.queue.specs.paper.Records.{Bytes, Id, Limits, Rec, Queue}
+use Rattle.queue.specs.paper.Records.{Bytes, Id, Limits, Rec}
 use Rattle.queue.specs.paper.Sound.{need}
 use Rattle.queue.specs.paper.Area.{areaBytes, sharesBytes, over}
 use Rattle.queue.specs.paper.Calls.{numbers}
 use Rattle.queue.specs.declared.layout.head.Marks.{Marks}
-use Rattle.queue.proofs.bytes.PutLaws.{then, front, recast, kept, over-splice}
+use Rattle.queue.proofs.bytes.PutLaws.{then, front, recast, over-splice}
 use Rattle.queue.proofs.bytes.PutByteLaws.{be-same}
 use Rattle.queue.proofs.layout.LimitsLaws.{shares-bytes}
 

@@ -1,31 +1,21 @@
 -- The sixteen shares as their bytes: read, written, compared, one of them. Assumes nothing.
-use mathlib.Core.Path.{_≡_, refl, ap, sym, _∙_}
-use mathlib.Core.Bool.{Bool, true, false, cond, _&&_}
-use mathlib.Core.List.{List, [], _∷_, _++_, append-nil}
-use Prim.Native.Nat.{ℕ, zero, suc, _+_, _-_, _*_, _/_, _^_, _≤_, _<_}
-use native.Mathlib.Omega.{arith}
-use lib.Dec.{leb}
-use native.Mathlib.Nat.{le-of-suc-le-suc}
-use lib.ListN.{length, take, drop, getD, replicate, length-take, length-drop, length-append, drop-of-length-le}
-use lib.Seq.{drop-drop, take-at, drop-at, take-take, take-all, getD-take, getD-drop}
-use borrow.Author.Tests.{lt-leb, le-leb}
+use Rattle.queue.specs.Prelude.{_≡_, refl, ap, sym, _∙_, Bool, true, false, _&&_, List, [], _∷_, _++_, append-nil, ℕ, zero, suc, _+_, _-_, _*_, _/_, _^_, _≤_, _<_, arith, le-of-suc-le-suc, leb, length, take, drop, getD, replicate, length-take, length-drop, length-append, drop-of-length-le, drop-drop, take-at, drop-at, take-take, take-all, getD-take, getD-drop, lt-leb, le-leb}
 use Rattle.queue.specs.Codec as codec
-use Rattle.queue.specs.Codec.{Got, got, All, all-append, beDec, beC, decs, encs, vecC, vec-bwd, be-length}
+use Rattle.queue.specs.Codec.{got, All, all-append, beC, decs, encs, vecC, vec-bwd, be-length}
 use Rattle.queue.specs.layout.Choice.{fixC}
-use Rattle.queue.specs.bytes.PutAs.{Put, splice, beLast}
+use Rattle.queue.specs.bytes.PutAs.{Put, beLast}
 use Rattle.queue.specs.bytes.ViewAs.{view}
-use Rattle.queue.specs.layout.FrameCodec.{sixteenC, sharesC}
-use Rattle.queue.specs.bytes.ReaderAs.{Reads, Span}
+use Rattle.queue.specs.layout.FrameCodec.{sixteenC}
+use Rattle.queue.specs.bytes.ReaderAs.{Span}
 use Rattle.queue.specs.bytes.ReaderLaws.{false-true, SmallAt, beAt, be-here, short, spans-be, spans-vec}
 use Rattle.queue.specs.theorems.Plain.{numbers-plain}
-use Rattle.queue.specs.layout.FrameAs.{SharesAs, SharesAt}
+use Rattle.queue.specs.layout.FrameAs.{SharesAt}
 use Rattle.queue.specs.layout.LimitsAs.{LentShares, val-be}
 use Rattle.queue.specs.paper.Records.{Bytes}
 use Rattle.queue.specs.paper.Lists.{all?, map}
 use Rattle.queue.specs.paper.Kinds.{hasCallers, firstShare}
 use Rattle.queue.specs.paper.Area.{beVal, sharesBytes, over}
 use Rattle.queue.specs.paper.Calls.{pieces, items, numbers}
-use Rattle.queue.specs.declared.layout.frame.SharesR.{SharesR}
 use Rattle.queue.proofs.bytes.PutLaws.{put-over}
 use Rattle.queue.proofs.bytes.PutByteLaws.{be-same}
 use Rattle.queue.proofs.change.TouchLaws.{be-val, drop-take}

@@ -1,9 +1,5 @@
 -- The laws of the readers near a frame's start. Assumes nothing.
-use mathlib.Core.Path.{_≡_, refl, sym}
-use mathlib.Core.Bool.{Bool, true, false, _&&_}
-use Prim.Native.Nat.{ℕ, _+_, _-_, _*_, _≤_, _<_}
-use native.Mathlib.Omega.{arith}
-use lib.ListN.{length}
+use Rattle.queue.specs.Prelude.{_≡_, refl, sym, Bool, true, false, _&&_, ℕ, _+_, _-_, _≤_, arith, length}
 use Rattle.queue.specs.bytes.ReaderAs.{Span, Counted}
 use Rattle.queue.specs.bytes.ReaderLaws.{SmallAt, beAt, false-true}
 use Rattle.queue.specs.layout.FrameAs.{NumAt}

@@ -1,11 +1,5 @@
 -- One law for every loop over encoded values. F st l is what the loop has still to work out, from the state st on over l. Assumes nothing.
-use mathlib.Core.Path.{_≡_, refl, ap, sym, _∙_}
-use mathlib.Core.Bool.{Bool, true}
-use mathlib.Core.List.{List, [], _∷_}
-use Prim.Native.Nat.{ℕ, _-_, _≤_, _<_}
-use lib.ListN.{length}
-use native.Mathlib.Omega.{arith}
-use native.Mathlib.Nat.{le-refl}
+use Rattle.queue.specs.Prelude.{_≡_, refl, ap, sym, _∙_, Bool, true, List, [], _∷_, ℕ, _-_, _≤_, _<_, arith, le-refl, length}
 use Rattle.queue.specs.Codec.{Bytes, Codec}
 use Rattle.queue.specs.bytes.ReaderAs.{Reads, whole, listAt}
 use Rattle.queue.specs.bytes.ReaderLaws.{Turn, turn, none-left}

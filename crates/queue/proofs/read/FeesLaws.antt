@@ -1,33 +1,21 @@
 -- The candidates of an area, the set's ids, and each exit of the search. Assumes nothing.
-use mathlib.Core.Path.{_≡_, refl, ap, sym, _∙_}
-use mathlib.Core.Bool.{Bool, true, false, cond, not, _&&_}
-use mathlib.Core.Option.{Option, none, some}
-use mathlib.Core.List.{List, [], _∷_, _++_, append-assoc, append-nil}
-use Prim.Native.Nat.{ℕ, zero, suc, _+_, _-_, _*_, _/_, _%_, _^_, _≤_, _<_, min}
-use native.Mathlib.Omega.{arith}
-use native.Mathlib.Numerals.{add-one}
-use native.Mathlib.Nat.{le-of-suc-le-suc}
-use lib.Dec.{ltb, leb, eqb}
-use lib.ListN.{length, take, drop, getD, set, length-append, length-drop, length-set, length-take}
-use lib.Seq.{drop-drop, drop-at, take-suc, take-suc-set, take-all, length-take-le}
-use borrow.Author.Tests.{eq-eqb, ne-eqb, lt-ltb, le-ltb, le-leb, lt-leb, ltb-true, ltb-false, leb-true, leb-false, not-true, not-false}
+use Rattle.queue.specs.Prelude.{_≡_, refl, ap, sym, _∙_, Bool, true, false, cond, not, some, List, [], _∷_, _++_, append-assoc, append-nil, ℕ, zero, suc, _+_, _-_, _*_, _/_, _%_, _^_, _≤_, _<_, arith, le-of-suc-le-suc, add-one, ltb, leb, eqb, length, take, drop, getD, set, length-append, length-set, length-take, drop-drop, drop-at, take-suc, take-suc-set, take-all, lt-ltb, le-ltb, le-leb, lt-leb, ltb-true, ltb-false, leb-true, leb-false, not-true, not-false}
 use Rattle.queue.specs.bytes.ListLaws.{sort-all}
 use Rattle.queue.specs.Codec as codec
-use Rattle.queue.specs.Codec.{All, cases, Got, fail, got, no-got, beC, be-fwd, be-length}
-use Rattle.queue.specs.Lists.{Pairwise, Sub, sub-all}
+use Rattle.queue.specs.Codec.{All, cases, got, no-got, beC, be-fwd, be-length}
+use Rattle.queue.specs.Lists.{Pairwise, sub-all}
 use Rattle.queue.specs.bytes.PutAs.{Put, beLast}
 use Rattle.queue.specs.layout.FrameCodec.{recC, termsK}
 use Rattle.queue.specs.theorems.Plain.{terms-plain}
-use Rattle.queue.specs.bytes.ReaderAs.{Reads, whole, listAt}
-use Rattle.queue.specs.bytes.ReaderLaws.{Turn, false-true}
+use Rattle.queue.specs.bytes.ReaderLaws.{Turn}
 use Rattle.queue.specs.bytes.ViewAs.{view}
 use Rattle.queue.specs.layout.FormsCodec.{formC, afterIn, turn-in}
-use Rattle.queue.specs.layout.FrameAs.{termsAt, factsOf, SeenAs, NumAt}
-use Rattle.queue.specs.theorems.SoundParts.{Fields, fields-of, Before}
+use Rattle.queue.specs.layout.FrameAs.{termsAt, factsOf, NumAt}
+use Rattle.queue.specs.theorems.SoundParts.{fields-of, Before}
 use Rattle.queue.specs.check.AreaAs.{AreaAs, AreaIs}
 use Rattle.queue.specs.Areas.{readArea}
 use Rattle.queue.specs.Checked.{Written, written}
-use Rattle.queue.specs.read.SelectAs.{Row, rows, Even, Table, ahead?, idAt, RowIs, RowsAs, chosen, Gathered, RecStands, PlaceAdded}
+use Rattle.queue.specs.read.SelectAs.{Row, rows, Table, ahead?, idAt, RowIs, RowsAs, chosen, Gathered, RecStands, PlaceAdded}
 use Rattle.queue.specs.read.fees.Laws as laws
 use Rattle.queue.specs.read.fees.Claims.{set-sub, nodes-min}
 use Rattle.queue.specs.read.fees.Maps.{mapBest}
@@ -36,12 +24,11 @@ use Rattle.queue.specs.read.fees.Rows.{rows-all, of-rows, unmask-set}
 use Rattle.queue.specs.read.FeesAs.{noRec, recAt, recOfRow, Known, choiceBytes}
 use Rattle.queue.specs.paper.Records.{Bytes, Id, Terms, Rec, Queue}
 use Rattle.queue.specs.paper.Lists.{total, filter, sort, map, concat}
-use Rattle.queue.specs.paper.Sound.{content}
 use Rattle.queue.specs.paper.Area.{flagged, termsUnder, termsBytes}
 use Rattle.queue.specs.paper.Changing.{top}
-use Rattle.queue.specs.paper.Reading.{first?, selected?, selectedAt}
+use Rattle.queue.specs.paper.Reading.{first?, selected?}
 use Rattle.queue.specs.paper.Calls.{idsBytes, toldOut}
-use Rattle.queue.specs.paper.Fees.{Best, bestFees, sizeOf, feeOf, bestBytes, searchOf, budget?, bestFeesOf}
+use Rattle.queue.specs.paper.Fees.{Best, bestFees, sizeOf, feeOf, bestBytes, searchOf, bestFeesOf}
 use Rattle.queue.specs.declared.Kind.the-variants.{Nothing}
 use Rattle.queue.specs.declared.Answer.the-variants.{Refused, Done}
 use Rattle.queue.specs.declared.layout.frame.Seen.{Seen}

@@ -1,14 +1,5 @@
 -- The walk over masks is the walk over lists of places; the number of a set gives the set back. Assumes nothing.
-use mathlib.Core.Path.{_≡_, refl, ap, sym, _∙_, subst}
-use mathlib.Core.Bool.{Bool, true, false, cond, not, _||_}
-use mathlib.Core.List.{List, [], _∷_, _++_}
-use Prim.Native.Nat.{ℕ, zero, suc, _+_, _-_, _*_, _/_, _%_, _^_, _≤_, _<_, max}
-use native.Mathlib.Omega.{arith}
-use native.Mathlib.Nat.{pow-suc, add-zero}
-use native.Mathlib.Numerals.{add-one}
-use lib.Dec.{ltb, leb, eqb}
-use lib.ListN.{length}
-use borrow.Author.Tests.{ltb-true, lt-ltb, le-ltb, le-leb, lt-leb, eq-eqb, ne-eqb, not-true, not-false}
+use Rattle.queue.specs.Prelude.{_≡_, refl, ap, sym, _∙_, true, false, List, [], _∷_, _++_, ℕ, zero, suc, _+_, _-_, _^_, _≤_, _<_, arith, add-one, ltb, leb, length, lt-ltb, le-ltb}
 use Rattle.queue.specs.Codec.{cases}
 use Rattle.queue.specs.paper.Lists.{total}
 use Rattle.queue.specs.paper.Fees.{Best, bestFees}

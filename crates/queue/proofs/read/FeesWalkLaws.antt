@@ -1,15 +1,6 @@
 -- The steps of the walk over places, and of its loop, as laws over plain numbers. Assumes nothing.
-use mathlib.Core.Path.{_≡_, refl, ap, sym, _∙_, subst}
-use mathlib.Core.Bool.{Bool, true, false, cond}
-use mathlib.Core.List.{List, [], _∷_, _++_}
-use Prim.Native.Nat.{ℕ, zero, suc, _+_, _-_, _*_, _^_, _≤_, _<_, max}
-use native.Mathlib.Omega.{arith}
-use native.Mathlib.Nat.{pow-suc, pow-le-pow-right}
-use native.Mathlib.Numerals.{add-one, sub-one}
-use lib.Dec.{ltb, leb}
-use lib.ListN.{length, getD}
-use borrow.Author.Tests.{ltb-true, ltb-false, lt-ltb, le-ltb, le-leb, lt-leb}
-use Rattle.queue.specs.paper.Lists.{filter, total}
+use Rattle.queue.specs.Prelude.{_≡_, ap, sym, _∙_, List, [], _∷_, ℕ, zero, suc, _+_, _-_, _^_, _≤_, _<_, max, arith, pow-suc, pow-le-pow-right, length, lt-ltb, le-ltb, le-leb, lt-leb}
+use Rattle.queue.specs.paper.Lists.{total}
 use Rattle.queue.specs.read.fees.Walk.{fitting}
 use Rattle.queue.specs.read.fees.Claims.{fitting-small}
 use Rattle.queue.specs.declared.read.fees.SoFar.{SoFar}

@@ -1,13 +1,5 @@
 -- The spot of an id among the records of an area, and the records with a new one there. Assumes nothing.
-use mathlib.Core.Path.{_≡_, refl, ap, sym, _∙_}
-use mathlib.Core.Bool.{Bool, true, false, cond, not}
-use mathlib.Core.Option.{Option, none, some}
-use mathlib.Core.List.{List, [], _∷_, _++_, append-assoc, append-nil}
-use Prim.Native.Nat.{ℕ, zero, suc, _+_, _-_, _≤_, _<_}
-use native.Mathlib.Omega.{arith}
-use lib.ListN.{length, drop, take, length-append, length-drop, take-append-drop}
-use lib.Seq.{drop-drop, drop-at}
-use borrow.Author.Tests.{eq-eqb, ne-eqb}
+use Rattle.queue.specs.Prelude.{_≡_, refl, ap, sym, _∙_, Bool, true, false, cond, not, Option, none, some, List, [], _∷_, _++_, append-assoc, append-nil, ℕ, zero, suc, _+_, _-_, _≤_, _<_, arith, length, drop, take, length-append, length-drop, take-append-drop, drop-drop, drop-at, eq-eqb, ne-eqb}
 use Rattle.queue.specs.Codec.{All, encs}
 use Rattle.queue.specs.Lists.{Pairwise, all-map}
 use Rattle.queue.specs.bytes.PutAs.{Put}

@@ -1,15 +1,5 @@
 -- Rows for what records want, in slots and in a table, and the bits that come of them. Assumes nothing.
-use mathlib.Core.Path.{_≡_, refl, ap, sym, _∙_}
-use mathlib.Core.Bool.{Bool, true, false, not, _&&_, _||_}
-use mathlib.Core.List.{List, [], _∷_, _++_}
-use Prim.Native.Nat.{ℕ, zero, suc, _+_, _-_, _/_, _%_, _≤_, _<_}
-use native.Mathlib.Omega.{arith}
-use native.Mathlib.Numerals.{add-one}
-use native.Mathlib.Nat.{le-of-suc-le-suc}
-use lib.Dec.{ltb, leb, eqb}
-use lib.ListN.{length, drop, take, getD, set, length-set, length-take, List·getD-eq-default}
-use lib.Seq.{length-take-le, drop-drop, getD-set-same, getD-set-other, take-suc, take-suc-set, take-all, getD-take}
-use borrow.Author.Tests.{eqb-true, eqb-false, eq-eqb, ne-eqb, ltb-true, ltb-false, lt-ltb, le-ltb, leb-true, le-leb, lt-leb, not-true, not-false}
+use Rattle.queue.specs.Prelude.{_≡_, refl, ap, sym, _∙_, Bool, true, false, not, _&&_, _||_, List, [], _∷_, _++_, ℕ, zero, suc, _+_, _-_, _/_, _%_, _≤_, _<_, arith, le-of-suc-le-suc, add-one, ltb, leb, eqb, length, drop, take, getD, set, length-set, length-take, List·getD-eq-default, length-take-le, drop-drop, getD-set-same, getD-set-other, take-suc, take-suc-set, take-all, getD-take, eqb-true, eqb-false, eq-eqb, ne-eqb, ltb-true, ltb-false, lt-ltb, le-ltb, leb-true, le-leb, lt-leb, not-true, not-false}
 use Rattle.queue.specs.Codec.{All, cases}
 use Rattle.queue.specs.bytes.Parts.{part}
 use Rattle.queue.specs.Lists.{and-true, and-both}
@@ -21,7 +11,7 @@ use Rattle.queue.specs.bytes.ReaderLaws.{none-left, false-true}
 use Rattle.queue.specs.layout.FrameAs.{factsOf, SeenAs}
 use Rattle.queue.specs.check.FilterAs.{slotL, marked, markL, hashAll}
 use Rattle.queue.specs.check.SuspectsAs.{idR, noR, upTo, later, Shuffled, InOrder, Cut}
-use Rattle.queue.specs.read.FeesAs.{recAt, Known}
+use Rattle.queue.specs.read.FeesAs.{Known}
 use Rattle.queue.specs.paper.Records.{Bytes, Id, Rec}
 use Rattle.queue.specs.paper.Ids.{cmpL, same?}
 use Rattle.queue.specs.paper.Lists.{any?, all?}

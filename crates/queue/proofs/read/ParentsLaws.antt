@@ -1,16 +1,5 @@
 -- The counters' loops, and that the list they make is the parents-first order. Assumes nothing.
-use mathlib.Core.Path.{_≡_, refl, ap, sym, _∙_, subst}
-use mathlib.Core.Bool.{Bool, true, false, cond, not, _&&_, _||_}
-use mathlib.Core.Option.{some}
-use mathlib.Core.List.{List, [], _∷_, _++_, append-assoc, append-nil}
-use Prim.Native.Nat.{ℕ, zero, suc, _+_, _-_, _*_, _/_, _%_, _^_, _≤_, _<_}
-use native.Mathlib.Omega.{arith}
-use native.Mathlib.Numerals.{add-one}
-use native.Mathlib.Nat.{pow-suc, suc-mul, zero-mul, mul-le-mul-right, mul-comm, le-of-suc-le-suc, div-lt-iff-lt-mul}
-use lib.Dec.{ltb, eqb}
-use lib.ListN.{length, take, drop, getD, set, replicate, length-set, length-append, length-replicate, getD-replicate, take-append-drop}
-use lib.Seq.{getD-set-same, getD-set-other, set-out, set-getD, take-suc-set, ext-getD, length-take-le}
-use borrow.Author.Tests.{eqb-true, eqb-false, eq-eqb, ne-eqb, ltb-true, ltb-false, lt-ltb, le-ltb, not-true, not-false}
+use Rattle.queue.specs.Prelude.{_≡_, refl, ap, sym, _∙_, subst, Bool, true, false, cond, not, _&&_, _||_, some, List, [], _∷_, _++_, append-assoc, append-nil, ℕ, zero, suc, _+_, _-_, _*_, _/_, _%_, _^_, _≤_, _<_, arith, pow-suc, suc-mul, zero-mul, mul-le-mul-right, mul-comm, le-of-suc-le-suc, div-lt-iff-lt-mul, add-one, ltb, eqb, length, take, drop, getD, set, replicate, length-set, length-append, length-replicate, getD-replicate, take-append-drop, getD-set-same, getD-set-other, set-out, set-getD, take-suc-set, ext-getD, length-take-le, eqb-true, eqb-false, eq-eqb, ne-eqb, ltb-true, ltb-false, lt-ltb, le-ltb, not-true, not-false}
 use Rattle.queue.specs.Codec as codec
 use Rattle.queue.specs.Codec.{All, cases}
 use Rattle.queue.specs.Lists.{Pairwise, and-true, all-map, sub-all}

@@ -1,35 +1,24 @@
 -- The reading calls that write a piece for each record that passes. Assumes nothing.
-use mathlib.Core.Path.{_≡_, refl, ap, sym, _∙_}
-use mathlib.Core.Bool.{Bool, true, false, cond, not, _&&_, _||_}
-use mathlib.Core.Option.{Option, none, some}
-use mathlib.Core.List.{List, [], _∷_, _++_, append-assoc}
-use Prim.Native.Nat.{ℕ, zero, suc, _+_, _-_, _*_, _^_, _≤_, _<_}
-use native.Mathlib.Omega.{arith}
-use native.Mathlib.Nat.{zero-add}
-use lib.Dec.{ltb, leb, eqb}
-use lib.ListN.{length, take, drop, length-append, length-drop}
-use lib.Seq.{length-take-le}
+use Rattle.queue.specs.Prelude.{_≡_, refl, ap, sym, _∙_, Bool, true, false, cond, Option, none, some, List, [], _∷_, _++_, ℕ, _+_, _-_, _*_, _^_, _≤_, _<_, arith, length, take, drop, length-append, length-drop, length-take-le}
 use Rattle.queue.specs.Codec as codec
 use Rattle.queue.specs.Codec.{cases}
 use Rattle.queue.specs.bytes.PutAs.{Put, beLast}
 use Rattle.queue.specs.layout.FrameCodec.{recC}
-use Rattle.queue.specs.bytes.ReaderAs.{Reads, whole, listAt}
-use Rattle.queue.specs.bytes.ReaderLaws.{Turn, false-true, none-left}
+use Rattle.queue.specs.bytes.ReaderAs.{whole, listAt}
+use Rattle.queue.specs.bytes.ReaderLaws.{Turn, none-left}
 use Rattle.queue.specs.bytes.ViewAs.{view}
 use Rattle.queue.specs.layout.FormsCodec.{formC, afterIn, turn-in}
 use Rattle.queue.specs.Areas.{readArea}
-use Rattle.queue.specs.layout.FrameAs.{factsOf, SeenAs}
-use Rattle.queue.specs.check.AreaAs.{AreaAs, AreaIs}
-use Rattle.queue.specs.check.RulesAs.{dueF}
-use Rattle.queue.specs.read.ReadingAs.{entryAt, entryLen, EntryIn}
+use Rattle.queue.specs.layout.FrameAs.{factsOf}
+use Rattle.queue.specs.check.AreaAs.{AreaIs}
 use Rattle.queue.specs.read.PiecesAs.{passesF, passes?, pieceOf, partOf, piecesOf, answerBytes, toldPieces, dueAt, pieceAt, pieceLen, PieceIn, MeasureAs}
 use Rattle.queue.specs.paper.Records.{Bytes, Id, Rec, Queue}
 use Rattle.queue.specs.paper.Lists.{isSome, one, count, filter, map, concat, maybe}
-use Rattle.queue.specs.paper.Area.{placeBytes, flagged}
+use Rattle.queue.specs.paper.Area.{placeBytes}
 use Rattle.queue.specs.paper.Sound.{holder?, mined?}
 use Rattle.queue.specs.paper.Changing.{due?}
 use Rattle.queue.specs.paper.Reading as reading
-use Rattle.queue.specs.Checked.{Written, written}
+use Rattle.queue.specs.Checked.{written}
 use Rattle.queue.specs.paper.Calls.{counted, entryBytes, idsBytes, placedBytes, dueBytes, toldOut, readOf}
 use Rattle.queue.specs.declared.Kind.the-variants.{Nothing}
 use Rattle.queue.specs.declared.Answer.the-variants.{Refused, Done}

@@ -1,38 +1,28 @@
 -- The reading calls: a search by id, what was looked up, and each exit. Assumes nothing.
-use mathlib.Core.Path.{_≡_, refl, ap, sym, _∙_}
-use mathlib.Core.Bool.{Bool, true, false, cond, not, _&&_, _||_}
-use mathlib.Core.Option.{Option, none, some}
-use mathlib.Core.List.{List, [], _∷_, _++_, append-assoc}
-use Prim.Native.Nat.{ℕ, zero, suc, _+_, _-_, _*_, _^_, _≤_, _<_}
-use native.Mathlib.Omega.{arith}
-use native.Mathlib.Nat.{zero-add}
-use lib.Dec.{ltb, leb, eqb}
-use lib.ListN.{length, drop, take, length-append, length-drop}
-use lib.Seq.{drop-drop, take-all, take-at, drop-at, drop-append-le, length-take-le}
-use borrow.Author.Tests.{eq-eqb, ne-eqb, lt-ltb, le-ltb}
+use Rattle.queue.specs.Prelude.{_≡_, refl, ap, sym, _∙_, Bool, true, false, _&&_, _||_, Option, none, some, List, [], _∷_, _++_, append-assoc, ℕ, _+_, _-_, _*_, _^_, _≤_, _<_, arith, zero-add, ltb, leb, eqb, length, drop, take, length-append, length-drop, drop-drop, take-all, take-at, drop-at, drop-append-le, length-take-le, eq-eqb, ne-eqb, lt-ltb, le-ltb}
 use Rattle.queue.specs.Codec as codec
-use Rattle.queue.specs.Codec.{All, cases, Got, fail, got, Codec, decs, encs, byteC, beC, be-length, pairC, mapC, optC, vecC, countedC, vecMost, vec-bwd}
-use Rattle.queue.specs.bytes.PutAs.{Put, beLast}
+use Rattle.queue.specs.Codec.{cases, Got, fail, got, decs, encs, byteC, beC, pairC, mapC, optC, vecC, countedC, vecMost, vec-bwd}
+use Rattle.queue.specs.bytes.PutAs.{Put}
 use Rattle.queue.specs.theorems.Plain.{opt-plain, terms-plain, place-plain, ids-plain, id-plain, rec-plain, body-plain, head-plain}
 use Rattle.queue.specs.paper.Kinds.{newest}
-use Rattle.queue.specs.layout.FrameCodec.{tagC, recK, recC, idC, termsK, termsC, labelC, placeC, bodyC}
-use Rattle.queue.specs.bytes.ReaderAs.{Reads, isGot, valOf, whole, listAt}
-use Rattle.queue.specs.bytes.ReaderLaws.{Turn, turn, false-true, Spans, spans-id, spans-vec}
+use Rattle.queue.specs.layout.FrameCodec.{recK, recC, idC, termsK, termsC, labelC, placeC, bodyC}
+use Rattle.queue.specs.bytes.ReaderAs.{isGot, valOf, whole, listAt}
+use Rattle.queue.specs.bytes.ReaderLaws.{false-true, spans-id, spans-vec}
 use Rattle.queue.specs.bytes.ViewAs.{view}
-use Rattle.queue.specs.layout.FormsCodec.{formC, afterIn, Framed, turn-in}
+use Rattle.queue.specs.layout.FormsCodec.{formC, afterIn, turn-in}
 use Rattle.queue.specs.Areas.{readArea}
 use Rattle.queue.specs.layout.FrameAs.{termsAt, factsOf, optNum, SeenAs}
 use Rattle.queue.specs.check.RulesAs.{dueF, weight, sum}
 use Rattle.queue.specs.check.AreaAs.{AreaAs, AreaIs}
 use Rattle.queue.specs.bytes.Parts.{part}
-use Rattle.queue.specs.read.ReadingAs.{Here, FoundAs, FoundEnd, Look, off, hit, lookRec, lookIn, lookOf, LookAs, SignedAs, partIn, EntryIn, entryAt, entryLen}
+use Rattle.queue.specs.read.ReadingAs.{Here, FoundAs, FoundEnd, off, hit, lookRec, lookIn, lookOf, LookAs, SignedAs, partIn, EntryIn, entryAt, entryLen}
 use Rattle.queue.specs.paper.Records.{Bytes, Id, Terms, Held, Rec, Queue}
 use Rattle.queue.specs.paper.Lists.{isSome, maybe, one, any?, find, concat, isEmpty?}
 use Rattle.queue.specs.paper.Ids.{cmpL}
 use Rattle.queue.specs.paper.Sound.{inputs, reads, content, labelLen, pending?}
-use Rattle.queue.specs.paper.Area.{over, termsBytes, placeBytes, headBytes, recBytes, flagged, idListBytes, heldUnder, heldBytes, recUnder}
+use Rattle.queue.specs.paper.Area.{termsBytes, placeBytes, headBytes, recBytes, flagged, idListBytes, heldUnder, heldBytes, recUnder}
 use Rattle.queue.specs.paper.Changing.{named?, reached?, due?}
-use Rattle.queue.specs.Checked.{Written, written}
+use Rattle.queue.specs.Checked.{written}
 use Rattle.queue.specs.paper.Calls.{id?, entryBytes, cursorBytes, toldOut, lookUp, entryOf, endOf, signedPart, signedBytesOf, numberOf, readOf}
 use Rattle.queue.specs.declared.Kind.{Kind}
 use Rattle.queue.specs.declared.Kind.the-variants.{Nothing}
@@ -46,7 +36,7 @@ use Rattle.queue.specs.declared.check.area.Area.{Area}
 use Rattle.queue.specs.declared.read.find.Found.{Found}
 use Rattle.queue.specs.declared.read.reading.Looked.{Looked}
 use Rattle.queue.specs.declared.read.reading.Place.{Place}
-use Rattle.queue.proofs.bytes.PutLaws.{length-be, then, recast, put-over}
+use Rattle.queue.proofs.bytes.PutLaws.{length-be, recast, put-over}
 use Rattle.queue.proofs.bytes.PutByteLaws.{be-same, between}
 use Rattle.queue.proofs.layout.TurnLaws.{Scan, start, on, stop, end, SeenIn, ReadsRec, seen, see}
 

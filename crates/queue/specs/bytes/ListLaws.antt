@@ -1,15 +1,9 @@
 -- Laws of the paper's list functions: map, filter, find, insert, sort, count, total.
-use mathlib.Core.Path.{_≡_, refl, sym, _∙_}
-use mathlib.Core.Bool.{Bool, true, false, cond, not, _&&_}
-use mathlib.Core.Option.{none, some}
-use mathlib.Core.List.{List, [], _∷_}
-use Prim.Native.Nat.{ℕ, _+_, _≤_}
-use native.Mathlib.Omega.{arith}
-use lib.ListN.{length}
+use Rattle.queue.specs.Prelude.{_≡_, refl, sym, _∙_, Bool, true, false, cond, not, _&&_, none, some, List, [], _∷_, ℕ, _+_, _≤_, arith, length}
 use Rattle.queue.specs.Codec.{cases, cond-cases, All}
 use Rattle.queue.specs.Lists.{Pairwise, Sub, done, keep, skip, all-map}
 use Rattle.queue.specs.bytes.ReaderLaws.{false-true}
-use Rattle.queue.specs.paper.Lists.{one, any?, total, count, filter, find, insert, sort, map}
+use Rattle.queue.specs.paper.Lists.{one, total, count, filter, find, insert, sort, map}
 
 pub and-false : (a : Bool) → (a && false) ≡ false
 and-false true = refl

@@ -1,8 +1,5 @@
 -- A list with some bytes written over it, and what a writer of bytes ensures. Assumes nothing.
-use mathlib.Core.Path.{_≡_}
-use Prim.Native.Nat.{ℕ, zero, suc, _+_, _/_, _%_}
-use mathlib.Core.List.{List, [], _∷_, _++_}
-use lib.ListN.{length, set}
+use Rattle.queue.specs.Prelude.{_≡_, List, [], _∷_, _++_, ℕ, zero, suc, _+_, _/_, _%_, length, set}
 
 -- d with bs written over it from index at on
 unfoldable pub splice : List ℕ → ℕ → List ℕ → List ℕ

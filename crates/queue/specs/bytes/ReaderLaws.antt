@@ -1,17 +1,6 @@
 -- The laws by which readers are put together.
-use mathlib.Core.Path.{_≡_, refl, ap, sym, _∙_}
-use mathlib.Core.Bool.{Bool, true, false, cond, not, _&&_}
-use mathlib.Core.Option.{Option, none, some}
-use mathlib.Core.List.{List, [], _∷_, _++_, append-assoc}
-use Prim.Native.Nat.{ℕ, zero, suc, _+_, _-_, _*_, _^_, _≤_, _<_}
-use native.Mathlib.Omega.{arith}
-use native.Mathlib.Nat.{add-assoc, add-zero, add-suc, suc-add, pow-suc, zero-mul, suc-mul}
-use native.Mathlib.Numerals.{add-one}
-use lib.ListN.{length, drop, take, getD, length-drop, length-append}
-use lib.Dec.{ltb, leb, eqb}
-use lib.Seq.{drop-cons}
-use borrow.Author.Tests.{lt-ltb}
-use Rattle.queue.specs.Codec.{Bytes, Got, fail, got, _>>=_, no-got, bind-got, Codec, cases, byteDec, byteC, be, beDec, beC, pairDec, pairC, mapC, optDec, optC, decs, vecC, countedC, All, encs, be-length, vec-bwd}
+use Rattle.queue.specs.Prelude.{_≡_, refl, ap, sym, _∙_, Bool, true, false, _&&_, Option, none, some, List, [], _∷_, ℕ, zero, suc, _+_, _-_, _*_, _^_, _≤_, _<_, arith, add-assoc, add-zero, add-suc, pow-suc, zero-mul, suc-mul, add-one, length, drop, getD, length-drop, length-append, drop-cons, lt-ltb}
+use Rattle.queue.specs.Codec.{Bytes, Got, fail, got, _>>=_, bind-got, Codec, cases, byteDec, byteC, beDec, beC, pairDec, pairC, mapC, optDec, optC, decs, vecC, countedC, All, encs, be-length, vec-bwd}
 use Rattle.queue.specs.bytes.ReaderAs.{Reads, Span, flagDec, flagC, Counted, OptSpan, isGot, valOf, restOf, whole, listAt, behind}
 use Rattle.queue.specs.layout.FrameCodec.{idC}
 

@@ -1,11 +1,5 @@
 -- Admission as the code goes, and what its parts ask and say.
-use mathlib.Core.Path.{_≡_}
-use mathlib.Core.Bool.{Bool, true, false, cond, _&&_, _||_}
-use mathlib.Core.Option.{Option, some}
-use mathlib.Core.List.{List, []}
-use Prim.Native.Nat.{ℕ, _+_, _/_, _%_, _^_, _≤_, _<_}
-use lib.Dec.{ltb, leb, eqb}
-use lib.ListN.{length}
+use Rattle.queue.specs.Prelude.{_≡_, Bool, true, false, cond, _&&_, _||_, Option, some, List, [], ℕ, _+_, _/_, _%_, _^_, _≤_, _<_, ltb, leb, eqb, length}
 use Rattle.queue.specs.Codec.{optC}
 use Rattle.queue.specs.layout.FrameCodec.{Head, idC}
 use Rattle.queue.specs.bytes.ViewAs.{view}

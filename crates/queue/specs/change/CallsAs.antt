@@ -1,15 +1,9 @@
 -- What the parts of the changing calls ask and say.
-use mathlib.Core.Path.{_≡_}
-use mathlib.Core.Bool.{Bool, true, false, cond}
-use mathlib.Core.Option.{Option, none, some}
-use mathlib.Core.List.{List, [], _∷_, _++_}
-use Prim.Native.Nat.{ℕ, _+_, _-_, _≤_, _<_}
-use lib.ListN.{length, take, drop}
+use Rattle.queue.specs.Prelude.{_≡_, Bool, true, false, cond, some, List, [], _++_, ℕ, _+_, _-_, take, drop}
 use Rattle.queue.specs.bytes.PutAs.{beLast}
 use Rattle.queue.specs.layout.FrameCodec.{recC}
 use Rattle.queue.specs.bytes.ViewAs.{view}
-use Rattle.queue.specs.bytes.ReaderAs.{whole, listAt}
-use Rattle.queue.specs.layout.FormsCodec.{formC, Framed}
+use Rattle.queue.specs.layout.FormsCodec.{Framed}
 use Rattle.queue.specs.Areas.{readArea}
 use Rattle.queue.specs.layout.FrameAs.{termsAt, SeenAs}
 use Rattle.queue.specs.check.AreaAs.{AreaAs}

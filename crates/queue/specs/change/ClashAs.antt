@@ -1,9 +1,5 @@
 -- Lent ids in a table of rows: is an id one of them, and does a record spend or read one?
-use mathlib.Core.Path.{_≡_}
-use mathlib.Core.Bool.{Bool, false, cond}
-use mathlib.Core.List.{List}
-use Prim.Native.Nat.{ℕ, _≤_, _<_}
-use lib.ListN.{length, getD}
+use Rattle.queue.specs.Prelude.{_≡_, Bool, false, cond, List, ℕ, _≤_, _<_, length, getD}
 use Rattle.queue.specs.check.SuspectsAs.{idR}
 use Rattle.queue.specs.change.ReopenAs.{idsAt}
 use Rattle.queue.specs.paper.Records.{Bytes, Id, Rec}

@@ -1,9 +1,5 @@
 -- Finishing and forgetting, as the code goes.
-use mathlib.Core.Path.{_≡_}
-use mathlib.Core.Bool.{Bool, true, false}
-use mathlib.Core.List.{List}
-use Prim.Native.Nat.{ℕ, _+_}
-use lib.Dec.{ltb, leb, eqb}
+use Rattle.queue.specs.Prelude.{_≡_, Bool, false, List, ℕ, _+_, ltb, leb, eqb}
 use Rattle.queue.specs.Codec.{All}
 use Rattle.queue.specs.layout.FrameAs.{factsOf}
 use Rattle.queue.specs.check.RulesAs.{dueF, aboveF}

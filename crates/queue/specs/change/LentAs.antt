@@ -1,8 +1,5 @@
 -- What is lent to a reconciliation, and what is known of it once it was checked.
-use mathlib.Core.Path.{_≡_}
-use mathlib.Core.Bool.{Bool, true, _&&_}
-use Prim.Native.Nat.{ℕ, _/_}
-use lib.ListN.{length, take}
+use Rattle.queue.specs.Prelude.{_≡_, Bool, true, _&&_, ℕ, _/_, length, take}
 use Rattle.queue.specs.theorems.Arguments.{Small}
 use Rattle.queue.specs.change.ReopenAs.{IdsRise, idsAt}
 use Rattle.queue.specs.change.TouchAs.{appliedIn, EntriesRise}

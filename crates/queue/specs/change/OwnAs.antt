@@ -1,10 +1,5 @@
 -- Which wanted ids are owned, as the code goes: a flag for each of them, of all records, and rows of outputs.
-use mathlib.Core.Path.{_≡_}
-use mathlib.Core.Bool.{Bool, true, false, cond, _||_}
-use mathlib.Core.List.{List, [], _∷_, _++_}
-use Prim.Native.Nat.{ℕ, zero, suc, _+_, _*_, _/_, _%_, _≤_, _<_}
-use lib.Dec.{eqb}
-use lib.ListN.{length, take, drop, set}
+use Rattle.queue.specs.Prelude.{_≡_, Bool, true, false, cond, _||_, List, [], _∷_, _++_, ℕ, zero, suc, _+_, _*_, _/_, _%_, _≤_, _<_, eqb, length, take, drop, set}
 use Rattle.queue.specs.check.FilterAs.{hashL, marked, markL}
 use Rattle.queue.specs.check.SuspectsAs.{later, Shuffled}
 use Rattle.queue.specs.layout.FrameCodec.{idC}

@@ -1,12 +1,5 @@
 -- What becomes of an area's records: a row for each record that changes, by rising places, and the records that come of the rows.
-use mathlib.Core.Path.{_≡_}
-use mathlib.Core.Bool.{Bool, true, false, cond, _&&_, _||_}
-use mathlib.Core.Option.{Option, none, some}
-use mathlib.Core.Logic.{_⊎_}
-use mathlib.Core.List.{List, [], _∷_, _++_}
-use Prim.Native.Nat.{ℕ, _+_, _-_, _*_, _/_, _%_, _≤_, _<_}
-use lib.Dec.{leb, eqb}
-use lib.ListN.{length, take, drop, getD}
+use Rattle.queue.specs.Prelude.{_≡_, Bool, cond, _&&_, _||_, Option, none, some, _⊎_, List, [], _∷_, _++_, ℕ, _+_, _-_, _*_, _/_, _%_, _≤_, _<_, leb, eqb, length, take, drop, getD}
 use Rattle.queue.specs.layout.FrameAs.{termsAt, factsOf, limitsIn}
 use Rattle.queue.specs.bytes.PutAs.{beLast}
 use Rattle.queue.specs.layout.FrameCodec.{recC}
@@ -20,7 +13,6 @@ use Rattle.queue.specs.change.TouchAs.{entryIn}
 use Rattle.queue.specs.paper.Records.{Bytes, Id, Rec, Queue}
 use Rattle.queue.specs.paper.Lists.{filter}
 use Rattle.queue.specs.paper.Sound.{holder?}
-use Rattle.queue.specs.paper.Area.{areaBytes, over}
 use Rattle.queue.specs.paper.Changing.{withdrawnMark, remade, finishThose}
 use Rattle.queue.specs.declared.check.area.Area.{Area}
 use Rattle.queue.specs.declared.change.finish.Change.{Change}

@@ -1,10 +1,5 @@
 -- The ranks of the released, and the records after a reconciliation.
-use mathlib.Core.Path.{_≡_}
-use mathlib.Core.Bool.{false, cond}
-use mathlib.Core.List.{List}
-use Prim.Native.Nat.{ℕ, _+_, _<_}
-use lib.Dec.{eqb}
-use lib.ListN.{length, getD}
+use Rattle.queue.specs.Prelude.{_≡_, false, cond, List, ℕ, _+_, _<_, eqb, length, getD}
 use Rattle.queue.specs.read.SelectAs.{idAt}
 use Rattle.queue.specs.check.SuspectsAs.{idR, noR, Shuffled, InOrder}
 use Rattle.queue.specs.change.ReleaseAs.{nextL}

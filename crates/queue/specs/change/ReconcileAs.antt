@@ -1,12 +1,5 @@
 -- Reconciliation as the code goes, and what its parts ask and say.
-use mathlib.Core.Path.{_≡_}
-use mathlib.Core.Bool.{Bool, true, false, cond, not, _||_}
-use mathlib.Core.Option.{Option, none, some}
-use mathlib.Core.List.{List, [], _∷_, _++_}
-use Prim.Native.Nat.{ℕ, _+_, _≤_, _<_, min}
-use lib.Dec.{ltb, leb}
-use lib.ListN.{length}
-use mathlib.Core.Logic.{_⊎_}
+use Rattle.queue.specs.Prelude.{_≡_, Bool, false, cond, not, _||_, some, _⊎_, List, _∷_, _++_, ℕ, _+_, _≤_, min, ltb, leb, length}
 use Rattle.queue.specs.layout.FrameCodec.{recC}
 use Rattle.queue.specs.bytes.ReaderAs.{listAt}
 use Rattle.queue.specs.layout.FormsCodec.{formC}
@@ -15,7 +8,6 @@ use Rattle.queue.specs.change.FinishAs.{above}
 use Rattle.queue.specs.Codec.{All}
 use Rattle.queue.specs.bytes.PutAs.{beLast}
 use Rattle.queue.specs.Areas.{readArea}
-use Rattle.queue.specs.check.AreaAs.{AreaAs}
 use Rattle.queue.specs.change.ReopenAs.{IdsRise, idsAt}
 use Rattle.queue.specs.theorems.Arguments.{Small}
 use Rattle.queue.specs.theorems.ReconcileKeeps.{Reconcilable}

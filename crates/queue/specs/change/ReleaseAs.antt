@@ -1,21 +1,16 @@
 -- The Mined holders as rows of a table, and which of them are released.
-use mathlib.Core.Path.{_≡_}
-use mathlib.Core.Bool.{Bool, false, cond, _&&_, _||_}
-use mathlib.Core.List.{List, [], _∷_}
-use Prim.Native.Nat.{ℕ, _+_, _-_, _≤_, _<_}
-use lib.Dec.{ltb, leb, eqb}
-use lib.ListN.{length, take}
+use Rattle.queue.specs.Prelude.{_≡_, Bool, false, cond, _&&_, _||_, List, [], _∷_, ℕ, _+_, _-_, _≤_, _<_, ltb, leb, eqb, length, take}
 use Rattle.queue.specs.layout.FrameCodec.{recC}
 use Rattle.queue.specs.bytes.ViewAs.{view}
 use Rattle.queue.specs.bytes.ReaderAs.{listAt}
 use Rattle.queue.specs.bytes.ReaderLaws.{beAt}
 use Rattle.queue.specs.layout.FormsCodec.{formC}
-use Rattle.queue.specs.read.SelectAs.{Row, rows, Even, idAt, idOf, RecStands}
+use Rattle.queue.specs.read.SelectAs.{Row, rows, Even, idOf, RecStands}
 use Rattle.queue.specs.change.TouchAs.{asTouched, verdictOf}
 use Rattle.queue.specs.paper.Records.{Bytes, Id, Limits, Rec}
-use Rattle.queue.specs.paper.Lists.{total, filter, find, map, maybe}
+use Rattle.queue.specs.paper.Lists.{total, filter, find, maybe}
 use Rattle.queue.specs.paper.Ids.{same?}
-use Rattle.queue.specs.paper.Sound.{holder?, mined?, content}
+use Rattle.queue.specs.paper.Sound.{content}
 use Rattle.queue.specs.paper.Changing.{Applied, touchFound, minedHeight}
 use Rattle.queue.specs.paper.Decisions.{minedHolder?}
 use Rattle.queue.specs.declared.layout.frame.Facts.{Facts}

@@ -1,13 +1,5 @@
 -- Reopening as the code goes, and what its parts ask and say.
-use mathlib.Core.Path.{_≡_}
-use mathlib.Core.Bool.{Bool, true, false, cond, _&&_}
-use mathlib.Core.Option.{Option, none, some}
-use mathlib.Core.List.{List, [], _∷_, _++_}
-use Prim.Native.Nat.{ℕ, _+_, _-_, _≤_, _<_}
-use lib.Dec.{eqb}
-use lib.ListN.{length, take, drop}
-use Rattle.queue.specs.layout.FrameAs.{termsAt}
-use Rattle.queue.specs.bytes.PutAs.{beLast}
+use Rattle.queue.specs.Prelude.{_≡_, Bool, true, false, cond, _&&_, some, List, [], ℕ, _≤_, eqb, length}
 use Rattle.queue.specs.layout.FrameCodec.{idC}
 use Rattle.queue.specs.bytes.ViewAs.{view}
 use Rattle.queue.specs.bytes.ReaderAs.{whole, listAt}
@@ -23,7 +15,6 @@ use Rattle.queue.specs.paper.Changing.{committed, reopened, listed?, reo
 use Rattle.queue.specs.Checked.{Outcome, told}
 use Rattle.queue.specs.paper.Calls.{nothingBytes}
 use Rattle.queue.specs.declared.layout.frame.Seen.{Seen}
-use Rattle.queue.specs.declared.layout.frame.Facts.{Facts}
 use Rattle.queue.specs.declared.check.area.Area.{Area}
 
 -- lent ids: k of them stand in t, these

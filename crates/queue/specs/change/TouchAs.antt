@@ -1,11 +1,5 @@
 -- What a reconciliation makes of one record, as the code goes.
-use mathlib.Core.Path.{_≡_}
-use mathlib.Core.Bool.{Bool, true, false, cond, not, _&&_}
-use mathlib.Core.Option.{Option, none, some}
-use mathlib.Core.List.{List, [], _∷_, _++_}
-use Prim.Native.Nat.{ℕ, _+_, _*_, _/_, _%_, _≤_}
-use lib.Dec.{eqb}
-use lib.ListN.{length, take, drop}
+use Rattle.queue.specs.Prelude.{_≡_, Bool, true, false, cond, not, _&&_, Option, none, some, List, [], _∷_, _++_, ℕ, _+_, _*_, _/_, _%_, _≤_, eqb, length, take, drop}
 use Rattle.queue.specs.layout.FrameCodec.{recC}
 use Rattle.queue.specs.bytes.ViewAs.{view}
 use Rattle.queue.specs.bytes.ReaderAs.{listAt}

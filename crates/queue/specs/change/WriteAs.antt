@@ -1,10 +1,5 @@
 -- What is asked of and said by the functions that write a whole area from an area.
-use mathlib.Core.Path.{_≡_}
-use mathlib.Core.Bool.{Bool, true, false, cond}
-use mathlib.Core.Option.{Option, none, some}
-use mathlib.Core.List.{List}
-use Prim.Native.Nat.{ℕ, _+_, _%_, _^_, _≤_, _<_}
-use lib.ListN.{length}
+use Rattle.queue.specs.Prelude.{_≡_, Bool, true, false, some, ℕ, _+_, _%_, _^_, _≤_, _<_, length}
 use Rattle.queue.specs.Codec.{All, optC}
 use Rattle.queue.specs.layout.FrameCodec.{Head, idC, recC}
 use Rattle.queue.specs.bytes.ReaderAs.{listAt}

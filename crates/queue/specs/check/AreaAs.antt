@@ -1,11 +1,5 @@
 -- What a queue that was read from bytes or from a text says of the queue.
-use mathlib.Core.Path.{_≡_, refl}
-use mathlib.Core.Bool.{Bool, true, false, _&&_}
-use mathlib.Core.Option.{none, some}
-use mathlib.Core.List.{List, []}
-use Prim.Native.Nat.{ℕ, _-_, _≤_}
-use lib.Dec.{leb}
-use lib.ListN.{length, take, drop}
+use Rattle.queue.specs.Prelude.{_≡_, refl, Bool, true, false, _&&_, none, some, List, [], ℕ, _-_, _≤_, leb, length, take, drop}
 use Rattle.queue.specs.layout.FrameCodec.{headK, recC}
 use Rattle.queue.specs.bytes.ReaderAs.{whole, listAt, behind}
 use Rattle.queue.specs.bytes.ViewAs.{view}

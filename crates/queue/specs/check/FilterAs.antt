@@ -1,11 +1,5 @@
 -- A filter: numbers marked in a table of bits. It can only say yes too often. And what a pass over records with a filter ensures.
-use mathlib.Core.Path.{_≡_}
-use mathlib.Core.Bool.{Bool, true, false, not, _&&_}
-use mathlib.Core.List.{List}
-use Prim.Native.Nat.{ℕ, _+_, _*_, _/_, _%_, _^_, _≤_}
-use lib.Dec.{eqb}
-use lib.Bits.{bitOr}
-use lib.ListN.{length, getD, set}
+use Rattle.queue.specs.Prelude.{_≡_, Bool, true, false, not, _&&_, List, ℕ, _+_, _*_, _/_, _%_, _^_, _≤_, eqb, bitOr, length, getD, set}
 use Rattle.queue.specs.bytes.ViewAs.{view}
 use Rattle.queue.specs.layout.FrameCodec.{idC}
 use Rattle.queue.specs.bytes.ReaderAs.{listAt}

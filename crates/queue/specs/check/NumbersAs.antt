@@ -1,9 +1,5 @@
 -- The finish numbers of tombstones in a table, and what is said of them.
-use mathlib.Core.Path.{_≡_}
-use mathlib.Core.Bool.{Bool, true, false, cond}
-use mathlib.Core.List.{List, [], _∷_, _++_}
-use Prim.Native.Nat.{ℕ, _≤_, _+_, _-_}
-use lib.Dec.{ltb, eqb}
+use Rattle.queue.specs.Prelude.{_≡_, Bool, true, false, cond, List, [], _∷_, _++_, ℕ, _≤_, _+_, _-_, ltb, eqb}
 use Rattle.queue.specs.paper.Records.{Rec}
 use Rattle.queue.specs.paper.Lists.{count}
 use Rattle.queue.specs.paper.Sound.{holder?}

@@ -1,9 +1,5 @@
 -- Ids that a record reads and does not spend, their rows, and what a walk that looks for their spenders ensures.
-use mathlib.Core.Path.{_≡_}
-use mathlib.Core.Bool.{Bool, true, false, not, _&&_}
-use mathlib.Core.List.{List}
-use Prim.Native.Nat.{ℕ}
-use lib.Dec.{eqb}
+use Rattle.queue.specs.Prelude.{_≡_, Bool, true, false, not, _&&_, List, ℕ, eqb}
 use Rattle.queue.specs.check.SuspectsAs.{idR, noR}
 use Rattle.queue.specs.paper.Records.{Bytes, Id, Rec}
 use Rattle.queue.specs.paper.Lists.{any?, all?}

@@ -1,15 +1,8 @@
 -- The rules of document 01 on what was read of a record.
-use mathlib.Core.Path.{_≡_, refl}
-use mathlib.Core.Bool.{Bool, true, false, cond, not, _&&_, _||_}
-use mathlib.Core.Option.{Option, none, some}
-use mathlib.Core.List.{List, [], _∷_}
-use Prim.Native.Nat.{ℕ, _+_}
-use lib.Dec.{ltb, leb, eqb}
-use lib.ListN.{length}
+use Rattle.queue.specs.Prelude.{Bool, cond, not, _&&_, _||_, List, ℕ, ltb, leb, eqb}
 use Rattle.queue.specs.paper.Records.{Rec}
 use Rattle.queue.specs.paper.Lists.{one, total}
-use Rattle.queue.specs.paper.Sound.{pending?, heldRight?, reasonRight?, placeRight?, markRight?, finishRight?, sizesRight?, right?, holders, holderBytes, minedHolders, minedBytes, tombstones, callerRight?}
-use Rattle.queue.specs.paper.Changing.{reached?, due?, higher}
+use Rattle.queue.specs.paper.Sound.{pending?, heldRight?, reasonRight?, placeRight?, markRight?, finishRight?, sizesRight?, callerRight?}
 use Rattle.queue.specs.layout.FrameAs.{factsOf}
 use Rattle.queue.specs.declared.layout.frame.Facts.{Facts}
 use Rattle.queue.specs.declared.check.rules.Query.{Query}

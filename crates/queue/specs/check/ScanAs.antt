@@ -1,10 +1,5 @@
 -- What the check counts in its one pass over the records.
-use mathlib.Core.Path.{_≡_}
-use mathlib.Core.Bool.{Bool, true, _&&_}
-use mathlib.Core.List.{List}
-use Prim.Native.Nat.{ℕ, _+_, _-_, _*_, _≤_}
-use lib.Dec.{leb, eqb}
-use lib.ListN.{length}
+use Rattle.queue.specs.Prelude.{_≡_, Bool, true, _&&_, List, ℕ, _+_, _-_, _*_, _≤_, leb, eqb, length}
 use Rattle.queue.specs.layout.FormsCodec.{recIn, Many}
 use Rattle.queue.specs.bytes.ReaderAs.{listAt}
 use Rattle.queue.specs.check.RulesAs.{rightF, weight, sum}

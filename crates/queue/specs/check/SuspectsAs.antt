@@ -1,18 +1,12 @@
 -- Suspects: places of input ids in a table, and what a look through it ensures.
-use mathlib.Core.Path.{_≡_}
-use mathlib.Core.Bool.{Bool, true, false, cond, _&&_, _||_}
-use mathlib.Core.Logic.{_⊎_}
-use mathlib.Core.List.{List, [], _∷_, _++_}
-use Prim.Native.Nat.{ℕ, _+_, _/_, _%_, _≤_, _<_}
-use lib.Dec.{ltb, leb, eqb}
-use lib.ListN.{length, getD, drop}
+use Rattle.queue.specs.Prelude.{_≡_, Bool, true, false, cond, _&&_, _||_, _⊎_, List, [], _∷_, _++_, ℕ, _+_, _/_, _%_, _≤_, _<_, ltb, leb, eqb, length, getD, drop}
 use Rattle.queue.specs.bytes.Parts.{part}
 use Rattle.queue.specs.bytes.ViewAs.{view}
 use Rattle.queue.specs.check.FilterAs.{hasIn, hashL, marked}
 use Rattle.queue.specs.paper.Records.{Bytes, Id, Rec}
 use Rattle.queue.specs.paper.Ids.{cmpL, same?}
 use Rattle.queue.specs.paper.Lists.{any?, all?, total, count}
-use Rattle.queue.specs.paper.Sound.{inputs, among?, used?, apart?}
+use Rattle.queue.specs.paper.Sound.{inputs, used?, apart?}
 
 -- a row: the place of an id, and the number of its record; too near the end there is no id
 unfoldable pub idR : Bool → Bytes → ℕ → Id

@@ -1,11 +1,6 @@
 -- Codecs that are chosen by a test of the header kind, or by a value that was read before, or that take only some values. Each has its
 -- two laws, so what is put together of them has both for every kind.
-use mathlib.Core.Path.{_≡_, sym}
-use mathlib.Core.Bool.{Bool, true, false, cond}
-use mathlib.Core.List.{[], _++_, append-assoc}
-use Prim.Native.Nat.{_+_}
-use native.Mathlib.Omega.{arith}
-use lib.ListN.{length-append}
+use Rattle.queue.specs.Prelude.{_≡_, sym, Bool, true, false, cond, [], _++_, append-assoc, _+_, arith, length-append}
 use Rattle.queue.specs.Codec.{Bytes, Got, fail, got, _>>=_, bind-got, if-got, all-append, Codec}
 
 -- no bytes: one fixed value, for what an older kind does not have

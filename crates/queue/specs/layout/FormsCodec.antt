@@ -1,15 +1,5 @@
 -- A frame as bytes in an area or as a line of text in an image; a queue's frames in either form
-use mathlib.Core.Path.{_≡_, refl, sym, ap, _∙_}
-use mathlib.Core.Bool.{Bool, true, false, cond, _&&_}
-use mathlib.Core.Option.{Option}
-use mathlib.Core.List.{List, [], _∷_, _++_, append-assoc}
-use Prim.Native.Nat.{ℕ, _+_, _-_, _*_, _^_, _≤_, _<_}
-use native.Mathlib.Omega.{arith}
-use native.Mathlib.Numerals.{add-one}
-use lib.Dec.{ltb, eqb}
-use lib.ListN.{length, take, drop, getD, length-append, length-drop, take-append-drop}
-use lib.Seq.{drop-cons, drop-drop, getD-drop, getD-at, drop-at, take-at}
-use borrow.Author.Tests.{lt-ltb, le-ltb, ltb-true, ltb-false, eqb-true, eq-eqb}
+use Rattle.queue.specs.Prelude.{_≡_, refl, sym, ap, _∙_, Bool, true, false, cond, _&&_, Option, List, [], _∷_, _++_, append-assoc, ℕ, _+_, _-_, _*_, _^_, _≤_, _<_, arith, add-one, ltb, eqb, length, take, drop, getD, length-append, length-drop, take-append-drop, drop-cons, drop-drop, getD-drop, getD-at, drop-at, take-at, lt-ltb, le-ltb, ltb-true, ltb-false, eqb-true, eq-eqb}
 use Rattle.queue.specs.Codec.{Got, fail, got, _>>=_, bind-got, if-got, cases, All, all-append, Codec, be, beC, pairC, mapC, encs, decs, vec-fwd, vec-bwd, vec-small, vecMost, vec-fits}
 use Rattle.queue.specs.Lists.{and-true}
 use Rattle.queue.specs.layout.FrameCodec.{Head, headK, recK, headC, recC}

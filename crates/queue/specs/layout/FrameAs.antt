@@ -1,10 +1,5 @@
 -- What the rules look at in a record, and how what was read stands to the record or the header.
-use mathlib.Core.Path.{_≡_, ap, sym}
-use mathlib.Core.Bool.{Bool, true, false, cond}
-use mathlib.Core.Option.{Option, none, some}
-use mathlib.Core.List.{List, _++_}
-use Prim.Native.Nat.{ℕ, _+_, _^_, _≤_, _<_}
-use lib.ListN.{length, take, drop}
+use Rattle.queue.specs.Prelude.{_≡_, ap, sym, Bool, true, false, cond, Option, none, some, List, _++_, ℕ, _+_, _^_, _≤_, _<_, length, take, drop}
 use Rattle.queue.specs.Codec.{beC, optC}
 use Rattle.queue.specs.paper.Records.{Bytes, Id, Limits, Terms, Held, Rec}
 use Rattle.queue.specs.paper.Lists.{isSome}

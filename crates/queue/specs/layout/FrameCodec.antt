@@ -1,12 +1,5 @@
 -- The frames of document 01's image and of the area as codecs, each under a header kind: a header, a record.
-use mathlib.Core.Path.{_≡_, refl}
-use mathlib.Core.Bool.{Bool, true, false, cond, not, _&&_, _||_}
-use mathlib.Core.Option.{Option, none, some}
-use mathlib.Core.List.{List, [], _∷_, _++_}
-use Prim.Native.Nat.{ℕ, _+_, _-_, _%_, _^_, _<_}
-use native.Mathlib.Omega.{arith}
-use lib.Dec.{ltb, leb, eqb}
-use borrow.Author.Tests.{lt-ltb, le-ltb, ltb-true, ltb-false, leb-true, le-leb, eqb-true, eq-eqb}
+use Rattle.queue.specs.Prelude.{_≡_, refl, Bool, true, false, cond, not, _&&_, _||_, Option, none, some, List, [], _∷_, _++_, ℕ, _+_, _-_, _%_, _^_, _<_, arith, ltb, leb, eqb, lt-ltb, le-ltb, ltb-true, ltb-false, leb-true, le-leb, eqb-true, eq-eqb}
 use Rattle.queue.specs.Codec.{Got, fail, got, no-got, if-got, cases, Codec, byteC, beC, pairC, mapC, optC, vecC, countedC}
 use Rattle.queue.specs.layout.Choice.{pickC, sinceC, guardC, viaC, thenC}
 use Rattle.queue.specs.Lists.{and-true}

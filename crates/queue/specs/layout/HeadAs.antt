@@ -1,8 +1,5 @@
 -- The front of an area as it is written: the persisted height and the header.
-use mathlib.Core.Bool.{Bool, cond}
-use mathlib.Core.Option.{Option, none, some}
-use mathlib.Core.List.{List, [], _∷_, _++_}
-use Prim.Native.Nat.{ℕ, _<_}
+use Rattle.queue.specs.Prelude.{Bool, cond, Option, none, some, List, [], _∷_, _++_, ℕ, _<_}
 use Rattle.queue.specs.bytes.PutAs as split
 use Rattle.queue.specs.Codec.{be, optC}
 use Rattle.queue.specs.layout.FrameCodec.{Head, idC, limitsC, headC}

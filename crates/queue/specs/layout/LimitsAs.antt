@@ -1,18 +1,9 @@
 -- The shares as they are lent to a fresh queue: a list of 64 bytes; and those of a queue, lent again, are its own.
-use mathlib.Core.Path.{_≡_, refl, ap, sym, _∙_}
-use mathlib.Core.Bool.{Bool, true, _&&_}
-use mathlib.Core.List.{List, [], _∷_, _++_}
-use Prim.Native.Nat.{ℕ, zero, suc, _+_, _*_, _/_, _%_, _^_, _≤_, _<_}
-use native.Mathlib.Omega.{arith}
-use native.Mathlib.Nat.{div-add-mod', mod-lt, pow-suc}
-use lib.Dec.{leb, eqb}
-use lib.ListN.{length, take, drop, replicate, length-append}
-use lib.Seq.{take-at, drop-at}
-use borrow.Author.Tests.{leb-true, eqb-true}
+use Rattle.queue.specs.Prelude.{_≡_, refl, ap, sym, _∙_, true, List, [], _∷_, _++_, ℕ, zero, suc, _+_, _*_, _/_, _%_, _^_, _≤_, _<_, arith, div-add-mod', mod-lt, pow-suc, leb, eqb, length, drop, replicate, length-append, take-at, drop-at, leb-true, eqb-true}
 use Rattle.queue.specs.Codec.{All, be, be-length}
 use Rattle.queue.specs.Lists.{and-true}
 use Rattle.queue.specs.bytes.ReaderLaws.{SmallAt}
-use Rattle.queue.specs.theorems.SoundParts.{InRange, range-of}
+use Rattle.queue.specs.theorems.SoundParts.{range-of}
 use Rattle.queue.specs.paper.Records.{Bytes, Limits}
 use Rattle.queue.specs.paper.Lists.{all?, map}
 use Rattle.queue.specs.paper.Sound.{sharesRight?, limitsRight?}

@@ -1,7 +1,5 @@
 -- Bytes that stand near a frame's start, where there are enough of them.
-use mathlib.Core.Path.{_≡_}
-use Prim.Native.Nat.{ℕ, _+_, _-_, _≤_}
-use lib.ListN.{length}
+use Rattle.queue.specs.Prelude.{_≡_, ℕ, _+_, _-_, _≤_, length}
 use Rattle.queue.specs.bytes.ReaderLaws.{SmallAt, beAt}
 use Rattle.queue.specs.paper.Records.{Bytes}
 use Rattle.queue.specs.declared.layout.frame.TermsR.{TermsR}

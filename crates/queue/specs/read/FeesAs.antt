@@ -1,16 +1,11 @@
 -- What the functions of the search ensure: candidates are records that stand at places of an area.
-use mathlib.Core.Path.{_≡_}
-use mathlib.Core.Bool.{false}
-use mathlib.Core.Option.{none}
-use mathlib.Core.List.{List, [], _++_}
-use Prim.Native.Nat.{ℕ, _+_, _≤_}
-use lib.ListN.{length, getD}
+use Rattle.queue.specs.Prelude.{_≡_, false, none, List, [], _++_, ℕ, _+_, _≤_, length, getD}
 use Rattle.queue.specs.Codec.{be}
 use Rattle.queue.specs.layout.FrameCodec.{recC}
 use Rattle.queue.specs.bytes.ReaderAs.{listAt}
 use Rattle.queue.specs.layout.FormsCodec.{formC}
 use Rattle.queue.specs.read.SelectAs.{Row, idAt, RecStands}
-use Rattle.queue.specs.paper.Records.{Bytes, Id, Terms, Rec}
+use Rattle.queue.specs.paper.Records.{Bytes, Id, Rec}
 use Rattle.queue.specs.paper.Calls.{idsBytes}
 use Rattle.queue.specs.declared.read.fees.Choice.{Choice}
 

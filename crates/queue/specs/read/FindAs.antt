@@ -1,11 +1,5 @@
 -- Where the record of an id stands among records, or would stand.
-use mathlib.Core.Path.{_≡_}
-use mathlib.Core.Bool.{Bool, true, false, cond}
-use mathlib.Core.Option.{some}
-use mathlib.Core.List.{List, [], _∷_}
-use Prim.Native.Nat.{ℕ, _+_}
-use lib.Dec.{eqb}
-use lib.ListN.{length}
+use Rattle.queue.specs.Prelude.{_≡_, Bool, true, false, cond, some, List, [], _∷_, ℕ, _+_, eqb, length}
 use Rattle.queue.specs.layout.FrameCodec.{recC}
 use Rattle.queue.specs.bytes.ReaderAs.{listAt}
 use Rattle.queue.specs.layout.FormsCodec.{formC}

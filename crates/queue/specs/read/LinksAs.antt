@@ -1,10 +1,5 @@
 -- Who waits for whom, as the code goes: rows for the ids that records want, a bit for each pair of rows of the selection.
-use mathlib.Core.Path.{_≡_}
-use mathlib.Core.Bool.{Bool, true, false, cond, not, _&&_, _||_}
-use mathlib.Core.List.{List, [], _∷_, _++_}
-use Prim.Native.Nat.{ℕ, zero, suc, _+_, _-_, _*_, _/_, _%_, _≤_, _<_}
-use lib.Dec.{ltb, eqb}
-use lib.ListN.{length, getD, set, take, drop}
+use Rattle.queue.specs.Prelude.{_≡_, Bool, true, false, cond, not, _&&_, _||_, List, [], _∷_, _++_, ℕ, zero, suc, _+_, _-_, _*_, _/_, _%_, _≤_, _<_, ltb, eqb, length, getD, set, take, drop}
 use Rattle.queue.specs.check.FilterAs.{slotL, marked, markL, hashAll}
 use Rattle.queue.specs.check.SuspectsAs.{idR, noR, later, InOrder, Cut}
 use Rattle.queue.specs.Codec.{All}

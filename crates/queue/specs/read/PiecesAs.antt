@@ -1,12 +1,6 @@
 -- The reading calls that write a piece for each record that passes.
-use mathlib.Core.Path.{_≡_}
-use mathlib.Core.Bool.{Bool, true, false, cond, _&&_}
-use mathlib.Core.List.{List, [], _∷_, _++_}
-use Prim.Native.Nat.{ℕ, _+_, _-_, _*_, _≤_}
-use lib.Dec.{eqb}
-use lib.ListN.{length, take, drop}
+use Rattle.queue.specs.Prelude.{_≡_, Bool, true, cond, _&&_, List, [], _∷_, _++_, ℕ, _+_, _-_, _*_, _≤_, eqb, length, take, drop}
 use Rattle.queue.specs.Codec.{be}
-use Rattle.queue.specs.Areas.{readArea}
 use Rattle.queue.specs.layout.FrameAs.{factsOf}
 use Rattle.queue.specs.check.RulesAs.{dueF}
 use Rattle.queue.specs.read.ReadingAs.{entryAt, entryLen, EntryIn}

@@ -1,10 +1,5 @@
 -- What the reading calls' functions ensure.
-use mathlib.Core.Path.{_≡_}
-use mathlib.Core.Bool.{Bool, true, false, cond}
-use mathlib.Core.Option.{Option, none, some}
-use mathlib.Core.List.{List, [], _∷_, _++_}
-use Prim.Native.Nat.{ℕ, _+_, _-_, _*_, _≤_, _<_}
-use lib.ListN.{length, take, drop}
+use Rattle.queue.specs.Prelude.{_≡_, true, false, cond, Option, none, some, List, [], _∷_, _++_, ℕ, _+_, _-_, _*_, _≤_, _<_, length, take, drop}
 use Rattle.queue.specs.bytes.PutAs.{beLast}
 use Rattle.queue.specs.layout.FrameCodec.{recC}
 use Rattle.queue.specs.bytes.ReaderAs.{whole, listAt}
@@ -16,7 +11,6 @@ use Rattle.queue.specs.paper.Changing.{named?}
 use Rattle.queue.specs.paper.Area.{headBytes, recBytes}
 use Rattle.queue.specs.paper.Calls.{id?, endOf, signedBytesOf}
 use Rattle.queue.specs.declared.Kind.{Kind}
-use Rattle.queue.specs.declared.Answer.{Answer}
 use Rattle.queue.specs.declared.Answer.the-variants.{Refused, Done}
 use Rattle.queue.specs.declared.layout.frame.Seen.{Seen}
 use Rattle.queue.specs.declared.read.find.Found.{Found}

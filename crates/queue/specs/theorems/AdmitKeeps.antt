@@ -1,19 +1,11 @@
 -- What admission leaves.
-use mathlib.Core.Path.{_≡_, refl, ap, sym, _∙_}
-use mathlib.Core.Bool.{Bool, true, false, cond, not, _&&_, _||_}
-use mathlib.Core.Option.{Option, none, some}
-use mathlib.Core.List.{List, [], _∷_}
-use Prim.Native.Nat.{ℕ, _+_, _^_, _≤_, _<_}
-use native.Mathlib.Omega.{arith}
-use lib.Dec.{ltb, leb, eqb}
-use lib.ListN.{length}
-use borrow.Author.Tests.{ltb-false, leb-false, le-ltb, eqb-true, eq-eqb, not-true}
+use Rattle.queue.specs.Prelude.{_≡_, refl, ap, sym, _∙_, Bool, true, false, cond, not, _&&_, _||_, Option, none, some, List, [], _∷_, ℕ, _+_, _^_, _≤_, _<_, arith, ltb, leb, eqb, length, ltb-false, leb-false, eqb-true, eq-eqb, not-true}
 use Rattle.queue.specs.Codec.{cases, All, byteC, beC, pairC, mapC, optC, countedC}
 use Rattle.queue.specs.layout.FrameCodec.{idC, labelC, termsK, heldK, placeC, bodyK}
 use Rattle.queue.specs.Lists.{all-map, total-split, sub-all, sub-pairwise, sub-total}
 use Rattle.queue.specs.bytes.ReaderLaws.{false-true}
 use Rattle.queue.specs.bytes.OrderLaws.{below-trans, below-total, or-true}
-use Rattle.queue.specs.bytes.ListLaws.{one-le, and-false, all-every, filter-sub, filter-all, find-all, insert-all, insert-total, insert-apart, insert-rising}
+use Rattle.queue.specs.bytes.ListLaws.{one-le, and-false, all-every, filter-sub, filter-all, insert-all, insert-total, insert-apart, insert-rising}
 use Rattle.queue.specs.theorems.SoundParts.{Right, Before, Distinct, distinct-sym, Apart, apart-sym, apart-from, Sound, Fields, Fit}
 use Rattle.queue.specs.theorems.Forget.{core-sound}
 use Rattle.queue.specs.theorems.CallsKeeps.{Leaves, Wholly, same-kept, committed-kept, pending-mined}
@@ -22,7 +14,7 @@ use Rattle.queue.specs.declared.Kind.the-variants.{Nothing, Memory, Whol
 use Rattle.queue.specs.paper.Records.{Bytes, Held, Rec, Queue, queued, mined, conflicted, cancelled, expired}
 use Rattle.queue.specs.paper.Lists.{isSome, one, total, filter, find, isEmpty?, maybe}
 use Rattle.queue.specs.paper.Ids.{below?}
-use Rattle.queue.specs.paper.Sound.{holder?, pending?, mined?, inputs, content, labelLen, clash?, crossed?, heldRight?}
+use Rattle.queue.specs.paper.Sound.{holder?, pending?, mined?, content, labelLen, clash?, crossed?, heldRight?}
 use Rattle.queue.specs.paper.Changing.{named?, Admission, reached?, newRec, put, pendings, pendingBytes, pendingsOf, shareOf, admitNew, admit, Out, refused, done, committed, WithinShare}
 
 abbrev pub LabelBytes : Option Bytes → Type 0

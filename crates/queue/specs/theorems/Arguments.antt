@@ -1,15 +1,5 @@
 -- Lent bytes and numbers that fit as the arguments of a call.
-use mathlib.Core.Path.{_≡_, refl, ap, _∙_}
-use mathlib.Core.Bool.{true, false, _&&_, _||_}
-use mathlib.Core.List.{List, [], _∷_}
-use Prim.Native.Nat.{ℕ, zero, suc, _*_, _/_, _^_, _≤_, _<_}
-use native.Mathlib.Omega.{arith}
-use native.Mathlib.Nat.{pow-succ', div-add-mod'}
-use lib.Arith.{digits-lt}
-use lib.Dec.{ltb, eqb}
-use lib.ListN.{length, take, drop, length-drop}
-use lib.Seq.{length-take-le}
-use borrow.Author.Tests.{ltb-false, leb-true, eqb-true}
+use Rattle.queue.specs.Prelude.{_≡_, refl, ap, _∙_, true, false, _&&_, _||_, List, [], _∷_, ℕ, zero, suc, _*_, _/_, _^_, _≤_, _<_, arith, pow-succ', div-add-mod', ltb, eqb, digits-lt, length, take, drop, length-drop, length-take-le, ltb-false, leb-true, eqb-true}
 use Rattle.queue.specs.Codec.{cases, All, Codec, byteC, beC, optC, vecC}
 use Rattle.queue.specs.layout.FrameCodec.{idC}
 use Rattle.queue.specs.Lists.{and-true}

@@ -1,13 +1,5 @@
 -- Every sound queue fits its area; so an area and an image are read as a queue exactly where they are its bytes.
-use mathlib.Core.Path.{_≡_, refl, ap, sym, _∙_}
-use mathlib.Core.Bool.{Bool, true, false, not}
-use mathlib.Core.Option.{Option, none, some}
-use mathlib.Core.List.{List, [], _∷_, _++_}
-use Prim.Native.Nat.{ℕ, _+_, _*_, _≤_}
-use native.Mathlib.Omega.{arith}
-use native.Mathlib.Nat.{mul-le-mul-right}
-use lib.ListN.{length, drop, length-append, length-replicate, length-drop}
-use lib.Seq.{drop-at}
+use Rattle.queue.specs.Prelude.{_≡_, refl, ap, sym, _∙_, Bool, true, false, not, Option, none, some, List, [], _∷_, _++_, ℕ, _+_, _*_, _≤_, arith, mul-le-mul-right, length, drop, length-append, length-replicate, length-drop, drop-at}
 use Rattle.queue.specs.Codec.{All, byteC, beC, pairC, mapC, optC, vecC, countedC, vecMost}
 use Rattle.queue.specs.layout.Choice.{thenC}
 use Rattle.queue.specs.layout.FrameCodec.{Head, tagC, idC, labelC, termsK, termsC, heldK, bodyK, bodyC, placeC, recK, recC, fourC, sixteenC, limitsK, limitsC, headK, headC}
@@ -16,7 +8,7 @@ use Rattle.queue.specs.Areas.{layout, readArea, kindOf, readImage, stand
 use Rattle.queue.specs.theorems.Plain.{area-plain, image-plain}
 use Rattle.queue.specs.theorems.SoundParts.{Right, sound-of, Fit, fit-of, fit-sound, fit-ok}
 use Rattle.queue.specs.paper.Records.{Bytes, Id, Limits, Terms, Held, Rec, Queue}
-use Rattle.queue.specs.paper.Lists.{isSome, one, map, concat}
+use Rattle.queue.specs.paper.Lists.{isSome, one}
 use Rattle.queue.specs.paper.Sound.{sound?, need, holder?, inputs, outputs, reads, content, labelLen, holders, holderBytes, tombstones}
 use Rattle.queue.specs.paper.Area.{areaBytes, imageUnder, imageBytes, over}
 use Rattle.queue.specs.paper.Kinds.{newest, kind?, says?}

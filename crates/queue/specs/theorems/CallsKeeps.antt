@@ -1,20 +1,11 @@
 -- What a changing call leaves: a sound queue with numbers that fit. Fresh queues, cursor setting, cancellation, expiry, reopening.
-use mathlib.Core.Path.{_≡_, refl, ap, sym, _∙_}
-use mathlib.Core.Bool.{Bool, true, false, cond, not, _&&_, _||_}
-use mathlib.Core.Option.{Option, none, some}
-use mathlib.Core.List.{List, [], _∷_}
-use Prim.Native.Nat.{ℕ, _+_, _^_, _≤_, _<_}
-use native.Mathlib.Omega.{arith}
-use native.Mathlib.Nat.{mod-lt}
-use lib.Dec.{ltb, leb, eqb}
-use lib.ListN.{length}
-use borrow.Author.Tests.{ltb-false, leb-true, le-leb, eqb-true, ne-eqb, not-true}
+use Rattle.queue.specs.Prelude.{_≡_, refl, ap, sym, _∙_, Bool, true, false, cond, not, _&&_, _||_, Option, none, some, List, [], _∷_, ℕ, _+_, _^_, _≤_, _<_, arith, mod-lt, ltb, leb, eqb, length, ltb-false, leb-true, le-leb, eqb-true, ne-eqb, not-true}
 use Rattle.queue.specs.Codec.{cases, All, optC}
 use Rattle.queue.specs.layout.FrameCodec.{idC, placeC, bodyK, bodyC}
-use Rattle.queue.specs.Lists.{Pairwise, and-true, and-both, all-map, Sub, sub-all}
+use Rattle.queue.specs.Lists.{Pairwise, and-true, and-both, all-map, sub-all}
 use Rattle.queue.specs.bytes.ReaderLaws.{false-true}
 use Rattle.queue.specs.bytes.OrderLaws.{same-is, same-self, below-not-same, or-true}
-use Rattle.queue.specs.bytes.ListLaws.{and-false, all-every, all-with, pairwise-with, find-all, find-only, find-count, filter-sub, total-eq, map-all, map-pairwise, map-total, map-total-le}
+use Rattle.queue.specs.bytes.ListLaws.{and-false, all-every, all-with, pairwise-with, find-all, find-only, total-eq, map-all, map-pairwise, map-total, map-total-le}
 use Rattle.queue.specs.theorems.SoundParts.{range-of, Right, Before, Distinct, Apart, Sound, Fields, Fit}
 use Rattle.queue.specs.theorems.Forget.{Core, core-sound, forget-sub, forget-sound}
 use Rattle.queue.specs.declared.Kind.{Kind}

@@ -1,12 +1,6 @@
 -- Document 01's bench cards, its worked image and docs/AREA.md's worked areas, and the cards of document 02's requests, as one table
 -- of tests.
-use mathlib.Core.Path.{_≡_, refl}
-use mathlib.Core.Bool.{Bool, true, false, cond, not, _&&_}
-use mathlib.Core.Option.{Option, none, some}
-use mathlib.Core.List.{List, [], _∷_, _++_}
-use Prim.Native.Nat.{ℕ, _+_, _-_, _*_}
-use lib.Dec.{eqb}
-use lib.ListN.{length, take, drop, replicate}
+use Rattle.queue.specs.Prelude.{_≡_, refl, Bool, true, false, cond, not, _&&_, Option, none, some, List, [], _∷_, _++_, ℕ, _+_, _-_, _*_, eqb, length, take, drop, replicate}
 use Rattle.queue.specs.declared.Answer.{Answer}
 use Rattle.queue.specs.Hex.{textOf, digOf}
 use Rattle.queue.specs.paper.Records.{Bytes, Id, Limits, Held, Rec, Queue, queued, mined, conflicted}

@@ -1,26 +1,18 @@
 -- Request P5: its promises hold, of every sound queue and every reconciliation.
-use mathlib.Core.Path.{_≡_, refl, sym, ap, _∙_}
-use mathlib.Core.Bool.{Bool, true, false, cond, not, _&&_, _||_}
-use mathlib.Core.Option.{Option, none, some}
-use mathlib.Core.List.{List, [], _∷_}
-use mathlib.Core.Logic.{_⊎_, inl, inr, ⊎-elim}
-use Prim.Native.Nat.{ℕ, _+_, _-_, _≤_, min}
-use native.Mathlib.Omega.{arith}
-use lib.Dec.{ltb, leb, eqb}
-use lib.ListN.{length}
+use Rattle.queue.specs.Prelude.{_≡_, refl, sym, ap, _∙_, Bool, true, false, cond, not, _&&_, _||_, Option, none, some, _⊎_, inl, inr, ⊎-elim, List, [], _∷_, ℕ, _+_, _-_, _≤_, min, arith, ltb, leb, eqb, length}
 use Rattle.queue.specs.Codec.{cases}
 use Rattle.queue.specs.Lists.{and-true, Pairwise}
 use Rattle.queue.specs.bytes.ListLaws.{all-every, filter-total, total-eq, map-total-le, count-one, pairwise-with, sort-total, sort-length, filter-length, map-length}
 use Rattle.queue.specs.bytes.ReaderLaws.{false-true}
 use Rattle.queue.specs.bytes.OrderLaws.{same-is}
-use Rattle.queue.specs.theorems.SoundParts.{Sound, sound-of}
+use Rattle.queue.specs.theorems.SoundParts.{sound-of}
 use Rattle.queue.specs.theorems.CallsKeeps.{pending-mined}
 use Rattle.queue.specs.theorems.ReconcileKeeps.{Diff, rising-diff}
 use Rattle.queue.specs.paper.Records.{Id, Limits, Rec, Queue, queued, conflicted}
-use Rattle.queue.specs.paper.Lists.{maybe, isSome, isEmpty?, one, all?, any?, total, count, filter, find, insert, sort, map}
+use Rattle.queue.specs.paper.Lists.{maybe, isSome, isEmpty?, one, all?, any?, count, filter, find, sort, map}
 use Rattle.queue.specs.paper.Ids.{same?}
-use Rattle.queue.specs.paper.Sound.{holder?, pending?, mined?, wanted, content, among?, sound?}
-use Rattle.queue.specs.paper.Changing.{Out, refused, done, Applied, Reconciling, confirmed?, confirm, judge, touchFound, touch, ownOf, touchedRecs, minedHeight, newer?, releases, toRelease, reconcile, top, topHeight}
+use Rattle.queue.specs.paper.Sound.{pending?, mined?, wanted, content, among?, sound?}
+use Rattle.queue.specs.paper.Changing.{Applied, Reconciling, confirmed?, confirm, judge, touchFound, touch, ownOf, touchedRecs, minedHeight, newer?, releases, toRelease, reconcile, top, topHeight}
 use Rattle.queue.specs.paper.Decisions.{Decision, entered, minedHolder?, decide, decisions, refusal, OnePass}
 
 -- ---- the records after `applied` was entered, and after all verdicts: the Mined holders are the same

@@ -1,13 +1,5 @@
 -- Soundness without the bound on tombstones, and forgetting down to it.
-use mathlib.Core.Path.{_≡_, refl, _∙_}
-use mathlib.Core.Bool.{Bool, true, false, cond, not, _&&_, _||_}
-use mathlib.Core.Option.{none}
-use mathlib.Core.List.{List, [], _∷_}
-use Prim.Native.Nat.{ℕ, zero, suc, _+_, _*_, _-_, _≤_, _<_, min}
-use native.Mathlib.Omega.{arith}
-use lib.Dec.{ltb, leb, eqb}
-use lib.ListN.{length}
-use borrow.Author.Tests.{ltb-true, ltb-false, leb-true, leb-false, lt-ltb, le-ltb, eqb-true, eqb-false, eq-eqb, ne-eqb}
+use Rattle.queue.specs.Prelude.{_≡_, refl, _∙_, Bool, true, false, cond, not, _&&_, _||_, none, List, [], _∷_, ℕ, zero, suc, _+_, _*_, _-_, _≤_, _<_, min, arith, ltb, leb, eqb, length, ltb-true, ltb-false, leb-true, leb-false, lt-ltb, le-ltb, eqb-true, eqb-false, eq-eqb, ne-eqb}
 use Rattle.queue.specs.Codec.{cases, All}
 use Rattle.queue.specs.Lists.{Pairwise, all-map, total-same, Sub, sub-all, sub-pairwise, sub-total}
 use Rattle.queue.specs.bytes.ReaderLaws.{false-true}

@@ -1,12 +1,6 @@
 -- Document 02, P1: an id without a holder, a tombstone or absent, stays so under every call but its own admission; cancellation
 -- and expiry leave those that they finish so; and such an id is in no selection.
-use mathlib.Core.Path.{_≡_, refl, ap, sym, _∙_}
-use mathlib.Core.Bool.{Bool, true, false, cond, not, _&&_, _||_}
-use mathlib.Core.Option.{Option, none, some}
-use mathlib.Core.List.{List, [], _∷_}
-use Prim.Native.Nat.{ℕ, _+_, min}
-use lib.Dec.{ltb, leb, eqb}
-use lib.ListN.{length}
+use Rattle.queue.specs.Prelude.{_≡_, refl, ap, sym, _∙_, Bool, true, false, cond, not, _&&_, _||_, Option, none, some, List, [], _∷_, ℕ, _+_, min, ltb, leb, eqb, length}
 use Rattle.queue.specs.declared.Kind.the-variants.{Nothing, Memory, Whole, Cursor}
 use Rattle.queue.specs.Codec.{cases, All}
 use Rattle.queue.specs.Lists.{Pairwise, and-true, all-map, both, sub-all}

@@ -1,18 +1,11 @@
 -- What is read under an older kind stands under the newest, with the same record; what an older kind can say stands under it.
-use mathlib.Core.Path.{_≡_, refl, ap, sym, _∙_}
-use mathlib.Core.Bool.{Bool, true, false, not, _&&_, _||_}
-use mathlib.Core.Option.{Option, none, some}
-use mathlib.Core.List.{List, [], _∷_, _++_, append-assoc}
-use Prim.Native.Nat.{ℕ, _^_, _<_}
-use native.Mathlib.Omega.{arith}
-use lib.Dec.{eqb}
-use borrow.Author.Tests.{eqb-true, eq-eqb}
+use Rattle.queue.specs.Prelude.{_≡_, refl, ap, sym, Bool, true, false, not, _||_, Option, none, some, List, [], _∷_, _++_, append-assoc, ℕ, _^_, _<_, arith, eqb, eqb-true, eq-eqb}
 use Rattle.queue.specs.Codec.{Codec, All, beC, pairC, mapC, optC, optEnc, vecC, countedC}
 use Rattle.queue.specs.layout.Choice.{fixC, pickC, sinceC, guardC, viaC, thenC}
-use Rattle.queue.specs.layout.FrameCodec.{Head, tagC, idC, idsC, labelC, low32, narrowC, priorityC, termsK, termsC, placeC, readsC, heldK, heldC, bodyK, bodyC, leadEnc, readsEnc, signedEnc, Four, fourC, sixteenC, sharesC, limitsK, limitsC, callerC, markSince, markC, recK, headK, recC, headC}
+use Rattle.queue.specs.layout.FrameCodec.{Head, tagC, idC, idsC, labelC, low32, narrowC, priorityC, termsK, termsC, placeC, readsC, heldK, bodyK, bodyC, leadEnc, readsEnc, signedEnc, Four, fourC, sixteenC, limitsK, limitsC, callerC, markSince, markC, recK, headK, recC, headC}
 use Rattle.queue.specs.Lists.{and-true, and-both}
 use Rattle.queue.specs.bytes.OrderLaws.{same-is, same-self}
-use Rattle.queue.specs.paper.Records.{Bytes, Id, Limits, Terms, Held, Rec, Queue}
+use Rattle.queue.specs.paper.Records.{Bytes, Limits, Terms, Held, Rec, Queue}
 use Rattle.queue.specs.paper.Ids.{same?}
 use Rattle.queue.specs.paper.Lists.{isEmpty?, all?}
 use Rattle.queue.specs.paper.Kinds.{newest, kind?, hasMark3, hasCallers, hasReads, hasWide, fits32?, markSaid?, callerSaid?, readsSaid?, prioritySaid?, sharesSaid?, recSaid?, firstShare, says?}

@@ -1,13 +1,8 @@
 -- The encoding that document 01 and docs/AREA.md say in plain words is that of the codecs.
-use mathlib.Core.Path.{_≡_, refl, ap, _∙_}
-use mathlib.Core.Bool.{Bool, true, false, cond}
-use mathlib.Core.Option.{Option, none, some}
-use mathlib.Core.List.{List, [], _∷_, _++_, append-assoc}
-use Prim.Native.Nat.{ℕ, _%_}
-use lib.ListN.{length}
+use Rattle.queue.specs.Prelude.{_≡_, refl, ap, _∙_, Bool, true, false, cond, Option, none, some, List, [], _∷_, _++_, append-assoc, ℕ, _%_, length}
 use Rattle.queue.specs.Codec.{Codec, be, byteC, beC, pairC, mapC, optC, optEnc, vecC, countedC, encs}
 use Rattle.queue.specs.layout.Choice.{fixC, pickC, sinceC, viaC, thenC}
-use Rattle.queue.specs.layout.FrameCodec.{tagC, idC, labelC, narrowC, termsK, termsC, idsC, heldK, bodyK, placeC, callerC, readsC, recK, recC, fourC, sixteenC, sharesC, limitsK, limitsC, headK}
+use Rattle.queue.specs.layout.FrameCodec.{tagC, idC, labelC, narrowC, termsK, termsC, idsC, heldK, bodyK, placeC, callerC, readsC, recK, recC, fourC, sixteenC, limitsK, headK}
 use Rattle.queue.specs.layout.FormsCodec.{headFor, storeOf, formC, lineEnc, recIn, textForm, queueC, queue-enc, image-enc}
 use Rattle.queue.specs.theorems.OlderKinds.{mark-enc}
 use Rattle.queue.specs.Areas.{layout, image}

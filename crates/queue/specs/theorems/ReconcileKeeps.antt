@@ -1,13 +1,5 @@
 -- What reconciliation leaves: each record by itself, then the walk over the Mined holders.
-use mathlib.Core.Path.{_≡_, refl, sym, _∙_}
-use mathlib.Core.Bool.{Bool, true, false, cond, not, _&&_, _||_}
-use mathlib.Core.Option.{Option, none, some}
-use mathlib.Core.List.{List, [], _∷_}
-use Prim.Native.Nat.{ℕ, zero, suc, _+_, _*_, _-_, _^_, _≤_, _<_, min}
-use native.Mathlib.Omega.{arith}
-use lib.Dec.{ltb, leb, eqb}
-use lib.ListN.{length}
-use borrow.Author.Tests.{ltb-false, leb-false, eqb-true, eqb-false, eq-eqb, ne-eqb, not-true}
+use Rattle.queue.specs.Prelude.{_≡_, refl, sym, _∙_, Bool, true, false, cond, not, _&&_, _||_, Option, none, some, List, [], _∷_, ℕ, zero, suc, _+_, _*_, _-_, _^_, _≤_, _<_, min, arith, ltb, leb, eqb, length, ltb-false, leb-false, eqb-true, eqb-false, eq-eqb, ne-eqb, not-true}
 use Rattle.queue.specs.Codec.{cases, cond-cases, All, beC, pairC, optC}
 use Rattle.queue.specs.layout.FrameCodec.{idC, placeC}
 use Rattle.queue.specs.Lists.{Pairwise, and-true, all-map, both-pairwise, sub-all, sub-pairwise, sub-total}

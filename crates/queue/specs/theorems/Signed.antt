@@ -1,14 +1,6 @@
 -- What `signedPart` names is a record's signed bytes, where they stand in the area.
-use mathlib.Core.Path.{_≡_, refl, ap, sym, _∙_}
-use mathlib.Core.Bool.{Bool, true, false}
-use mathlib.Core.Option.{Option, none, some}
-use mathlib.Core.List.{List, [], _∷_, _++_, append-assoc}
-use Prim.Native.Nat.{ℕ, _+_, _-_, _*_}
-use native.Mathlib.Omega.{arith}
-use lib.ListN.{length, take, drop, replicate, length-append}
-use lib.Seq.{take-at, drop-at}
+use Rattle.queue.specs.Prelude.{_≡_, refl, ap, sym, _∙_, Option, none, some, List, [], _∷_, _++_, append-assoc, ℕ, _+_, _-_, arith, length, take, drop, replicate, length-append, take-at, drop-at}
 use Rattle.queue.specs.Codec.{be, be-length, cases}
-use Rattle.queue.specs.bytes.ReaderLaws.{false-true}
 use Rattle.queue.specs.Areas.{readArea}
 use Rattle.queue.specs.theorems.Bound.{reads-area}
 use Rattle.queue.specs.read.ReadingAs.{partIn}

@@ -1,12 +1,5 @@
 -- A sound queue as a record with named parts, and the numbers that fit their fields.
-use mathlib.Core.Path.{_≡_, refl, sym, _∙_}
-use mathlib.Core.Bool.{Bool, true, false, not, _&&_, _||_}
-use mathlib.Core.List.{List, [], _∷_}
-use Prim.Native.Nat.{ℕ, _+_, _*_, _^_, _≤_, _<_}
-use native.Mathlib.Omega.{arith}
-use lib.Dec.{leb, eqb}
-use lib.ListN.{length}
-use borrow.Author.Tests.{leb-true, le-leb, eqb-true, eqb-false, eq-eqb, ne-eqb, not-true}
+use Rattle.queue.specs.Prelude.{_≡_, refl, sym, _∙_, Bool, true, false, not, _||_, List, [], _∷_, ℕ, _+_, _*_, _^_, _≤_, _<_, arith, leb, eqb, length, leb-true, le-leb, eqb-true, eqb-false, eq-eqb, ne-eqb, not-true}
 use Rattle.queue.specs.Codec.{cases, All, beC, pairC, mapC, optC, vecC}
 use Rattle.queue.specs.layout.Choice.{thenC}
 use Rattle.queue.specs.Lists.{Pairwise, and-true, and-both, all-of, of-all, all-map}

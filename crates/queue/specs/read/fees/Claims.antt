@@ -1,21 +1,12 @@
 -- What the text claims of the answer, and what a reader takes for granted.
-use mathlib.Core.Path.{_≡_, refl, ap, sym, _∙_, subst}
-use mathlib.Core.Bool.{Bool, true, false, cond}
-use mathlib.Core.List.{List, [], _∷_, _++_}
-use Prim.Native.Nat.{ℕ, zero, suc, _+_, _-_, _*_, _^_, _≤_, _<_, min, max}
-use native.Mathlib.Omega.{arith}
-use native.Mathlib.Nat.{pow-suc, pow-le-pow-right}
-use lib.Dec.{ltb, leb}
-use lib.ListN.{length, take, drop, length-append, length-take}
-use borrow.Author.Tests.{ltb-true, ltb-false, lt-ltb, le-ltb, leb-true, leb-false, le-leb}
+use Rattle.queue.specs.Prelude.{_≡_, refl, ap, _∙_, subst, Bool, true, false, cond, List, [], _∷_, _++_, ℕ, suc, _+_, _-_, _^_, _≤_, _<_, min, arith, pow-suc, pow-le-pow-right, ltb, leb, length, take, drop, length-append, length-take, take-all, ltb-true, ltb-false, leb-true, le-leb}
 use Rattle.queue.specs.Codec.{cases, All, all-append}
 use Rattle.queue.specs.Lists.{Sub, done, keep, skip, sub-total}
 use Rattle.queue.specs.paper.Lists.{map, filter, total}
 use Rattle.queue.specs.paper.Fees.{largest, Node, amongNodes?, open?, Best, tree, taken, fees, best, bound, visited, outside, chosen, bestFees, Promises}
 use Rattle.queue.specs.read.fees.Laws.{sub-none, sub-fits, all-take, all-mono, all-map, take-more, length-map}
-use Rattle.queue.specs.read.fees.Walk.{SoFar, start, visit, pass, fitting, walk, told, searched}
-use lib.Seq.{take-all}
-use Rattle.queue.specs.read.fees.Same.{taken-root, bound-root, bound-take, all-among, same}
+use Rattle.queue.specs.read.fees.Walk.{SoFar, start, visit, pass, fitting, walk, searched}
+use Rattle.queue.specs.read.fees.Same.{taken-root, bound-take, all-among, same}
 
 module _ {A : Type 0} (size fee : A → ℕ) where
   -- ---- the set is of a node of the tree

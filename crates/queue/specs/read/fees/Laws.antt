@@ -1,16 +1,8 @@
 -- Laws of lists that the search for the best fees is proved with.
-use mathlib.Core.Path.{_≡_, refl, ap, sym, _∙_}
-use mathlib.Core.Bool.{Bool, true, false, cond, not, _&&_, _||_}
-use mathlib.Core.List.{List, [], _∷_, _++_}
-use Prim.Native.Nat.{ℕ, zero, suc, _+_, _-_, _≤_, _<_, max}
-use native.Mathlib.Omega.{arith}
-use lib.Dec.{ltb, leb, eqb}
-use lib.ListN.{length, take, drop, length-append}
-use borrow.Author.Tests.{leb-true, leb-false, le-leb}
+use Rattle.queue.specs.Prelude.{_≡_, refl, ap, Bool, List, [], _∷_, _++_, ℕ, zero, suc, _-_, _≤_, arith, leb, length, take, drop, le-leb}
 use Rattle.queue.specs.Codec.{cases, All}
 use Rattle.queue.specs.Lists.{Sub, done, keep, skip}
 use Rattle.queue.specs.paper.Lists.{map, filter, total}
-use Rattle.queue.specs.paper.Fees.{largest}
 
 module _ {A : Type 0} where
   pub sub-none : (l : List A) → Sub [] l

@@ -1,13 +1,9 @@
 -- The same search over another list of the same sizes and fees, as places of lists or rows of a table.
-use mathlib.Core.Path.{_≡_, refl, ap, sym, _∙_}
-use mathlib.Core.Bool.{Bool, true, false, cond}
-use mathlib.Core.List.{List, [], _∷_, _++_}
-use Prim.Native.Nat.{ℕ, zero, suc, _+_, _-_, _≤_, _<_, max}
-use lib.Dec.{ltb, leb}
+use Rattle.queue.specs.Prelude.{_≡_, refl, ap, sym, _∙_, List, [], _∷_, _++_, ℕ, _+_, _-_, _<_, ltb, leb}
 use Rattle.queue.specs.Codec.{cases, All}
-use Rattle.queue.specs.paper.Lists.{map, filter, total}
+use Rattle.queue.specs.paper.Lists.{map}
 use Rattle.queue.specs.paper.Fees.{Best, bestFees}
-use Rattle.queue.specs.read.fees.Walk.{SoFar, start, visit, pass, fitting, walk, told, searched}
+use Rattle.queue.specs.read.fees.Walk.{SoFar, start, visit, pass, fitting, walk, told}
 use Rattle.queue.specs.read.fees.Same.{same}
 
 module _ {A B : Type 0} (g : B → A) where

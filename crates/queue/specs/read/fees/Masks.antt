@@ -1,11 +1,6 @@
 -- The walk over places of lent lists, with a set as a number: place p counts 2^p in it.
-use mathlib.Core.Path.{_≡_, refl, ap, sym, _∙_}
-use mathlib.Core.Bool.{Bool, true, false, cond}
-use mathlib.Core.List.{List, [], _∷_, _++_}
-use Prim.Native.Nat.{ℕ, zero, suc, _+_, _-_, _/_, _%_, _^_, _≤_, _<_, max}
-use lib.Dec.{ltb, leb, eqb}
-use lib.ListN.{length, getD}
-use Rattle.queue.specs.paper.Lists.{filter, total}
+use Rattle.queue.specs.Prelude.{_≡_, cond, List, [], _∷_, ℕ, zero, suc, _+_, _-_, _/_, _%_, _^_, _≤_, _<_, max, ltb, leb, eqb, length, getD}
+use Rattle.queue.specs.paper.Lists.{total}
 use Rattle.queue.specs.read.fees.Walk.{fitting}
 use Rattle.queue.specs.paper.Fees.{Best}
 use Rattle.queue.specs.declared.read.fees.SoFar.{SoFar}

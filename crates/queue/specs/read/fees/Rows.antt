@@ -1,20 +1,11 @@
 -- What the call's answer says of the candidates themselves: places of lent columns stand for rows, and the set's number gives
 -- the set back.
-use mathlib.Core.Path.{_≡_, refl, ap, sym, _∙_, subst}
-use mathlib.Core.Bool.{Bool, true, false, cond}
-use mathlib.Core.List.{List, [], _∷_, _++_}
-use Prim.Native.Nat.{ℕ, zero, suc, _+_, _-_, _*_, _/_, _%_, _^_, _≤_, _<_}
-use native.Mathlib.Omega.{arith}
-use native.Mathlib.Nat.{pow-suc}
-use lib.Dec.{eqb}
-use lib.ListN.{length, getD, drop, drop-of-length-le}
-use lib.Seq.{drop-cons}
-use borrow.Author.Tests.{eq-eqb, ne-eqb}
+use Rattle.queue.specs.Prelude.{_≡_, refl, ap, sym, _∙_, List, [], _∷_, ℕ, zero, suc, _+_, _-_, _*_, _/_, _%_, _^_, _≤_, _<_, arith, pow-suc, length, getD, drop, drop-of-length-le, drop-cons}
 use Rattle.queue.specs.Codec.{All}
 use Rattle.queue.specs.Lists.{Sub, done, keep, skip, sub-all}
 use Rattle.queue.specs.paper.Lists.{map, total}
 use Rattle.queue.specs.read.fees.Laws.{length-map}
-use Rattle.queue.specs.paper.Fees.{Best, bestFees}
+use Rattle.queue.specs.paper.Fees.{bestFees}
 use Rattle.queue.specs.read.fees.Claims.{set-sub}
 use Rattle.queue.specs.read.fees.Maps.{mapBest, Like, best-map}
 use Rattle.queue.specs.read.fees.Masks.{places, item, mask, unmask}

@@ -1,17 +1,8 @@
 -- The walk gives the answer by the words: it visits the first nodes of the tree, and passes by those outside.
-use mathlib.Core.Path.{_≡_, refl, ap, sym, _∙_, fun-ext}
-use mathlib.Core.Bool.{Bool, true, false, cond, not, _&&_, _||_}
-use mathlib.Core.List.{List, [], _∷_, _++_, append-assoc, append-nil}
-use Prim.Native.Nat.{ℕ, zero, suc, _+_, _-_, _≤_, _<_, max}
-use native.Mathlib.Omega.{arith}
-use native.Mathlib.Nat.{zero-add, add-zero, sub-zero}
-use lib.Dec.{ltb, leb}
-use lib.ListN.{length, take, drop, length-take}
-use borrow.Author.Tests.{ltb-true, ltb-false, lt-ltb, le-ltb}
+use Rattle.queue.specs.Prelude.{_≡_, refl, ap, sym, _∙_, fun-ext, Bool, true, false, cond, not, _&&_, List, [], _∷_, _++_, append-assoc, append-nil, ℕ, zero, suc, _+_, _-_, _<_, max, arith, zero-add, add-zero, sub-zero, ltb, leb, length, take, drop, length-take, lt-ltb, le-ltb}
 use Rattle.queue.specs.Codec.{cases, All, all-append}
-use Rattle.queue.specs.bytes.ReaderLaws.{false-true}
-use Rattle.queue.specs.paper.Lists.{map, any?, filter, total}
-use Rattle.queue.specs.paper.Fees.{largest, Node, parent, sameNode?, amongNodes?, Best, tree, taken, undecided, fees, best, bound, visited, open?, outside, chosen, bestFees}
+use Rattle.queue.specs.paper.Lists.{map, filter, total}
+use Rattle.queue.specs.paper.Fees.{largest, Node, parent, sameNode?, amongNodes?, tree, taken, undecided, fees, best, bound, visited, outside, chosen, bestFees}
 use Rattle.queue.specs.read.fees.Laws.{all-left, all-right, all-mono, filter-append, take-append, drop-append, length-map, take-map, drop-map, filter-map, all-map, map-all}
 use Rattle.queue.specs.read.fees.Walk.{SoFar, start, visit, pass, fitting, walk, told, searched}
 

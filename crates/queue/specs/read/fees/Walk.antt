@@ -1,8 +1,5 @@
 -- The same search as a walk: a recursion over the undecided candidates that carries what it has found.
-use mathlib.Core.Bool.{Bool, true, false, cond}
-use mathlib.Core.List.{List, [], _∷_, _++_}
-use Prim.Native.Nat.{ℕ, suc, _+_, _-_, max}
-use lib.Dec.{ltb, leb}
+use Rattle.queue.specs.Prelude.{cond, List, [], _∷_, _++_, ℕ, suc, _+_, _-_, max, ltb, leb}
 use Rattle.queue.specs.paper.Lists.{filter, total}
 use Rattle.queue.specs.paper.Fees.{Best}
 

@@ -1,13 +1,5 @@
 -- What the request asks to be shown, and that its words leave the list no choice.
-use mathlib.Core.Path.{_≡_, refl, sym, ap, _∙_}
-use mathlib.Core.Bool.{Bool, true, false}
-use mathlib.Core.Option.{none, some}
-use mathlib.Core.List.{List, [], _∷_, _++_, append-assoc, append-nil}
-use mathlib.Core.Logic.{_⊎_, inl, inr, ⊎-elim}
-use Prim.Native.Nat.{ℕ, zero, suc, _≤_}
-use native.Mathlib.Omega.{arith}
-use lib.ListN.{length}
-use borrow.Author.Tests.{not-true, not-false}
+use Rattle.queue.specs.Prelude.{_≡_, refl, sym, ap, _∙_, Bool, true, false, none, some, _⊎_, inl, inr, ⊎-elim, List, [], _∷_, _++_, append-assoc, append-nil, ℕ, zero, suc, _≤_, arith, length, not-true, not-false}
 use Rattle.queue.specs.Lists.{Pairwise, both, sub-all, sub-pairwise}
 use Rattle.queue.specs.bytes.ListLaws.{filter-sub, filter-all, sort-all, sort-apart}
 use Rattle.queue.specs.bytes.ReaderLaws.{false-true}

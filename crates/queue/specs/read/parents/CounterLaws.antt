@@ -1,14 +1,5 @@
 -- The counters list the same as the definition.
-use mathlib.Core.Path.{_≡_, refl, sym, ap, _∙_}
-use mathlib.Core.Bool.{Bool, true, false, cond, not}
-use mathlib.Core.Option.{none, some}
-use mathlib.Core.List.{List, [], _∷_}
-use Prim.Native.Nat.{ℕ, zero, suc, _+_, _-_, _<_}
-use native.Mathlib.Omega.{arith}
-use lib.Dec.{ltb, eqb}
-use lib.ListN.{length, getD, set, replicate, length-set, length-replicate, getD-replicate}
-use lib.Seq.{getD-set-other, getD-set-same}
-use borrow.Author.Tests.{ltb-true, lt-ltb, eqb-true, eqb-false, eq-eqb, ne-eqb}
+use Rattle.queue.specs.Prelude.{_≡_, refl, sym, ap, _∙_, Bool, true, false, cond, not, none, some, List, [], _∷_, ℕ, zero, suc, _+_, _-_, _<_, arith, ltb, eqb, length, getD, set, replicate, length-set, length-replicate, getD-replicate, getD-set-other, getD-set-same, ltb-true, lt-ltb, eqb-true, eqb-false, eq-eqb, ne-eqb}
 use Rattle.queue.specs.Codec.{cases}
 use Rattle.queue.specs.paper.Lists.{any?, find}
 use Rattle.queue.specs.paper.Parents.{remove, free?, listed, parentsFirst}

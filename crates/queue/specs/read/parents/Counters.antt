@@ -2,12 +2,7 @@
 --
 -- One number a row: 0, it is listed; 1, it is unlisted and waits for nothing unlisted; more, it waits. `kids i` names the rows
 -- that wait for row i, in any order and as often as one likes: a counter goes up and down by the same list.
-use mathlib.Core.Path.{_≡_}
-use mathlib.Core.Bool.{Bool, cond}
-use mathlib.Core.List.{List, [], _∷_}
-use Prim.Native.Nat.{ℕ, zero, suc, _+_, _-_, _<_}
-use lib.Dec.{ltb, eqb}
-use lib.ListN.{length, getD, set, replicate}
+use Rattle.queue.specs.Prelude.{_≡_, Bool, cond, List, [], _∷_, ℕ, zero, suc, _+_, _-_, _<_, ltb, eqb, length, getD, set, replicate}
 use Rattle.queue.specs.paper.Lists.{any?}
 
 -- the first place that holds 1, or the length

@@ -1,12 +1,5 @@
 -- Laws of membership, of lists without repeats, and of the first that passes.
-use mathlib.Core.Path.{_≡_, refl}
-use mathlib.Core.Bool.{Bool, true, false}
-use mathlib.Core.Option.{Option, none, some}
-use mathlib.Core.List.{List, [], _∷_, _++_}
-use mathlib.Core.Logic.{_⊎_, inl, inr, ⊎-elim}
-use Prim.Native.Nat.{ℕ, suc, _≤_}
-use native.Mathlib.Omega.{arith}
-use lib.ListN.{length, length-append}
+use Rattle.queue.specs.Prelude.{_≡_, refl, Bool, true, false, Option, none, some, _⊎_, inl, inr, ⊎-elim, List, [], _∷_, _++_, ℕ, suc, _≤_, arith, length, length-append}
 use Rattle.queue.specs.Codec.{cases, cond-cases, All}
 use Rattle.queue.specs.Lists.{Pairwise}
 use Rattle.queue.specs.bytes.ReaderLaws.{false-true}
