@@ -1,5 +1,6 @@
 pub mod paper
 pub mod Prelude
+pub mod Basics
 pub mod Codec
 pub mod Lists
 pub mod Hex

@@ -1,5 +1,6 @@
 -- The laws of `splice` and of `Put`. None has a side condition but `splice-is`. Assumes nothing.
 use Rattle.queue.specs.Prelude.{_≡_, refl, sym, ap, _∙_, List, [], _∷_, _++_, ℕ, zero, suc, _+_, _-_, _≤_, _<_, _/_, _%_, arith, add-zero, suc-add, add-suc, zero-add, add-one, length, set, take, drop, getD, replicate, length-set, length-append, length-drop, replicate-append-replicate, set-comm, sets, sets-eq, take-suc, getD-drop, take-set-le, drop-set-lt, set-append-left}
+use Rattle.queue.specs.Basics.{set-behind}
 use Rattle.queue.specs.bytes.PutAs.{splice, beLast, Put}
 use Rattle.queue.specs.paper.Area.{over}
 
@@ -166,9 +167,6 @@ drop-splice d n at [] h = refl
 drop-splice d n at (b ∷ bs) h = drop-splice (set d at b) n (suc at) bs (omega arith) ∙ drop-set-lt n d at b (omega arith)
 
 -- ---- a part of d that was lent and comes back with bytes written over it
-set-after : (p q : List ℕ) (j b : ℕ) → set (p ++ q) (length p + j) b ≡ p ++ set q j b
-set-after [] q j b = rw zero-add
-set-after (x ∷ p) q j b = rw suc-add (ap (λ (l : List ℕ). x ∷ l) (set-after p q j b))
 
 -- bytes written over m, which stands between p and q
 between : (p m q : List ℕ) (j : ℕ) (bs : List ℕ) → j + length bs ≤ length m → p ++ (splice m j bs ++ q) ≡ splice (p ++ (m ++ q)) (length p + j) bs
@@ -177,7 +175,7 @@ between p m q j [] h = refl
 between p m q j (b ∷ bs) h =
     between p (set m j b) q (suc j) bs (omega (arith, length-set m j b))
     ∙ ap (λ (l : List ℕ). splice (p ++ l) (length p + suc j) bs) (sym (set-append-left m q j b (omega arith)))
-    ∙ ap (λ (l : List ℕ). splice l (length p + suc j) bs) (sym (set-after p (m ++ q) j b))
+    ∙ ap (λ (l : List ℕ). splice l (length p + suc j) bs) (sym (set-behind p (m ++ q) j b))
     ∙ ap (λ (k : ℕ). splice (set (p ++ (m ++ q)) (length p + j) b) k bs) (add-suc (length p) j)
 
 -- ---- bytes written over the front

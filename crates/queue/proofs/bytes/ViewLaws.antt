@@ -1,5 +1,6 @@
 -- The laws of the loops over a view: a number, a copy, an order. Assumes nothing.
 use Rattle.queue.specs.Prelude.{_≡_, refl, sym, ap, _∙_, Bool, true, false, _&&_, List, _∷_, ℕ, zero, suc, _+_, _-_, _*_, _≤_, _<_, _^_, arith, pow-suc, pow-le-pow-right, add-zero, add-one, unary-clauses, lit<, ltb, eqb, length, getD, take, drop, set, length-drop, drop-of-length-le, take-suc-set, take-suc, getD-drop, take-all, drop-cons, lt-ltb, le-ltb, ltb-true, ltb-false, eq-eqb, ne-eqb}
+use Rattle.queue.specs.Basics.{and-assoc}
 use Rattle.queue.specs.Codec.{cases}
 use Rattle.queue.specs.bytes.Parts.{part}
 use Rattle.queue.specs.paper.Ids.{cmpL, same?}
@@ -153,10 +154,6 @@ same-cons x y xs ys = cases (ltb x y)
     (λ u. let k = ltb-true y x u in rw (t, u, ne-eqb x y (λ e. omega arith)) refl)
     (λ u. let k = ltb-false y x u in rw (t, u, eq-eqb x y (omega arith)) refl))
 
-and-assoc : (a b c : Bool) → ((a && b) && c) ≡ (a && (b && c))
-and-assoc true b c = refl
-and-assoc false b c = refl
-
 and-one : (a : Bool) → (a && true) ≡ a
 and-one true = refl
 and-one false = refl
@@ -171,3 +168,7 @@ same-turn a b i ok h k e =
 pub same-over : (a b : List ℕ) (i : ℕ) (ok : Bool) → length a ≤ i → length b ≤ i → (ok && same? (drop i a) (drop i b)) ≡ ok
 unfolding cmpL
 same-over a b i ok h k = rw (drop-of-length-le a h, drop-of-length-le b k) (and-one ok)
+
+pub view-long : (s : List ℕ) → length (view false s 0) ≡ length s
+unfolding view
+view-long s = refl

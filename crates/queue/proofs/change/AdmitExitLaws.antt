@@ -1,5 +1,7 @@
 -- Admission, exit by exit. Assumes nothing.
 use Rattle.queue.specs.Prelude.{_≡_, refl, ap, sym, _∙_, Bool, true, false, cond, _&&_, _||_, Option, none, some, List, [], _∷_, ℕ, _+_, _/_, _%_, _^_, _≤_, _<_, arith, ltb, leb, eqb, length, lt-ltb, le-ltb, ltb-false, leb-true, eq-eqb, ne-eqb, eqb-true}
+use Rattle.queue.proofs.check.ReadsLaws.{nobody}
+use Rattle.queue.specs.Basics.{and-same}
 use Rattle.queue.specs.Codec.{cases, optC}
 use Rattle.queue.specs.bytes.PutAs.{Put, splice}
 use Rattle.queue.specs.layout.FrameCodec.{Head, idC, recC}
@@ -28,7 +30,7 @@ use Rattle.queue.specs.check.ScanAs.{unread?}
 use Rattle.queue.specs.change.ClashAs.{clashes}
 use Rattle.queue.specs.change.AdmitAs.{argsOf, newOf, TermsFit, HeldFit, withR, WithFrom, WithTo, roomOf, RoomIs, freeOf, FreeIs, entryNewLen, NumbersFit, askedOf, AskedIs, AskedIn, LentIds, ReadIs, CrossIs, TipFor, KnownAt, OldTold, NewTold, FoundTold, ListsAre, FlagsRight}
 use Rattle.queue.specs.paper.Records.{Bytes, Id, Rec, Queue}
-use Rattle.queue.specs.paper.Lists.{find, isEmpty?, any?, all?}
+use Rattle.queue.specs.paper.Lists.{find, isEmpty?, all?}
 use Rattle.queue.specs.paper.Sound as sound
 use Rattle.queue.specs.paper.Sound.{need, pending?, mined?, labelLen, used?, clash?, read?, crossed?, callerRight?}
 use Rattle.queue.specs.paper.Area.{areaBytes, over}
@@ -117,27 +119,12 @@ met-is : {s : Bytes} {a : Area} (w : AreaIn s a) {ids : Bytes} (l : LentIds ids)
 met-is {s} {a} w {ids} l read c = c ∙ ap (λ z. clashes read z (listAt (formC false recC) (a .open .head .count) s (a .open .start))) (ids-are ids (length ids / 32) (l .small) refl (l .whole)) ∙ ap (clashes read (items 32 ids)) (w .read .store .list)
 
 -- 20: nobody reads, no id is read, or both are looked up
-none-read : (i : Id) (l : List Rec) → all? unread? l ≡ true → read? i l ≡ false
-unfolding read?
-none-read i [] e = refl
-none-read i (r ∷ l) e =
-    let u = and-true (unread? r) (all? unread? l) e in
-    let z : sound.reads (r .body) ≡ [] = none-of (sound.reads (r .body)) (eqb-true (length (sound.reads (r .body))) 0 (u .0)) in
-    rw z (none-read i l (u .1))
-  where
-    none-of : (l : List Id) → length l ≡ 0 → l ≡ []
-    none-of [] e = refl
-    none-of (i ∷ l) e = absurd (let y : ⊥ = omega arith in y)
-
-nobody-reads : (ids : List Id) (l : List Rec) → all? unread? l ≡ true → any? (λ i. read? i l) ids ≡ false
-nobody-reads [] l e = refl
-nobody-reads (i ∷ ids) l e = rw (none-read i l e) (nobody-reads ids l e)
 
 module _ {s : Bytes} {a : Area} (w : AreaIn s a) (ins : Bytes) where
   pub none-reads : a .open .sums .unread ≡ true → ReadIs s ins false
   none-reads t q e =
       let u : all? unread? (w .q .recs) ≡ true = sym (w .read .store .sums .unread ∙ ap (all? unread?) (w .read .store .list)) ∙ t in
-      rw (← (one-queue s (w .is) e)) (sym (nobody-reads (items 32 ins) (w .q .recs) u))
+      rw (← (one-queue s (w .is) e)) (sym (nobody (items 32 ins) (w .q .recs) u))
 
   pub reads-by : (i : LentIds ins) {r : Bool} → r ≡ clashes true (idsAt ins (length ins / 32)) (listAt (formC false recC) (a .open .head .count) s (a .open .start)) → ReadIs s ins r
   unfolding read? clashes
@@ -385,19 +372,16 @@ pub small-of : (s : Bytes) → readlaws.SmallAt (view false s 0) → Small s
 unfolding view
 small-of s h = small-all s h
 
-and-of : {a a′ b b′ : Bool} → a ≡ a′ → b ≡ b′ → (a && b) ≡ (a′ && b′)
-and-of e f = cc
-
 pub lists-are : (id ins outs reads : Bytes) (caller : ℕ) {a b c d : ℕ} {r t u v : Bool} → r ≡ (t && u) → t ≡ (eqb a 32 && leb caller 15) → u ≡ (eqb (b % 32) 0 && v) → v ≡ (eqb (c % 32) 0 && eqb (d % 32) 0)
     → a ≡ length (view false id 0) → readlaws.SmallAt (view false id 0) → b ≡ length (view false ins 0) → readlaws.SmallAt (view false ins 0) → c ≡ length (view false outs 0) → readlaws.SmallAt (view false outs 0)
     → d ≡ length (view false reads 0) → readlaws.SmallAt (view false reads 0) → ListsAre id caller ins outs reads r
 lists-are id ins outs reads caller e g f h la sa lb sb lc sc ld sd =
-    (e ∙ and-of (g ∙ and-of (long-is id la) refl) (f ∙ and-of (mod-is ins lb) (h ∙ and-of (mod-is outs lc) (mod-is reads ld))), (small-of id sa, small-of ins sb, small-of outs sc, small-of reads sd))
+    (e ∙ and-same (g ∙ and-same (long-is id la) refl) (f ∙ and-same (mod-is ins lb) (h ∙ and-same (mod-is outs lc) (mod-is reads ld))), (small-of id sa, small-of ins sb, small-of outs sc, small-of reads sd))
 
 pub flags-are : (x : Asked) (bytes label tip : Bytes) {c : ℕ} {r d u v : Bool} → r ≡ (d && u) → d ≡ (leb (x .timeflag) 1 && leb (x .heightflag) 1) → u ≡ (leb (x .labelflag) 1 && v) → v ≡ (leb (x .tipflag) 1 && (eqb (x .tipflag) 0 || eqb c 32))
     → readlaws.SmallAt (view false bytes 0) → readlaws.SmallAt (view false label 0) → c ≡ length (view false tip 0) → readlaws.SmallAt (view false tip 0) → FlagsRight x bytes label tip r
 flags-are x bytes label tip e f g h sb sl lt st =
-    (e ∙ and-of f (g ∙ and-of {a = leb (x .labelflag) 1} refl (h ∙ and-of {a = leb (x .tipflag) 1} refl (ap (λ (k : Bool). eqb (x .tipflag) 0 || k) (long-is tip lt)))), (small-of bytes sb, small-of label sl, small-of tip st))
+    (e ∙ and-same f (g ∙ and-same {a = leb (x .labelflag) 1} refl (h ∙ and-same {a = leb (x .tipflag) 1} refl (ap (λ (k : Bool). eqb (x .tipflag) 0 || k) (long-is tip lt)))), (small-of bytes sb, small-of label sl, small-of tip st))
 
 pub lent-of : {x : Asked} {id ins outs reads bytes label tip : Bytes} {l f : Bool} → NumbersFit x → ListsAre id (x .caller) ins outs reads l → FlagsRight x bytes label tip f → AdmitLent (argsOf x id ins outs reads bytes label tip)
 lent-of n l f = record {
@@ -422,7 +406,7 @@ module _ (K : ℕ) (x : Asked) (id ins outs reads bytes label tip : Bytes) (N : 
   Given = argsOf x id ins outs reads bytes label tip
 
   shape-is : admitShape? Given ≡ r
-  shape-is = sym (e ∙ and-of (L .0) (F .0))
+  shape-is = sym (e ∙ and-same (L .0) (F .0))
 
   pub asked-5 : r ≡ false → AskedIs K Given 5
   unfolding askedOf

@@ -1,5 +1,7 @@
 -- Admission: a new record's bytes, room for it, and the area with it. Assumes nothing.
 use Rattle.queue.specs.Prelude.{_≡_, refl, ap, sym, _∙_, Bool, true, false, cond, _&&_, some, List, [], _∷_, _++_, append-assoc, ℕ, suc, _+_, _-_, _/_, _%_, _^_, _≤_, _<_, arith, div-add-mod', leb, eqb, length, drop, take, replicate, length-append, getD, take-all, lt-ltb, le-ltb, le-leb, lt-leb, eq-eqb, ne-eqb}
+use Rattle.queue.proofs.read.ReservedStandLaws.{pieces-many}
+use Rattle.queue.specs.Basics.{join-same, join-eight, length-eight}
 use Rattle.queue.specs.layout.FrameAs.{termsAt, factsOf, limitsIn, head-P, head-B}
 use Rattle.queue.specs.Codec as codec
 use Rattle.queue.specs.Codec.{cases, encs, be-length}
@@ -36,7 +38,7 @@ use Rattle.queue.proofs.read.FindLaws.{among-many}
 use Rattle.queue.proofs.layout.HeadLaws.{area-done}
 use Rattle.queue.proofs.check.AreaLaws.{holders-sum, bytes-sum, mined-sum, minedBytes-sum}
 use Rattle.queue.proofs.change.WriteLaws.{fit, one-queue, same-queue, the-limits, shares-sixteen, queue-long}
-use Rattle.queue.proofs.change.ReopenLaws.{pieces-join, pieces-many}
+use Rattle.queue.proofs.change.ReopenLaws.{pieces-join}
 
 all-of : (s : Bytes) → take (length s) (drop 0 s) ≡ s
 all-of s = take-all (length s) s (omega arith)
@@ -56,10 +58,7 @@ opt-short flag w n at k e h = rw (ne-eqb flag 1 e) at h
 
 pub label-put : {d d₁ d₂ d₃ : Bytes} {at a b r : ℕ} (flag : ℕ) (l : Bytes) → flag ≡ 1 → length l ≤ 200 → Put d at (1 ∷ []) 1 a d₁ → Put d₁ a (beLast 1 (length l)) 1 b d₂ → Put d₂ b (take (length l) (drop 0 l)) (length l) r d₃
     → Put d at (flagged (λ y. codec.be 1 (length y) ++ y) (given flag l)) (labelSize flag l) r d₃
-label-put flag l e h p q t = rw (eq-eqb flag 1 e) (recast (then (then p q) t) (ap (λ (y : Bytes). 1 ∷ y) (two (be-same 1 (length l) (omega arith)) (all-of l))) (omega arith) refl)
-  where
-    two : {x x′ y y′ : Bytes} → x ≡ x′ → y ≡ y′ → x ++ y ≡ x′ ++ y′
-    two e f = cc
+label-put flag l e h p q t = rw (eq-eqb flag 1 e) (recast (then (then p q) t) (ap (λ (y : Bytes). 1 ∷ y) (join-same (be-same 1 (length l) (omega arith)) (all-of l))) (omega arith) refl)
 
 pub label-none : {d d₁ : Bytes} {at r : ℕ} (flag : ℕ) (l : Bytes) → (flag ≡ 1 → ⊥) → Put d at (0 ∷ []) 1 r d₁ → Put d at (flagged (λ y. codec.be 1 (length y) ++ y) (given flag l)) (labelSize flag l) r d₁
 label-none flag l e p = rw (ne-eqb flag 1 e) p
@@ -67,10 +66,7 @@ label-none flag l e p = rw (ne-eqb flag 1 e) p
 -- ---- terms
 eight : {a a′ d d′ f f′ g g′ h h′ : Bytes} (b c e : Bytes) → a ≡ a′ → d ≡ d′ → f ≡ f′ → g ≡ g′ → h ≡ h′
     → ((((((a ++ b) ++ c) ++ d) ++ e) ++ f) ++ g) ++ h ≡ a′ ++ (b ++ (c ++ (d′ ++ (e ++ (f′ ++ (g′ ++ h′))))))
-eight {a} {a′} {d} {d′} {f} {f′} {g} {g′} {h} {h′} b c e p q r s t = cc (rejoin a′ b c d′ e f′ g′ h′)
-  where
-    rejoin : (a b c d e f g h : Bytes) → ((((((a ++ b) ++ c) ++ d) ++ e) ++ f) ++ g) ++ h ≡ a ++ (b ++ (c ++ (d ++ (e ++ (f ++ (g ++ h))))))
-    rejoin a b c d e f g h = simp append-assoc
+eight {a} {a′} {d} {d′} {f} {f′} {g} {g′} {h} {h′} b c e p q r s t = cc (join-eight a′ b c d′ e f′ g′ h′)
 
 pub terms-put : {d d₁ d₂ d₃ d₄ d₅ d₆ d₇ d₈ : Bytes} {at p1 p2 p3 p4 p5 p6 p7 r : ℕ} (x : Asked) (label : Bytes) (n : ℕ) → TermsFit x label n
     → Put d at (beLast 8 (x .now .0)) 8 p1 d₁ → Put d₁ p1 (flagged (codec.be 8) (given (x .timeflag) (x .time .0))) (optLen (x .timeflag) 8) p2 d₂
@@ -97,10 +93,7 @@ items-many s = pieces-many (length s / 32) s
 -- a list of ids
 pub ids-put : {x x₁ x₂ : Bytes} {at p r : ℕ} (ids : Bytes) → length ids % 32 ≡ 0 → length ids / 32 < 65536
     → Put x at (beLast 2 (length ids / 32)) 2 p x₁ → Put x₁ p (take (length ids) (drop 0 ids)) (length ids) r x₂ → Put x at (idListBytes (items 32 ids)) (2 + length ids) r x₂
-ids-put ids h k a b = recast (then a b) (two (be-same 2 (length ids / 32) k ∙ ap (codec.be 2) (sym (items-many ids))) (all-of ids ∙ sym (items-join ids h))) (omega arith) refl
-  where
-    two : {b b′ c c′ : Bytes} → b ≡ b′ → c ≡ c′ → b ++ c ≡ b′ ++ c′
-    two e f = cc
+ids-put ids h k a b = recast (then a b) (join-same (be-same 2 (length ids / 32) k ∙ ap (codec.be 2) (sym (items-many ids))) (all-of ids ∙ sym (items-join ids h))) (omega arith) refl
 
 ids-size : (ids : Bytes) → length ids % 32 ≡ 0 → length (idListBytes (items 32 ids)) ≡ 2 + length ids
 ids-size ids h = let a = be-length 2 (length (items 32 ids)) in let b = ap length (items-join ids h) in length-append (codec.be 2 (length (items 32 ids))) (concat (items 32 ids)) ∙ omega arith
@@ -167,10 +160,7 @@ unfolding termsUnder
 terms-size x label n =
     let a = be-length 8 (x .now .0) in let b = opt-size (x .timeflag) 8 (x .time .0) in let c = opt-size (x .heightflag) 4 (x .height .0) in
     let d = be-length 8 (x .priority) in let e = label-size (x .labelflag) label in let f = be-length 8 (x .fee) in let g = be-length 4 n in let h = be-length 8 (x .cost) in
-    sizes (codec.be 8 (x .now .0)) (flagged (codec.be 8) (given (x .timeflag) (x .time .0))) (flagged (codec.be 4) (given (x .heightflag) (x .height .0))) (codec.be 8 (x .priority)) (flagged (λ y. codec.be 1 (length y) ++ y) (given (x .labelflag) label)) (codec.be 8 (x .fee)) (codec.be 4 n) (codec.be 8 (x .cost)) ∙ omega arith
-  where
-    sizes : (a b c d e f g h : Bytes) → length (a ++ (b ++ (c ++ (d ++ (e ++ (f ++ (g ++ h))))))) ≡ length a + (length b + (length c + (length d + (length e + (length f + (length g + length h))))))
-    sizes a b c d e f g h = simp length-append
+    length-eight (codec.be 8 (x .now .0)) (flagged (codec.be 8) (given (x .timeflag) (x .time .0))) (flagged (codec.be 4) (given (x .heightflag) (x .height .0))) (codec.be 8 (x .priority)) (flagged (λ y. codec.be 1 (length y) ++ y) (given (x .labelflag) label)) (codec.be 8 (x .fee)) (codec.be 4 n) (codec.be 8 (x .cost)) ∙ omega arith
 
 held-size : (ins outs reads bytes : Bytes) → HeldFit ins outs reads bytes → length (flagged heldBytes (some (heldLent ins outs reads bytes))) ≡ heldLen ins outs reads bytes
 unfolding heldUnder

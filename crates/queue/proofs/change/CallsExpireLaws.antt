@@ -1,5 +1,6 @@
 -- Expiry, exit by exit, and the ids of those finished. Assumes nothing.
 use Rattle.queue.specs.Prelude.{_≡_, refl, ap, sym, _∙_, Bool, true, false, none, List, [], _∷_, _++_, append-nil, ℕ, zero, suc, _+_, _-_, _*_, _^_, _≤_, _<_, arith, ltb, eqb, length, length-append, lt-ltb, le-ltb, eqb-true, eqb-false}
+use Rattle.queue.specs.Basics.{join-same}
 use Rattle.queue.specs.Codec as codec
 use Rattle.queue.specs.Codec.{cases, All, be-length}
 use Rattle.queue.specs.Lists.{all-map, and-true}
@@ -207,9 +208,6 @@ module _ {s : Bytes} {a : Area} (w : AreaIn s a) where
           let u = then p1 p2 in
           let l = ids-long (due? (time .0) (height .0)) (w .q .recs) ids-32 .0 in
           let small : m < 256 ^ 4 = omega (arith, w .read .store .head .countSmall) in
-          let b : beLast 4 m ++ concat (pickedIds (Due time height) id (listAt (formC false recC) (a .open .head .count) s (a .open .start))) ≡ idsBytes ids = two (be-same 4 m small ∙ ap (codec.be 4) (hits-is ∙ sym l)) listed in
+          let b : beLast 4 m ++ concat (pickedIds (Due time height) id (listAt (formC false recC) (a .open .head .count) s (a .open .start))) ≡ idsBytes ids = join-same (be-same 4 m small ∙ ap (codec.be 4) (hits-is ∙ sym l)) listed in
           let o : out″ ≡ over (idsBytes ids) out = u .is ∙ ap (splice out 0) b ∙ sym (over-splice out (idsBytes ids) (omega (arith, ids-size))) in
           rw (← (one-queue s (w .is) e), expires pos, le-ltb (length out) (length (idsBytes ids)) (omega (arith, ids-size)), o, t (w .q) (w .is))
-        where
-          two : {x x′ y y′ : Bytes} → x ≡ x′ → y ≡ y′ → x ++ y ≡ x′ ++ y′
-          two e f = cc

@@ -260,9 +260,6 @@ module _ (cur : Bytes) {q : Queue} (e : readArea cur ≡ some q) (next : Bytes) 
             step y = rw (e, ← f, t, g, y, ne-eqb out 0 z, same)
 
 -- ---- small facts for the calls' proofs
-pub view-long : (s : Bytes) → length (view false s 0) ≡ length s
-unfolding view
-view-long s = refl
 
 module _ {cur : Bytes} {a : Area} {q : Queue} (e : readArea cur ≡ some q) (w : AreaAs cur a q) (h : Height) where
   pub told-none : (next : Bytes) {next′ : Bytes} → ((q : Queue) → readArea cur ≡ some q → next′ ≡ over (areaBytes (moved (a .persisted .0) (h .0) none q)) next) → next′ ≡ over (areaBytes (moved (q .persisted) (h .0) none q)) next

@@ -1,5 +1,6 @@
 -- The laws of lent ids in a table: their rows, bisection by id, the loops, and that it is the clash. Assumes nothing.
-use Rattle.queue.specs.Prelude.{_≡_, refl, ap, sym, _∙_, Bool, true, false, _||_, List, [], _∷_, _++_, ℕ, _+_, _-_, _/_, _≤_, _<_, arith, zero-add, add-one, ltb, eqb, length, take, getD, set, take-suc-set, eqb-false, ltb-true, ltb-false, lt-ltb}
+use Rattle.queue.specs.Prelude.{_≡_, refl, ap, sym, _∙_, Bool, true, false, _||_, List, [], _∷_, _++_, ℕ, _+_, _-_, _/_, _≤_, _<_, arith, add-one, ltb, eqb, length, take, getD, set, take-suc-set, eqb-false, ltb-true, ltb-false}
+use Rattle.queue.specs.Basics.{any-count, any-append, or-more}
 use Rattle.queue.specs.Codec.{cases}
 use Rattle.queue.specs.bytes.Parts.{part}
 use Rattle.queue.specs.bytes.OrderLaws.{cmp-self, same-is, same-sym}
@@ -12,7 +13,7 @@ use Rattle.queue.specs.change.ClashAs.{rowHas, RowsOf, CutId, anyOf, lis
 use Rattle.queue.specs.change.TouchAs.{SeenHere}
 use Rattle.queue.specs.paper.Records.{Bytes, Id, Rec}
 use Rattle.queue.specs.paper.Ids.{cmpL, same?}
-use Rattle.queue.specs.paper.Lists.{one, any?, count}
+use Rattle.queue.specs.paper.Lists.{one, any?}
 use Rattle.queue.specs.paper.Sound.{among?}
 use Rattle.queue.specs.declared.layout.frame.Seen.{Seen}
 use Rattle.queue.proofs.layout.TurnLaws.{Scan, here, on, stop, end, ReadsRec, seen, see}
@@ -86,18 +87,10 @@ module _ (t : Bytes) (v : List ℕ) (z : Id) where
         (λ s. s)))))
 
 -- ---- the table filled
-or-more : (a b c : Bool) → ((a || (b || false)) || c) ≡ (a || (b || c))
-or-more true b c = refl
-or-more false true c = refl
-or-more false false c = refl
 
 or-none : (a : Bool) → (a || false) ≡ a
 or-none true = refl
 or-none false = refl
-
-any-append : (p : ℕ → Bool) (a b : List ℕ) → any? p (a ++ b) ≡ (any? p a || any? p b)
-any-append p [] b = refl
-any-append p (x ∷ a) b = cases (p x) (λ t. rw t) (λ t. rw t (any-append p a b))
 
 unfoldable pub rowsF : Bytes → Id → List ℕ → List Id → Bool
 rowsF t z v l = any? (rowHas t z) v || among? z l
@@ -117,12 +110,6 @@ module _ (t : Bytes) {n i left : ℕ} {w : List ℕ} (x : (z : Id) → Scan idC 
 
 pub rows-take : (v : List ℕ) (k x : ℕ) → k < length v → take (k + 1) (set v k x) ≡ take k v ++ (x ∷ [])
 rows-take v k x h = rw add-one (take-suc-set v k x h)
-
-any-count : (p : ℕ → Bool) (v : List ℕ) → any? p v ≡ ltb 0 (count p v)
-any-count p [] = refl
-any-count p (x ∷ v) = cases (p x)
-    (λ t. rw t (sym (lt-ltb 0 (1 + count p v) (omega arith))))
-    (λ t. rw (t, zero-add) (any-count p v))
 
 pub rows-moved : {t : Bytes} {k : ℕ} {v w : List ℕ} → Shuffled v w → RowsOf t k v → RowsOf t k w
 rows-moved {t} {k} {v} {w} s r = record {

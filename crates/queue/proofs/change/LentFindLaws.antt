@@ -5,7 +5,6 @@ use Rattle.queue.specs.Lists.{and-true}
 use Rattle.queue.specs.bytes.OrderLaws.{cmp-flip, below-trans}
 use Rattle.queue.specs.layout.FrameCodec.{idC}
 use Rattle.queue.specs.bytes.Parts.{part}
-use Rattle.queue.specs.bytes.ViewAs.{view}
 use Rattle.queue.specs.theorems.Plain.{ids-plain}
 use Rattle.queue.specs.bytes.ReaderAs.{whole, listAt, isGot, valOf}
 use Rattle.queue.specs.bytes.ReaderLaws.{false-true}
@@ -47,10 +46,6 @@ ids-many v n w = go (decs idC n v) refl w
     go : (o : Got (List Id)) → decs idC n v ≡ o → isGot o ≡ true → length (valOf o) ≡ n
     go fail p w = false-true w
     go (got l r) p w = vec-bwd idC n v l r p .1 .1
-
-pub view-long : (s : Bytes) → length (view false s 0) ≡ length s
-unfolding view
-view-long s = refl
 
 -- ---- rising ids by place
 first-below : (i : Id) (l : List Id) (j : ℕ) → rise? (i ∷ l) ≡ true → j < length l → below? i (getD l j []) ≡ true

@@ -1,5 +1,6 @@
 -- What is lent to a reconciliation. Assumes nothing.
 use Rattle.queue.specs.Prelude.{_≡_, refl, ap, sym, _∙_, Bool, true, false, _&&_, List, _∷_, ℕ, zero, suc, _+_, _-_, _*_, _/_, _%_, _≤_, _<_, arith, div-add-mod', leb, eqb, length, take, drop, take-take, drop-drop, eq-eqb, ne-eqb, eqb-true}
+use Rattle.queue.specs.Basics.{and-same}
 use Rattle.queue.specs.bytes.Parts.{part}
 use Rattle.queue.specs.Lists.{and-true}
 use Rattle.queue.specs.bytes.ViewAs.{view}
@@ -62,8 +63,6 @@ pub rise-end : {t : Bytes} {k i left : ℕ} → Rising t k i left → left ≤ 1
 rise-end {t} {k} {i} {left} x h = few-rise (drop i t) left h ∙ x .same
 
 -- ---- as they were measured
-and-of : {a a′ b b′ : Bool} → a ≡ a′ → b ≡ b′ → (a && b) ≡ (a′ && b′)
-and-of e f = cc
 
 whole-no : (k : ℕ) (s : Bytes) {n : ℕ} (b : Bool) → n ≡ length (view false s 0) → (n % k ≡ 0 → ⊥) → false ≡ (whole? k s && b)
 unfolding view
@@ -103,9 +102,9 @@ module _ (ids : Bytes) {n : ℕ} (l : n ≡ length (view false ids 0)) where
 pub asked : (tip : Bytes) (flag : ℕ) (t ids : Bytes) {n : ℕ} {r u a b c : Bool} → r ≡ (a && u) → u ≡ (b && c) → a ≡ (eqb n 32 && leb flag 1) → n ≡ length (view false tip 0) → readlaws.SmallAt (view false tip 0) → EntriesAre t b → IdsAre ids c → ReconcileAsked tip flag t ids r
 unfolding items
 asked tip flag t ids {n} {r} {u} {a} {b} {c} e f g l h i j =
-    let k : a ≡ (id? tip && flag? flag) = g ∙ and-of (long-is tip l) refl in
+    let k : a ≡ (id? tip && flag? flag) = g ∙ and-same (long-is tip l) refl in
     record {
-      is = e ∙ and-of k (f ∙ and-of (i .is) (j .is));
+      is = e ∙ and-same k (f ∙ and-same (i .is) (j .is));
       smallTip = small-of tip h;
       smallApplied = i .small;
       good = λ y.

@@ -1,5 +1,6 @@
 -- Flags as the bits of words. Assumes nothing.
 use Rattle.queue.specs.Prelude.{_≡_, refl, ap, sym, _∙_, Bool, true, false, cond, _&&_, List, [], _∷_, _++_, ℕ, zero, suc, _+_, _*_, _/_, _%_, _^_, _≤_, _<_, arith, pow-succ', mod-lt, div-add-mod', div-one, div-div-eq-div-mul, div-lt-iff-lt-mul, max-zero, mul-comm, ltb, leb, eqb, bitOr, or-zero-r, pow-pos, length, getD, set, length-append, List·getD-append, getD-append-add, ltb-true, leb-true}
+use Rattle.queue.specs.Basics.{cons-same, set-behind}
 use Rattle.queue.specs.Lists.{and-true}
 use Rattle.queue.specs.change.OwnAs.{set?, wordBits, bitsIn, flagsOf, FlagsAre}
 use Rattle.queue.specs.read.LinksAs.{bitL, Zero}
@@ -12,10 +13,6 @@ put-front : (a b : List ℕ) (k x : ℕ) → k < length a → set (a ++ b) k x �
 put-front [] b k x h = absurd (let z : ⊥ = omega arith in z)
 put-front (y ∷ a) b zero x h = refl
 put-front (y ∷ a) b (suc k) x h = ap (λ l. y ∷ l) (put-front a b k x (omega arith))
-
-put-behind : (a b : List ℕ) (k x : ℕ) → set (a ++ b) (length a + k) x ≡ a ++ set b k x
-put-behind [] b k x = let e : 0 + k ≡ k = omega arith in rw e
-put-behind (y ∷ a) b k x = let e : suc (length a) + k ≡ suc (length a + k) = omega arith in rw e (ap (λ l. y ∷ l) (put-behind a b k x))
 
 -- ---- a word
 word-long : (n x : ℕ) → length (wordBits n x) ≡ n
@@ -59,7 +56,7 @@ set-at : (f : List ℕ) (i k : ℕ) → k < 64 → i < length f → bitsIn (set 
 unfolding bitsIn
 set-at [] i k h j = absurd (let z : ⊥ = omega arith in z)
 set-at (x ∷ f) zero k h j = let e : 0 * 64 + k ≡ k = omega arith in rw e (ap (λ (l : List ℕ). l ++ bitsIn f) (word-set 64 x k h) ∙ sym (put-front (wordBits 64 x) (bitsIn f) k 1 (rw (word-long 64 x) h)))
-set-at (x ∷ f) (suc i) k h j = ap (λ (l : List ℕ). wordBits 64 x ++ l) (set-at f i k h (omega arith)) ∙ sym (ap (λ (y : ℕ). set (wordBits 64 x ++ bitsIn f) y 1) (next-word i k x) ∙ put-behind (wordBits 64 x) (bitsIn f) (i * 64 + k) 1)
+set-at (x ∷ f) (suc i) k h j = ap (λ (l : List ℕ). wordBits 64 x ++ l) (set-at f i k h (omega arith)) ∙ sym (ap (λ (y : ℕ). set (wordBits 64 x ++ bitsIn f) y 1) (next-word i k x) ∙ set-behind (wordBits 64 x) (bitsIn f) (i * 64 + k) 1)
 
 pub word-of : (g n : ℕ) → g < 64 * n → g / 64 < n
 word-of g n h = div-lt-iff-lt-mul (let z : 0 < 64 = omega arith in z) .1 (let e = mul-comm 64 n in omega arith)
@@ -95,10 +92,7 @@ none-set : (l : List Id) (b : List ℕ) → length l ≤ length b → ((i : ℕ)
 unfolding flagsOf
 none-set [] b h p = record { more = b; is = refl }
 none-set (z ∷ l) [] h p = absurd (let y : ⊥ = omega arith in y)
-none-set (z ∷ l) (x ∷ b) h p = let i = none-set l b (omega arith) (λ j. p (suc j)) in record { more = i .more; is = two (p 0) (i .is) }
-  where
-    two : {a a′ : ℕ} {c c′ : List ℕ} → a ≡ a′ → c ≡ c′ → (a ∷ c) ≡ (a′ ∷ c′)
-    two e f = cc
+none-set (z ∷ l) (x ∷ b) h p = let i = none-set l b (omega arith) (λ j. p (suc j)) in record { more = i .more; is = cons-same (p 0) (i .is) }
 
 pub cleared-flags : (l : List Id) (f : List ℕ) → length l ≤ 64 * length f → Zero f → FlagsAre (λ z. false) l (bitsIn f)
 cleared-flags l f h z = none-set l (bitsIn f) (rw (bits-long f) h) (bits-zero f (z .all))

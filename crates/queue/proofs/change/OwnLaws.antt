@@ -1,5 +1,6 @@
 -- Which inputs are owned: the flags, the rows, and the loops over them. Assumes nothing.
-use Rattle.queue.specs.Prelude.{_≡_, refl, ap, sym, _∙_, Bool, true, false, cond, _&&_, _||_, List, [], _∷_, _++_, append-assoc, ℕ, zero, suc, _+_, _-_, _≤_, _<_, arith, add-one, ltb, eqb, length, take, drop, getD, set, length-append, length-drop, drop-cons, drop-drop, take-suc-set, take-all, take-append-seam, drop-append-seam, eq-eqb, ne-eqb, lt-ltb, eqb-true}
+use Rattle.queue.specs.Prelude.{_≡_, refl, ap, sym, _∙_, Bool, true, false, cond, _&&_, _||_, List, [], _∷_, _++_, append-assoc, ℕ, zero, suc, _+_, _-_, _≤_, _<_, arith, add-one, ltb, eqb, length, take, drop, getD, set, length-append, length-drop, drop-cons, drop-drop, take-suc-set, take-all, take-append-seam, drop-append-seam, eq-eqb, ne-eqb, eqb-true}
+use Rattle.queue.specs.Basics.{and-same, cons-same, or-assoc, or-more, any-count, any-append, among-append}
 use Rattle.queue.specs.Codec.{cases}
 use Rattle.queue.specs.Lists.{and-true}
 use Rattle.queue.specs.layout.FrameCodec.{recC, idC}
@@ -15,7 +16,7 @@ use Rattle.queue.specs.check.SuspectsAs.{idR, noR, later, Shuffled}
 use Rattle.queue.specs.change.TouchAs.{ownIds}
 use Rattle.queue.specs.change.OwnAs.{wantedOf, wantedAt, set?, bitsIn, Fits, markAll, missAll, flagsOf, FlagsAre, FlagsFrom, Noted, Covering, Settled, Taken, QuickFor}
 use Rattle.queue.specs.paper.Records.{Bytes, Id, Rec}
-use Rattle.queue.specs.paper.Lists.{one, any?, all?, count}
+use Rattle.queue.specs.paper.Lists.{one, any?, all?}
 use Rattle.queue.specs.paper.Ids.{same?}
 use Rattle.queue.specs.paper.Sound.{inputs, outputs, reads, wanted, among?}
 use Rattle.queue.specs.paper.Changing.{queuedOutputs}
@@ -24,7 +25,7 @@ use Rattle.queue.proofs.layout.TurnLaws.{Scan, start, here, on, end, Se
 use Rattle.queue.proofs.check.ScanLaws.{nothingF}
 use Rattle.queue.proofs.check.FilterLaws.{mark-size, mark-here, mark-old}
 use Rattle.queue.proofs.check.SuspectsLaws.{id-bytes}
-use Rattle.queue.proofs.change.TouchLaws.{among-append, outF, out-turn, wanted-is}
+use Rattle.queue.proofs.change.TouchLaws.{outF, out-turn, wanted-is}
 
 -- ---- flags by place
 set-there : (pre : List ℕ) (b x : ℕ) (r : List ℕ) → set (pre ++ (b ∷ r)) (length pre) x ≡ pre ++ (x ∷ r)
@@ -70,24 +71,12 @@ flags-same c d l f h g = record { more = g .more; is = g .is ∙ ap (λ k. k ++ 
   where
     go : (l : List Id) → ((z : Id) → among? z l ≡ true → c z ≡ d z) → flagsOf c l ≡ flagsOf d l
     go [] h = refl
-    go (z ∷ l) h = two (ap one (h z (rw (same-self z)))) (go l (λ y e. h y (rw e (or-true (same? y z)))))
-      where
-        two : {a a′ : ℕ} {b b′ : List ℕ} → a ≡ a′ → b ≡ b′ → (a ∷ b) ≡ (a′ ∷ b′)
-        two e f = cc
+    go (z ∷ l) h = cons-same (ap one (h z (rw (same-self z)))) (go l (λ y e. h y (rw e (or-true (same? y z)))))
 
 -- ---- rows shuffled
-any-count : (p : ℕ → Bool) (v : List ℕ) → any? p v ≡ ltb 0 (count p v)
-any-count p [] = refl
-any-count p (x ∷ v) = cases (p x)
-    (λ t. rw t (sym (lt-ltb 0 (1 + count p v) (omega arith))))
-    (λ t. let e : 0 + count p v ≡ count p v = omega arith in rw (t, e) (any-count p v))
 
 pub shuffled-any : (p : ℕ → Bool) {v w : List ℕ} → Shuffled v w → any? p w ≡ any? p v
 shuffled-any p {v} {w} s = any-count p w ∙ ap (ltb 0) (s .same (λ a. one (p a))) ∙ sym (any-count p v)
-
-pub any-append : (p : ℕ → Bool) (a b : List ℕ) → any? p (a ++ b) ≡ (any? p a || any? p b)
-any-append p [] b = refl
-any-append p (x ∷ a) b = cases (p x) (λ t. rw t) (λ t. rw t (any-append p a b))
 
 -- ---- covering
 module _ (s : Bytes) (l : List Id) where
@@ -119,18 +108,13 @@ module _ (s : Bytes) (l : List Id) (t : List ℕ) where
     on = λ all rest c. record {
       done = c .done;
       flags = c .flags;
-      same = λ z i. ap (λ b. c .done z || (b || rest z)) (ap (any? (later false s z 0)) part ∙ any-append (later false s z 0) (take k v) (w ∷ [])) ∙ ap (λ b. c .done z || b) (regroup (any? (later false s z 0) (take k v)) (later false s z 0 w) (rest z)) ∙ c .same z i;
+      same = λ z i. ap (λ b. c .done z || (b || rest z)) (ap (any? (later false s z 0)) part ∙ any-append (later false s z 0) (take k v) (w ∷ [])) ∙ ap (λ b. c .done z || b) (or-more (any? (later false s z 0) (take k v)) (later false s z 0 w) (rest z)) ∙ c .same z i;
       new = c .new;
     };
   }
     where
       part : take (k + 1) v′ ≡ take k v ++ (w ∷ [])
       part = ap (take (k + 1)) e ∙ rw add-one (take-suc-set v k w h)
-
-      regroup : (a b c : Bool) → ((a || (b || false)) || c) ≡ (a || (b || c))
-      regroup true b c = refl
-      regroup false true c = refl
-      regroup false false c = refl
 
   pub row-new : (f v : List ℕ) (k w : ℕ) {f′ v′ v″ : List ℕ} → length v ≤ k → Settled s l f v f′ v′ → 0 < length v′ → v″ ≡ set v′ 0 w → Taken s l t f (take k v) (λ z. later false s z 0 w) f′ (take 1 v″)
   row-new f v k w {f′} {v′} {v″} h u p e = record {
@@ -177,12 +161,8 @@ module _ (s : Bytes) (l : List Id) (t : List ℕ) where
         let q = later-is w (u .item) (e ∙ id-bytes u .0 ∙ sym (u .is)) g in
         record {
           scan = on (x .scan) tt h u refl;
-          on = λ all rest c. k .on all (λ z. among? z (listAt idC (left - 1) b next) || rest z) (cover-to (λ z. ap (λ k. among? z k || rest z) (u .list) ∙ regroup (same? z (u .item)) (among? z (listAt idC (left - 1) b next)) (rest z) ∙ ap (λ k. k || (among? z (listAt idC (left - 1) b next) || rest z)) (sym (q z))) (x .on all rest c));
+          on = λ all rest c. k .on all (λ z. among? z (listAt idC (left - 1) b next) || rest z) (cover-to (λ z. ap (λ k. among? z k || rest z) (u .list) ∙ or-assoc (same? z (u .item)) (among? z (listAt idC (left - 1) b next)) (rest z) ∙ ap (λ k. k || (among? z (listAt idC (left - 1) b next) || rest z)) (sym (q z))) (x .on all rest c));
         }
-      where
-        regroup : (a b c : Bool) → ((a || b) || c) ≡ (a || (b || c))
-        regroup true b c = refl
-        regroup false b c = refl
 
     pub add-end : left ≡ 0 → Taken s l t f₀ v₀ (λ z. among? z (listAt idC n b at)) f v
     add-end e = record { on = λ all rest c. cover-to (λ z. ap (λ k. among? z k || rest z) (none-left idC b left i e .0)) (x .on all rest c) }
@@ -211,16 +191,9 @@ module _ (s : Bytes) (l : List Id) (t : List ℕ) where
           scan = on (x .scan) tt h u refl;
           on = λ all rest c. k′ .on all (λ z. among? z (queuedOutputs (listAt (formC false recC) (left - 1) s j)) || rest z) (cover-to (λ z.
               ap (λ k. among? z (queuedOutputs k) || rest z) (u .list) ∙ ap (λ k. k || rest z) (out-turn z (u .item) (listAt (formC false recC) (left - 1) s j))
-              ∙ regroup (eqb (u .item .state) 0 && among? z (outputs (u .item .body))) (among? z (queuedOutputs (listAt (formC false recC) (left - 1) s j))) (rest z)
-              ∙ ap (λ k. k || (among? z (queuedOutputs (listAt (formC false recC) (left - 1) s j)) || rest z)) (two (ap (λ q. eqb (q .state) 0) (sym (w .facts))) (ap (among? z) (sym (w .outsList))))) (x .on all rest c));
+              ∙ or-assoc (eqb (u .item .state) 0 && among? z (outputs (u .item .body))) (among? z (queuedOutputs (listAt (formC false recC) (left - 1) s j))) (rest z)
+              ∙ ap (λ k. k || (among? z (queuedOutputs (listAt (formC false recC) (left - 1) s j)) || rest z)) (and-same (ap (λ q. eqb (q .state) 0) (sym (w .facts))) (ap (among? z) (sym (w .outsList))))) (x .on all rest c));
         }
-      where
-        regroup : (a b c : Bool) → ((a || b) || c) ≡ (a || (b || c))
-        regroup true b c = refl
-        regroup false b c = refl
-
-        two : {a a′ b b′ : Bool} → a ≡ a′ → b ≡ b′ → (a && b) ≡ (a′ && b′)
-        two e f = cc
 
     pub queue-end : left ≡ 0 → Taken s l t f₀ [] (λ z. among? z (queuedOutputs (listAt (formC false recC) n s at))) f v
     queue-end e = record { on = λ all rest c. cover-to (λ z. ap (λ k. among? z (queuedOutputs k) || rest z) (none-left (formC false recC) s left i e .0)) (x .on all rest c) }

@@ -133,8 +133,6 @@ unfolding stayF
 stay-in n floor f h e = e ∙ rw (eq-eqb n 0 h)
 
 -- ---- the size of a record
-pub some-bytes : {s : Bytes} {i : ℕ} {ok : Bool} {x : Seen} {r : Rec} → SeenIn false s i ok (x .size) x r → (0 < length (recC .enc r)) × (i + x .size ≡ i + length (recC .enc r))
-some-bytes w = (omega (arith, w .1 .size, w .0 .upBody), omega (arith, w .1 .size))
 
 -- ---- rows are gathered: those so far, with any rows of the records that are left, are rows of all; where these make of the records that
 -- are left what is due, those make of all the list that is due

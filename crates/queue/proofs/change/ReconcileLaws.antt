@@ -1,5 +1,6 @@
 -- Reconciliation, exit by exit. Assumes nothing.
-use Rattle.queue.specs.Prelude.{_≡_, refl, ap, sym, _∙_, Bool, true, false, cond, not, _||_, none, some, _⊎_, List, [], _∷_, _++_, ℕ, _+_, _-_, _*_, _/_, _%_, _^_, _≤_, _<_, min, arith, mod-lt, min-eq-left, min-eq-right, min-le-left, ltb, leb, eqb, length, take, length-append, length-take, length-take-le, lt-ltb, le-ltb, ltb-false}
+use Rattle.queue.specs.Prelude.{_≡_, refl, ap, sym, _∙_, Bool, true, false, cond, not, _||_, none, some, _⊎_, List, [], _∷_, ℕ, _+_, _-_, _*_, _/_, _%_, _^_, _≤_, _<_, min, arith, mod-lt, min-eq-left, min-eq-right, min-le-left, ltb, leb, eqb, length, take, length-append, length-take, length-take-le, lt-ltb, le-ltb, ltb-false}
+use Rattle.queue.specs.Basics.{join-same, or-same, cons-same}
 use Rattle.queue.specs.layout.FrameAs.{head-P, head-B, head-T}
 use Rattle.queue.specs.Codec as codec
 use Rattle.queue.specs.Codec.{All, cases, optC}
@@ -109,10 +110,7 @@ unfolding nextV nextR
 judged-next t caught own es [] [] j = refl
 judged-next t caught own es [] (c ∷ v) j = absurd j
 judged-next t caught own es (r ∷ l) [] j = absurd j
-judged-next t caught own es (r ∷ l) (c ∷ v) j = two (ap (maybe r (λ y. y)) (sym (j .0 .is))) (judged-next t caught own es l v (j .1))
-  where
-    two : {a a′ : Rec} {b b′ : List Rec} → a ≡ a′ → b ≡ b′ → (a ∷ b) ≡ (a′ ∷ b′)
-    two e f = cc
+judged-next t caught own es (r ∷ l) (c ∷ v) j = cons-same (ap (maybe r (λ y. y)) (sym (j .0 .is))) (judged-next t caught own es l v (j .1))
 
 pub verdicts-fit : {s : Bytes} {a : Area} {B : Block} {t ids : Bytes} {vs : List ℕ} → AreaIn s a → JudgedIn s a B t ids vs → (length vs ≡ a .open .head .count) × All (InEntry t) vs
 verdicts-fit {s} {a} {B} {t} {ids} {vs} w j =
@@ -314,10 +312,7 @@ module _ {s : Bytes} {a : Area} (w : AreaIn s a) {B : Block} {t ids : Bytes} (L 
 
       answer-is : (b : Bool) → goneBytes s b gone ≡ releasedBytes (b, toRelease C (w .q))
       unfolding goneBytes releasedBytes idsBytes
-      answer-is b = ap (λ (y : Bytes). one b ∷ y) (two (be-same 4 (length gone) (let z = G .few in omega arith) ∙ ap (codec.be 4) many-gone) (ap concat ids-are))
-        where
-          two : {x x′ y y′ : Bytes} → x ≡ x′ → y ≡ y′ → x ++ y ≡ x′ ++ y′
-          two e f = cc
+      answer-is b = ap (λ (y : Bytes). one b ∷ y) (join-same (be-same 4 (length gone) (let z = G .few in omega arith) ∙ ap (codec.be 4) many-gone) (ap concat ids-are))
 
       no-ids : (anyTouched C (w .q) || not (isEmpty? (toRelease C (w .q)))) ≡ false → length gone ≡ 0
       no-ids ch = let z = or-false (anyTouched C (w .q)) (not (isEmpty? (toRelease C (w .q)))) ch .1 in let y = ltb-false 0 (length gone) (sym (some-is (toRelease C (w .q)) many-gone) ∙ z) in omega arith
@@ -352,10 +347,7 @@ module _ {s : Bytes} {a : Area} (w : AreaIn s a) {B : Block} {t ids : Bytes} (L 
 
     pub changed-is : {b c : Bool} → c ≡ any? changed? vs → b ≡ (c || ltb 0 (length gone)) → ChangedIs s C b
     unfolding anyTouched touch ownIds
-    changed-is e f q x = f ∙ two (e ∙ judged-any t (B .caught) (ownIds (idsAt ids (B .available)) (listAt (formC false recC) (a .open .head .count) s (a .open .start))) (appliedIn t (B .entries)) (listAt (formC false recC) (a .open .head .count) s (a .open .start)) vs (J .all) ∙ ap (λ l. any? (changes? (B .caught) (ownIds (idsAt ids (B .available)) l) (appliedIn t (B .entries))) l) (w .read .store .list)) (sym (some-is (toRelease C (w .q)) many-gone)) ∙ ap (λ v. anyTouched C v || not (isEmpty? (toRelease C v))) (one-queue s (w .is) x)
-      where
-        two : {a a′ b b′ : Bool} → a ≡ a′ → b ≡ b′ → (a || b) ≡ (a′ || b′)
-        two e f = cc
+    changed-is e f q x = f ∙ or-same (e ∙ judged-any t (B .caught) (ownIds (idsAt ids (B .available)) (listAt (formC false recC) (a .open .head .count) s (a .open .start))) (appliedIn t (B .entries)) (listAt (formC false recC) (a .open .head .count) s (a .open .start)) vs (J .all) ∙ ap (λ l. any? (changes? (B .caught) (ownIds (idsAt ids (B .available)) l) (appliedIn t (B .entries))) l) (w .read .store .list)) (sym (some-is (toRelease C (w .q)) many-gone)) ∙ ap (λ v. anyTouched C v || not (isEmpty? (toRelease C v))) (one-queue s (w .is) x)
 
 pub gathered-to : {s : Bytes} {n : ℕ} {l : List Rec} {room m : ℕ} {a b c : List ℕ} → room ≡ 2048 → MinedGathered s n l room m a b c → MinedGathered s n l 2048 m a b c
 gathered-to e g = record { even = even-to (g .even) e; all = g .all; listed = g .listed }

@@ -1,5 +1,6 @@
 -- The Mined holders, their order, and which of them are released. Assumes nothing.
 use Rattle.queue.specs.Prelude.{_≡_, refl, ap, sym, _∙_, Bool, true, false, cond, _&&_, _||_, Option, none, some, List, [], _∷_, _++_, append-assoc, append-nil, ℕ, zero, suc, _+_, _-_, _*_, _/_, _%_, _≤_, _<_, arith, le-of-suc-le-suc, add-one, ltb, leb, eqb, length, take, drop, getD, set, length-drop, length-set, drop-of-length-le, drop-cons, take-suc, take-all, take-suc-set, eq-eqb, ne-eqb, lt-leb, eqb-true}
+use Rattle.queue.specs.Basics.{cons-same}
 use Rattle.queue.specs.Codec.{All, cases}
 use Rattle.queue.specs.Lists.{Pairwise}
 use Rattle.queue.specs.bytes.ListLaws.{and-false, sort-all}
@@ -289,11 +290,8 @@ module _ (m : Limits) (height window : ℕ) (s : Bytes) where
       let i = walk-ids (seen + 1) (bytes + length (content (x .body))) z l (h .1) in
       let e = h .0 .height in let f = h .0 .bytes in
       rw (e, f) (cases (leb window (height - minedHeight x) || (leb (m .P) seen || ltb (m .B) (bytes + length (content (x .body)))))
-      (λ t. rw t (cons (h .0 .id) i))
+      (λ t. rw t (cons-same (h .0 .id) i))
       (λ t. rw t i))
-    where
-      cons : {a b : Id} {x y : List Id} → a ≡ b → x ≡ y → (a ∷ x) ≡ (b ∷ y)
-      cons e f = cc
 
   pub walk-columns : (seen bytes : ℕ) (a b c : List ℕ) → length b ≡ length a → length c ≡ length a → walkC m height window s seen bytes a c ≡ walkR m height window s seen bytes (rows a b c)
   unfolding walkC walkR rows

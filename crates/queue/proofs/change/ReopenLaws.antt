@@ -50,10 +50,6 @@ pieces-join (suc k) s h =
     let l = length-drop 32 s in
     ap (λ (y : Bytes). take 32 s ++ y) (pieces-join k (drop 32 s) (omega arith)) ∙ take-append-drop 32 s
 
-pub pieces-many : (k : ℕ) (s : Bytes) → length (pieces 32 k s) ≡ k
-pieces-many zero s = refl
-pieces-many (suc k) s = ap suc (pieces-many k (drop 32 s))
-
 module _ (s : Bytes) (k : ℕ) (h : Small s) (e : k ≡ length s / 32) (z : length s % 32 ≡ 0) where
   ids-got : decs idC k s ≡ got (items 32 s) []
   unfolding items

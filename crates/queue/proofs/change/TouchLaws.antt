@@ -1,5 +1,6 @@
 -- What a reconciliation makes of one record. Assumes nothing.
 use Rattle.queue.specs.Prelude.{_≡_, refl, ap, sym, _∙_, Bool, true, false, cond, _&&_, _||_, Option, none, some, List, [], _∷_, _++_, append-assoc, append-nil, ℕ, zero, suc, _+_, _-_, _*_, _/_, _%_, _^_, _≤_, _<_, arith, pow-succ', mul-assoc, mul-comm, zero-add, suc-add, le-of-suc-le-suc, add-one, eqb, digits-div, digits-mod, length, take, drop, getD, set, length-append, length-drop, length-set, take-take, take-suc, take-suc-set, drop-drop, getD-drop, drop-append-seam, take-append-seam, eq-eqb, ne-eqb, eqb-true, eqb-false}
+use Rattle.queue.specs.Basics.{join-same, or-same, and-same, among-append}
 use Rattle.queue.specs.Codec as codec
 use Rattle.queue.specs.Codec.{All, cases, be-length, optC, pairC, vecC}
 use Rattle.queue.specs.layout.FrameCodec.{recC, idC, placeC}
@@ -180,12 +181,9 @@ module _ (s : Bytes) (base : ℕ) (x : Seen) (t : Bytes) (p : ℕ) where
       let q = some-place r (w .1) (placed-of r w ∙ m) in
       let z = place-some r (q .0) (q .1) w (q .2) (q .3) .0 in
       let g : q .0 ≡ x .facts .mined .0 = sym (ap placeHeight (q .2)) ∙ height-of r w in
-      let y : u ≡ confirmed? (entryIn t p) (some (q .0, q .1)) = f ∙ two (two′ (sym g) (i ∙ sym (entry-height t p h))) (two″ (j ∙ z) (k ∙ sym (entry-block t p))) in
+      let y : u ≡ confirmed? (entryIn t p) (some (q .0, q .1)) = f ∙ and-same (two′ (sym g) (i ∙ sym (entry-height t p h))) (two″ (j ∙ z) (k ∙ sym (entry-block t p))) in
       y ∙ ap (confirmed? (entryIn t p)) (sym (q .2)) ∙ ap (λ (v : Bool). v && confirmed? (entryIn t p) (r .place)) (sym (eq-eqb (r .state) 2 (sym (state-of r w) ∙ e)))
     where
-      two : {a a′ b b′ : Bool} → a ≡ a′ → b ≡ b′ → (a && b) ≡ (a′ && b′)
-      two e f = cc
-
       two′ : {a a′ b b′ : ℕ} → a ≡ a′ → b ≡ b′ → eqb a b ≡ eqb a′ b′
       two′ e f = cc
 
@@ -193,9 +191,6 @@ module _ (s : Bytes) (base : ℕ) (x : Seen) (t : Bytes) (p : ℕ) where
       two″ e f = cc
 
 -- ---- own ids
-pub among-append : (i : Id) (a b : List Id) → among? i (a ++ b) ≡ (among? i a || among? i b)
-among-append i [] b = refl
-among-append i (x ∷ a) b = let e = among-append i a b in cases (same? i x) (λ t. rw t) (λ t. rw t e)
 
 unfoldable pub outF : Id → Unit {0} → List Rec → Bool
 outF i u l = among? i (queuedOutputs l)
@@ -207,10 +202,7 @@ out-turn i r l = among-append i (cond (eqb (r .state) 0) (outputs (r .body)) [])
 module _ (z : Id) {s : Bytes} {n at i left : ℕ} (x : Scan (formC false recC) (outF z) s n at tt i left tt) (h : 0 < left) {m : ℕ} {ok b : Bool} {y : Seen} (r : ReadsRec false s i ok m y) (e : b ≡ (eqb (y .facts .state) 0 && among? z (listAt idC (y .facts .outs) (view false s i) (y .outs)))) where
   hit-is : (eqb (seen false x h r .item .state) 0 && among? z (outputs (seen false x h r .item .body))) ≡ b
   unfolding factsOf
-  hit-is = let w = seen false x h r .is .0 in sym (e ∙ two (ap (λ v. eqb (v .state) 0) (w .facts)) (ap (among? z) (w .outsList)))
-    where
-      two : {a a′ b b′ : Bool} → a ≡ a′ → b ≡ b′ → (a && b) ≡ (a′ && b′)
-      two e f = cc
+  hit-is = let w = seen false x h r .is .0 in sym (e ∙ and-same (ap (λ v. eqb (v .state) 0) (w .facts)) (ap (among? z) (w .outsList)))
 
   pub out-go : {j : ℕ} → j ≡ afterIn false s i m → b ≡ false → Scan (formC false recC) (outF z) s n at tt j (left - 1) tt
   out-go g f = rw g (on x tt h (seen false x h r) (out-turn z (seen false x h r .item) (listAt (formC false recC) (left - 1) s (afterIn false s i m)) ∙ rw (hit-is ∙ f)))
@@ -250,10 +242,7 @@ module _ (own : List Id) {v : Bytes} {n at i left : ℕ} (x : Scan idC (fineF ow
 
 -- ---- what a record wants: its inputs and its read ids
 pub wanted-is : {v : Bytes} {x : Seen} {r : Rec} → SeenAs v x r → wantedAt v x ≡ wanted (r .body)
-wanted-is w = two (w .insList) (w .readsList)
-  where
-    two : {a a′ b b′ : List Id} → a ≡ a′ → b ≡ b′ → a ++ b ≡ a′ ++ b′
-    two e f = cc
+wanted-is w = join-same (w .insList) (w .readsList)
 
 all-both : (p : Id → Bool) (a b : List Id) → all? p (a ++ b) ≡ (all? p a && all? p b)
 all-both p [] b = refl
@@ -377,10 +366,7 @@ module _ (t : Bytes) (caught : Bool) (own : List Id) (es : List Applied) where
   judged-any [] [] j = refl
   judged-any [] (c ∷ v) j = absurd j
   judged-any (r ∷ l) [] j = absurd j
-  judged-any (r ∷ l) (c ∷ v) j = two (on-change (j .0)) (judged-any l v (j .1))
-    where
-      two : {a a′ b b′ : Bool} → a ≡ a′ → b ≡ b′ → (a || b) ≡ (a′ || b′)
-      two e f = cc
+  judged-any (r ∷ l) (c ∷ v) j = or-same (on-change (j .0)) (judged-any l v (j .1))
 
   pub judged-long : (l : List Rec) (v : List ℕ) → Judged t caught own es l v → length v ≡ length l
   judged-long [] [] j = refl

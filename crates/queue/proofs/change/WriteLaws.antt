@@ -1,5 +1,6 @@
 -- Whole areas written from an area. Assumes nothing.
 use Rattle.queue.specs.Prelude.{_≡_, refl, ap, sym, _∙_, Bool, true, false, Option, none, some, List, [], _∷_, _++_, append-assoc, ℕ, _+_, _-_, _≤_, _<_, arith, leb, length, drop, take, length-append, length-drop, drop-drop, take-at, drop-at, leb-true}
+use Rattle.queue.specs.Basics.{length-eight}
 use Rattle.queue.specs.Codec as codec
 use Rattle.queue.specs.Codec.{Got, fail, got, Codec, All, beC, be-length, optC, optEnc, encs, decs, vec-bwd, vecC}
 use Rattle.queue.specs.Lists.{and-true}
@@ -114,9 +115,6 @@ unfolding optC optEnc idC vecC
 tip-long true tip h = let e = ap length (bytes-plain tip) in omega arith
 tip-long false tip h = refl
 
-sizes : (a b c d e f g h : Bytes) → length (a ++ (b ++ (c ++ (d ++ (e ++ (f ++ (g ++ h))))))) ≡ length a + (length b + (length c + (length d + (length e + (length f + (length g + length h))))))
-sizes a b c d e f g h = simp length-append
-
 pub limits-long : (l : Limits) → length (l .shares) ≡ 16 → length (limitsC .enc l) ≡ 80
 limits-long l h =
     let b = be-length 4 (l .P) in let c = be-length 4 (l .B) in let d = be-length 4 (l .T) in let e = be-length 4 (l .K) in let f = shares-long (l .shares) in
@@ -128,7 +126,7 @@ front-long l m tip n h =
     let a = be-length 4 (m .persisted .0) in let b = limits-long l n in
     let f = be-length 8 (m .revision) in let g = be-length 4 (m .cursor .0) in let i = tip-long (m .tip) tip h in let j = be-length 8 (m .counter .0) in let k = be-length 4 (m .count) in
     ap (λ y. length (codec.be 4 (m .persisted .0) ++ y)) (head-enc (headWith l m tip))
-    ∙ sizes (codec.be 4 (m .persisted .0)) (1 ∷ []) (limitsC .enc l) (codec.be 8 (m .revision)) (codec.be 4 (m .cursor .0)) (optC idC .enc (tipOf (m .tip) tip)) (codec.be 8 (m .counter .0)) (codec.be 4 (m .count))
+    ∙ length-eight (codec.be 4 (m .persisted .0)) (1 ∷ []) (limitsC .enc l) (codec.be 8 (m .revision)) (codec.be 4 (m .cursor .0)) (optC idC .enc (tipOf (m .tip) tip)) (codec.be 8 (m .counter .0)) (codec.be 4 (m .count))
     ∙ omega arith
 
 pub queue-long : (l : Limits) (m : Marks) (tip : Id) (recs : List Rec) → length (l .shares) ≡ 16 → m .count ≡ length recs → length tip ≡ 32 → length (queueC .enc (queueOf l m tip recs)) ≡ frontLen + tipSize (m .tip) + length (encs recC recs)

@@ -1,5 +1,6 @@
 -- The bytes of a record after its verdict. Assumes nothing.
 use Rattle.queue.specs.Prelude.{_≡_, refl, ap, sym, _∙_, Bool, false, cond, _&&_, _||_, none, some, [], _∷_, _++_, append-assoc, append-nil, ℕ, zero, suc, _+_, _-_, _^_, _≤_, _<_, arith, le-of-suc-le-suc, eqb, length, take, drop, length-append, length-drop, take-append-drop, drop-of-length-le, drop-drop, take-take, take-all, length-take-le, eq-eqb, ne-eqb, eqb-true}
+use Rattle.queue.specs.Basics.{join-same, join-eight}
 use Rattle.queue.specs.Codec as codec
 use Rattle.queue.specs.Codec.{cases, beC, encs, got}
 use Rattle.queue.specs.bytes.PutAs.{Put, beLast}
@@ -166,10 +167,7 @@ entry-bytes t p h w =
     let a : take 4 (drop 32 (take 68 (drop p t))) ≡ take 4 X = ap (take 4) E ∙ take-take 4 36 X (omega arith) in
     let b : drop 36 (take 68 (drop p t)) ≡ drop 4 (take 36 X) = sym (drop-drop 4 32 (take 68 (drop p t))) ∙ ap (drop 4) E in
     let c : codec.be 4 (beVal (take 4 X)) ≡ take 4 X = four-back (take 4 X) (length-take-le 4 X (omega (arith, length-drop (p + 32) t))) (small-part (p + 32) 4 t w) in
-    ap (λ (y : Bytes). 1 ∷ y) (sym (two (ap (λ (y : Bytes). codec.be 4 (beVal y)) a ∙ c ∙ sym (take-take 4 36 X (omega arith))) b ∙ take-append-drop 4 (take 36 X)))
-  where
-    two : {x x′ y y′ : Bytes} → x ≡ x′ → y ≡ y′ → x ++ y ≡ x′ ++ y′
-    two e f = cc
+    ap (λ (y : Bytes). 1 ∷ y) (sym (join-same (ap (λ (y : Bytes). codec.be 4 (beVal y)) a ∙ c ∙ sym (take-take 4 36 X (omega arith))) b ∙ take-append-drop 4 (take 36 X)))
 
 module _ (s : Bytes) (base : ℕ) (x : Seen) (t : Bytes) (v : Verdict) (n : ℕ) (r : Rec) (w : SeenOf s base x r) (h : v .what ≡ 1 → v .at + 68 ≤ length t) (S : Small t) where
   n-place : placeN s base x t v ≡ placeBytes (placeAfter t v (r .place))
@@ -229,11 +227,8 @@ module _ (s : Bytes) (base : ℕ) (x : Seen) (t : Bytes) (v : Verdict) (n : ℕ)
           → ((((((((2 ∷ []) ++ i) ++ w) ++ a) ++ b) ++ c) ++ d) ++ e) ++ f ≡ ((((((((2 ∷ []) ++ i) ++ w′) ++ a′) ++ b′) ++ c′) ++ d′) ++ e′) ++ f′
       glue i o p q u y z k = cc
 
-      rejoin : (i w a b c d e f : Bytes) → ((((((i ++ w) ++ a) ++ b) ++ c) ++ d) ++ e) ++ f ≡ i ++ (w ++ (a ++ (b ++ (c ++ (d ++ (e ++ f))))))
-      rejoin i w a b c d e f = simp append-assoc
-
       regroup : (i w a b c d e f : Bytes) → ((((((((2 ∷ []) ++ i) ++ w) ++ a) ++ b) ++ c) ++ d) ++ e) ++ f ≡ 2 ∷ (i ++ (w ++ (a ++ (b ++ (c ++ (d ++ (e ++ f)))))))
-      regroup i w a b c d e f = ap (λ (k : Bytes). 2 ∷ k) (rejoin i w a b c d e f)
+      regroup i w a b c d e f = ap (λ (k : Bytes). 2 ∷ k) (join-eight i w a b c d e f)
 
   -- or nothing of one that is forgotten
   pub step-is : n < 256 ^ 8 → stepN s base x t v n ≡ encs recC (cond (eqb (v .what) 7) [] (becomes t v n r ∷ []))

@@ -1,5 +1,6 @@
 -- An area written from an area and the rows of a plan: the loop over the rows, and the whole area. Assumes nothing.
-use Rattle.queue.specs.Prelude.{_≡_, refl, ap, sym, _∙_, Bool, true, false, cond, not, _||_, some, _⊎_, List, [], _∷_, _++_, append-assoc, append-nil, ℕ, _+_, _-_, _%_, _^_, _≤_, _<_, arith, add-zero, mod-lt, add-one, ltb, leb, eqb, length, take, drop, getD, replicate, length-append, length-drop, take-append-drop, drop-of-length-le, drop-cons, drop-drop, drop-at, eq-eqb, ne-eqb}
+use Rattle.queue.specs.Prelude.{_≡_, refl, ap, sym, _∙_, Bool, true, false, cond, not, _||_, some, _⊎_, List, [], _∷_, _++_, append-nil, ℕ, _+_, _-_, _%_, _^_, _≤_, _<_, arith, add-zero, mod-lt, add-one, ltb, leb, eqb, length, take, drop, getD, replicate, length-append, length-drop, take-append-drop, drop-of-length-le, drop-cons, drop-drop, eq-eqb, ne-eqb}
+use Rattle.queue.specs.Basics.{join-same, join-four, drop-past}
 use Rattle.queue.specs.Codec.{All, cases, encs, got}
 use Rattle.queue.specs.bytes.PutAs.{Put}
 use Rattle.queue.specs.layout.FrameCodec.{recC}
@@ -44,8 +45,6 @@ use Rattle.queue.proofs.change.WriteNextLaws.{step-is}
 use Rattle.queue.proofs.change.PlanLaws.{row, made-same, made-out, made-cancelled, made-expired, number-1, number-some, number-small, rec-some, Reached, reach, no-rows, no-rows-at, visit-turn, PlanLoop, plan-loop, plan-next, plan-close}
 
 -- ---- the rows applied
-past : (s p q : Bytes) (k : ℕ) {j : ℕ} → j ≡ k + length p → drop k s ≡ p ++ q → drop j s ≡ q
-past s p q k {j} h e = ap (λ n. drop n s) h ∙ sym (drop-drop (length p) k s) ∙ ap (drop (length p)) e ∙ drop-at p q (length p) refl
 
 all-some : (l : List Rec) → All (λ r. 0 < length (recC .enc r)) l
 all-some [] = tt
@@ -76,16 +75,13 @@ editing {s} {a} {t} {vs} {rows} to d₀ w h =
       fine = rw (st .list) (ok-store areaForm (storeOf (w .q)) (ok-queue (w .q) (w .read .range) .1) .1);
       here =
           sym (take-append-drop (a .open .next - a .open .start) (drop (a .open .start) s))
-          ∙ two (recs-here (w .read) .0 ∙ ap (encs recC) (sym (st .list))) (drop-drop (a .open .next - a .open .start) (a .open .start) s ∙ ap (λ k. drop k s) (let y : a .open .start + (a .open .next - a .open .start) ≡ a .open .next = omega (arith, st .up) in y));
+          ∙ join-same (recs-here (w .read) .0 ∙ ap (encs recC) (sym (st .list))) (drop-drop (a .open .next - a .open .start) (a .open .start) s ∙ ap (λ k. drop k s) (let y : a .open .start + (a .open .next - a .open .start) ≡ a .open .next = omega (arith, st .up) in y));
       up = st .up;
       few = omega arith;
       long = refl;
       fit = h;
       rest = begun _ _ _;
     }
-  where
-    two : {b b′ c c′ : Bytes} → b ≡ b′ → c ≡ c′ → b ++ c ≡ b′ ++ c′
-    two e f = cc
 
 module _ {s : Bytes} {a : Area} {t : Bytes} {vs rows : List ℕ} {to : ℕ} {d₀ dst : Bytes} {k from o : ℕ} (g : Editing s (a .open) t vs rows to d₀ dst k from o) (w : AreaIn s a) where
   module _ (p : k < length rows) where
@@ -106,16 +102,13 @@ module _ {s : Bytes} {a : Area} {t : Bytes} {vs rows : List ℕ} {to : ℕ} {d�
     parts =
         g .here ∙ ap (λ l. encs recC l ++ drop (a .open .next) s) (R .list)
         ∙ ap (λ (l : Bytes). l ++ drop (a .open .next) s) (encs-append (R .before) (R .r ∷ R .behind))
-        ∙ rejoin (encs recC (R .before)) (recC .enc (R .r)) (encs recC (R .behind)) (drop (a .open .next) s)
-      where
-        rejoin : (b c d e : Bytes) → (b ++ (c ++ d)) ++ e ≡ b ++ (c ++ (d ++ e))
-        rejoin b c d e = simp append-assoc
+        ∙ join-four (encs recC (R .before)) (recC .enc (R .r)) (encs recC (R .behind)) (drop (a .open .next) s)
 
     at-here : drop rowPlace s ≡ recC .enc (R .r) ++ (encs recC (R .behind) ++ drop (a .open .next) s)
-    at-here = past s (encs recC (R .before)) (recC .enc (R .r) ++ (encs recC (R .behind) ++ drop (a .open .next) s)) from (R .place) parts
+    at-here = drop-past s (encs recC (R .before)) (recC .enc (R .r) ++ (encs recC (R .behind) ++ drop (a .open .next) s)) from (R .place) parts
 
     then-here : drop (rowPlace + rowSize) s ≡ encs recC (R .behind) ++ drop (a .open .next) s
-    then-here = past s (recC .enc (R .r)) (encs recC (R .behind) ++ drop (a .open .next) s) rowPlace refl at-here
+    then-here = drop-past s (recC .enc (R .r)) (encs recC (R .behind) ++ drop (a .open .next) s) rowPlace refl at-here
 
     fine-r : recC .ok (R .r)
     fine-r = all-parts (recC .ok) (R .before) (R .r ∷ R .behind) (rw (R .list) at (g .fine)) .1 .0

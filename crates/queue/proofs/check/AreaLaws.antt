@@ -1,5 +1,6 @@
 -- A queue found in bytes or in a text: limits, counts, and each exit of its readers. Assumes nothing.
 use Rattle.queue.specs.Prelude.{_≡_, refl, ap, sym, _∙_, Bool, true, false, cond, _&&_, none, some, List, [], _∷_, ℕ, _+_, _-_, _*_, _≤_, _<_, arith, mul-le-mul, leb, length, drop, take, leb-true, le-leb, lt-leb}
+use Rattle.queue.specs.Basics.{and-same}
 use Rattle.queue.specs.Codec.{Got, fail, got, Codec, cases, beC, be-length, pairC, pairDec, mapC, decs, vec-bwd}
 use Rattle.queue.specs.Lists.{and-true}
 use Rattle.queue.specs.layout.FrameCodec.{headK, recC}
@@ -121,11 +122,8 @@ module _ (m : Limits) (n : ℕ) (c : Finish) (a : Sums) (l : List Rec) (s : Sums
     module _ (f : x ≡ true) {y : Bool} (h : y ≡ (a .right && a .rises)) where
       pub sound-wrong : y ≡ false → false ≡ soundL m (c .0) l
       unfolding soundL
-      sound-wrong z = rw (r, sym counts-is ∙ sym e ∙ f) (deny (all? (right? (m .K) (c .0)) l) (rise? (map (λ r. r .id) l)) (distinct? l && (apart? l && readApart? l)) (sym (h ∙ two (s .right) (s .rises)) ∙ z))
+      sound-wrong z = rw (r, sym counts-is ∙ sym e ∙ f) (deny (all? (right? (m .K) (c .0)) l) (rise? (map (λ r. r .id) l)) (distinct? l && (apart? l && readApart? l)) (sym (h ∙ and-same (s .right) (s .rises)) ∙ z))
         where
-          two : {u v u′ v′ : Bool} → u ≡ u′ → v ≡ v′ → (u && v) ≡ (u′ && v′)
-          two i j = rw (i, j)
-
           deny : (u v w : Bool) → (u && v) ≡ false → false ≡ (u && (v && w))
           deny true true w q = false-true (sym q)
           deny true false w q = refl

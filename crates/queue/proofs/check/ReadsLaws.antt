@@ -1,6 +1,7 @@
 -- The laws of read ids: no record spends what another reads, by the ids that a record reads and does not spend; the loops that look for them. Assumes
 -- nothing.
 use Rattle.queue.specs.Prelude.{_≡_, refl, ap, sym, _∙_, subst, Bool, true, false, not, _&&_, _||_, List, [], _∷_, ℕ, zero, suc, _+_, _-_, _≤_, _<_, arith, eqb, length, drop, getD, drop-nil, eqb-true, eqb-false, eq-eqb, leb-true}
+use Rattle.queue.specs.Basics.{or-right}
 use Rattle.queue.specs.Codec.{cases}
 use Rattle.queue.specs.Lists.{and-true}
 use Rattle.queue.specs.bytes.OrderLaws.{same-is, same-self, or-true, or-false}
@@ -29,10 +30,6 @@ not-true-is : (b : Bool) → not b ≡ true → b ≡ false
 not-true-is true e = false-true e
 not-true-is false e = refl
 
-more : (a : Bool) {b : Bool} → b ≡ true → (a || b) ≡ true
-more true e = refl
-more false e = e
-
 -- ---- some id of a list
 module _ (p : Id → Bool) where
   pick : {X : Type 0} (l : List Id) → any? p l ≡ true → ((i : Id) → among? i l ≡ true → p i ≡ true → X) → X
@@ -43,7 +40,7 @@ module _ (p : Id → Bool) where
   put x [] e u = false-true e
   put x (y ∷ l) e u = cases (same? x y)
       (λ t. let q = same-is x y t in rw (← q, u))
-      (λ t. more (p y) (put x l (rw t at e) u))
+      (λ t. or-right (p y) (put x l (rw t at e) u))
 
 -- ---- ids that a record reads and does not spend
 foreign-parts : (z : Id) (r : Rec) → foreign? z r ≡ true → (among? z (reads (r .body)) ≡ true) × (hasIn z r ≡ false)
@@ -59,7 +56,7 @@ unfolding read?
 foreign-read z [] e = false-true e
 foreign-read z (r ∷ l) e = or-true (foreign? z r) (any? (foreign? z) l) e
     (λ t. rw (foreign-parts z r t .0))
-    (λ _ t. more (among? z (reads (r .body))) (foreign-read z l t))
+    (λ _ t. or-right (among? z (reads (r .body))) (foreign-read z l t))
 
 read-foreign : (z : Id) (l : List Rec) → read? z l ≡ true → used? z l ≡ false → any? (foreign? z) l ≡ true
 unfolding read? used?
@@ -68,7 +65,7 @@ read-foreign z (r ∷ l) e u =
     let n = or-false (hasIn z r) (used? z l) u in
     or-true (among? z (reads (r .body))) (read? z l) e
     (λ t. rw (foreign-is z r t (n .0)))
-    (λ _ t. more (foreign? z r) (read-foreign z l t (n .1)))
+    (λ _ t. or-right (foreign? z r) (read-foreign z l t (n .1)))
 
 crossed-parts : (ins ids : List Id) (l : List Rec) → crossed? ins ids l ≡ false → (any? (λ i. read? i l) ins ≡ false) × (clash? ids l ≡ false)
 unfolding crossed?
@@ -109,7 +106,7 @@ read-yes (r ∷ l) a k =
     let own : (i : Id) → hasIn i r ≡ true → used? i l ≡ false = λ i e. cases (used? i l) (λ t. false-true (sym c ∙ clash-some l i (inputs (r .body)) e t)) (λ t. t) in
     let one : any? (λ i. read? i l) (inputs (r .body)) ≡ false = cases (any? (λ i. read? i l) (inputs (r .body)))
     (λ t. pick (λ i. read? i l) (inputs (r .body)) t (λ i e q.
-    let u = or-false (hasIn i r) (used? i l) (k i (more (foreign? i r) (read-foreign i l q (own i e)))) in
+    let u = or-false (hasIn i r) (used? i l) (k i (or-right (foreign? i r) (read-foreign i l q (own i e)))) in
     false-true (sym (u .0) ∙ e)))
     (λ t. t) in
     let two : clash? (reads (r .body)) l ≡ false = cases (clash? (reads (r .body)) l)
@@ -118,7 +115,7 @@ read-yes (r ∷ l) a k =
     let u = or-false (hasIn i r) (used? i l) (k i (rw (foreign-is i r e n))) in
     false-true (sym (u .1) ∙ q)))
     (λ t. t) in
-    rw (crossed-none (inputs (r .body)) (reads (r .body)) l one two) (read-yes l (h .1) (λ z f. or-false (hasIn z r) (used? z l) (k z (more (foreign? z r) f)) .1))
+    rw (crossed-none (inputs (r .body)) (reads (r .body)) l one two) (read-yes l (h .1) (λ z f. or-false (hasIn z r) (used? z l) (k z (or-right (foreign? z r) f)) .1))
 
 -- nobody reads an id
 no-clash : (l : List Rec) (ids : List Id) → length ids ≡ 0 → clash? ids l ≡ false
@@ -130,14 +127,14 @@ among-none : (i : Id) (ids : List Id) → length ids ≡ 0 → among? i ids ≡ 
 among-none i [] e = refl
 among-none i (j ∷ ids) e = absurd (let z : ⊥ = omega arith in z)
 
-unread-by : (i : Id) (l : List Rec) → all? unread? l ≡ true → read? i l ≡ false
+pub unread-by : (i : Id) (l : List Rec) → all? unread? l ≡ true → read? i l ≡ false
 unfolding read?
 unread-by i [] e = refl
 unread-by i (r ∷ l) e =
     let h = and-true (unread? r) (all? unread? l) e in
     rw (among-none i (reads (r .body)) (eqb-true (length (reads (r .body))) 0 (h .0))) (unread-by i l (h .1))
 
-nobody : (ids : List Id) (l : List Rec) → all? unread? l ≡ true → any? (λ i. read? i l) ids ≡ false
+pub nobody : (ids : List Id) (l : List Rec) → all? unread? l ≡ true → any? (λ i. read? i l) ids ≡ false
 nobody [] l e = refl
 nobody (i ∷ ids) l e = rw (unread-by i l e) (nobody ids l e)
 
@@ -168,7 +165,7 @@ module _ (hex : Bool) (s : Bytes) (all : List Rec) where
   crosses-used v k [] e f = false-true e
   crosses-used v k (r ∷ l) e f = or-true (meets hex s v k (inputs (r .body))) (crosses hex s v (k + 1) l) e
       (λ t. meets-yes hex s v k (inputs (r .body)) t (λ i h m b. f i h (rw m)))
-      (λ _ t. crosses-used v (k + 1) l t (λ i h u. f i h (more (hasIn (idR hex s (getD v i 0)) r) u)))
+      (λ _ t. crosses-used v (k + 1) l t (λ i h u. f i h (or-right (hasIn (idR hex s (getD v i 0)) r) u)))
 
   pub strange-crosses : (v : List ℕ) → all? (strange? hex s all) v ≡ true → crosses hex s v 0 all ≡ true → readApart? all ≡ false
   strange-crosses v a e = crosses-used v 0 all e (λ i h u. read-no (idR hex s (getD v i 0)) all u (strange-parts (getD v i 0) (all-at (strange? hex s all) v i a h) .1))
@@ -264,7 +261,7 @@ module _ {hex : Bool} {s : Bytes} {all : List Rec} {v : Bytes} {own ins : List I
         record {
           within = u .within;
           whole = u .rest;
-          part = λ d q. x .part d (rest-is d ∙ more (same? d y) q);
+          part = λ d q. x .part d (rest-is d ∙ or-right (same? d y) q);
           odd = g .odd f;
           back = λ a. x .back (g .back f a);
           one = λ a d o n j. cases (same? d y) (λ q. g .one f a d (rw q) j) (λ q. x .one (g .back f a) d o (rest-is d ∙ rw q n) j);
@@ -290,7 +287,7 @@ over-start hex s all = record { part = λ _ e. e; odd = refl; none = λ _ x a n.
 
 over-go : {last hex : Bool} {s : Bytes} {all : List Rec} (r : Rec) (l : List Rec) {z z′ : List ℕ} {b : Bool} → Over hex s all (r ∷ l) z → Asked last hex s all (reads (r .body)) (inputs (r .body)) z b z′ → b ≡ true → Over hex s all l z′
 over-go r l w g f = record {
-  part = λ x e. w .part x (more (foreign? x r) e);
+  part = λ x e. w .part x (or-right (foreign? x r) e);
   odd = g .odd f;
   none = λ i x a n. cases (foreign? x r)
       (λ t. let p = foreign-parts x r t in g .one f i x (p .0) (p .1))

@@ -1,5 +1,6 @@
 -- The laws of the check's one pass: frames, counts, rules of one record and rising ids. Assumes nothing.
 use Rattle.queue.specs.Prelude.{_≡_, refl, ap, sym, _∙_, Bool, true, false, not, _&&_, _||_, List, [], _∷_, ℕ, _+_, _-_, _*_, _≤_, _<_, arith, eqb, length}
+use Rattle.queue.specs.Basics.{and-assoc}
 use Rattle.queue.specs.layout.FrameCodec.{idC}
 use Rattle.queue.specs.bytes.ViewAs.{view}
 use Rattle.queue.specs.check.FilterAs.{hashL, hashN, hasIn, NewSeen}
@@ -23,10 +24,6 @@ use Rattle.queue.specs.declared.check.rules.Query.the-variants.{Holders,
 use Rattle.queue.proofs.layout.TurnLaws.{ReadsForm}
 use Rattle.queue.proofs.check.FilterLaws.{Walk, walk-start, walk-new, walk-apart, walk-distinct}
 use Rattle.queue.proofs.check.ScanLaws.{Framing, frames-go, frames-short, frames-line, frames-end}
-
-and-assoc : (a b c : Bool) → ((a && b) && c) ≡ (a && (b && c))
-and-assoc true b c = refl
-and-assoc false b c = refl
 
 and-one : (a : Bool) → (a && true) ≡ a
 and-one true = refl

@@ -1,5 +1,6 @@
 -- The laws of the suspects: what a look through the rows says of the records, the loops that gather rows. Assumes nothing.
 use Rattle.queue.specs.Prelude.{_≡_, refl, ap, sym, _∙_, subst, Bool, true, false, not, _&&_, _||_, inl, inr, ⊎-elim, List, [], _∷_, _++_, ℕ, zero, suc, _+_, _-_, _≤_, _<_, arith, add-one, ltb, eqb, length, take, drop, getD, set, length-drop, length-append, drop-drop, take-all, take-at, take-suc-set, length-take-le, eqb-true, eqb-false, ne-eqb, ltb-true, ltb-false, lt-ltb, leb-true, le-leb}
+use Rattle.queue.specs.Basics.{or-right}
 use Rattle.queue.specs.Codec.{cases, encs, byteC, vecC}
 use Rattle.queue.specs.bytes.Parts.{part}
 use Rattle.queue.specs.Lists.{and-true, and-both}
@@ -104,11 +105,7 @@ module _ (hex : Bool) (s : Bytes) (v : List ℕ) where
       let x = getD v i 0 in
       let u = and-true (same? z (idR hex s x)) (ltb k (noR x)) q in
       f i h (rw (same-sym (idR hex s x) z, u .0)) (ltb-true k (noR x) (u .1))))
-      (λ _ t. meets-yes k ids t (λ i h a l. f i h (more (same? (idR hex s (getD v i 0)) z) a) l))
-    where
-      more : (a : Bool) {b : Bool} → b ≡ true → (a || b) ≡ true
-      more true e = refl
-      more false e = e
+      (λ _ t. meets-yes k ids t (λ i h a l. f i h (or-right (same? (idR hex s (getD v i 0)) z) a) l))
 
   crosses-no : (i : ℕ) → i < length v → (k : ℕ) (l : List Rec) → crosses hex s v k l ≡ false
       → count (hasIn (idR hex s (getD v i 0))) l ≤ count (hasIn (idR hex s (getD v i 0))) (drop (noR (getD v i 0) - k) l)
@@ -309,7 +306,7 @@ module _ {hex : Bool} {s : Bytes} {all : List Rec} {k : ℕ} {v : Bytes} {own : 
           record {
             within = u .within;
             whole = u .rest;
-            part = λ d q. x .part d (rest-is d ∙ more (same? y d) q);
+            part = λ d q. x .part d (rest-is d ∙ or-right (same? y d) q);
             size = g .size ∙ x .size;
             old = λ h m. g .old h (x .old h m);
             held = g .held f;
@@ -317,10 +314,6 @@ module _ {hex : Bool} {s : Bytes} {all : List Rec} {k : ℕ} {v : Bytes} {own : 
             one = λ a d o n m. split d n (λ q. g .one f a d q (x .old (hashL d) m)) (λ q. x .one (g .back f a) d o q m);
             new = λ d o n. split d n (λ q. g .new f d q) (λ q. g .old (hashL d) (x .new d o q));
           }
-        where
-          more : (a : Bool) {c : Bool} → c ≡ true → (a || c) ≡ true
-          more true e = refl
-          more false e = e
 
       pub noting-stop : {own′ : Id → Bool} → b ≡ false → Noted last hex s all k own′ t₀ z₀ b t′ z′
       noting-stop f = record {

@@ -1,5 +1,6 @@
 -- The front of an area as it is written, and a whole area written: records, front, zeros. Assumes nothing.
 use Rattle.queue.specs.Prelude.{_≡_, refl, ap, sym, _∙_, Bool, true, false, List, [], _∷_, _++_, append-assoc, ℕ, _+_, _-_, _≤_, arith, length, drop, take, replicate, take-all}
+use Rattle.queue.specs.Basics.{join-same, join-eight}
 use Rattle.queue.specs.Codec as codec
 use Rattle.queue.specs.Codec.{beC, pairC, mapC, optC, optEnc, vecC, encs}
 use Rattle.queue.specs.bytes.PutAs.{Put, splice, beLast}
@@ -30,10 +31,7 @@ pub limits-put : {d d₁ d₂ d₃ d₄ d₅ : Bytes} {at a b c e r : ℕ} (l : 
 limits-put l h w x y z v =
     let s = l .shares in
     let e : take 64 (drop 0 s) ≡ sharesBytes (numbers s) = take-all 64 s (omega (arith, h .long)) ∙ sym (shares-bytes s (h .long) (h .small)) in
-    recast (then (then (then (then w x) y) z) v) (two (four (be-same 4 (l .p) (h .p)) (be-same 4 (l .b) (h .b)) (be-same 4 (l .t) (h .t)) (be-same 4 (l .k) (h .k))) e ∙ sym (limits-plain newest (limitsIn l))) refl refl
-  where
-    two : {a a′ b b′ : Bytes} → a ≡ a′ → b ≡ b′ → a ++ b ≡ a′ ++ b′
-    two p q = rw (p, q)
+    recast (then (then (then (then w x) y) z) v) (join-same (four (be-same 4 (l .p) (h .p)) (be-same 4 (l .b) (h .b)) (be-same 4 (l .t) (h .t)) (be-same 4 (l .k) (h .k))) e ∙ sym (limits-plain newest (limitsIn l))) refl refl
 
 pub tip-put : {d d₁ d₂ : Bytes} {at a r : ℕ} {has : Bool} {id : Id} → has ≡ true → Put d at (1 ∷ []) 1 a d₁ → Put d₁ a id 32 r d₂ → Put d at (optC idC .enc (tipOf has id)) (tipSize has) r d₂
 unfolding optC optEnc idC vecC
@@ -50,10 +48,7 @@ head-enc h = refl
 eight : (c : Bytes) {a a′ d d′ e e′ f f′ g g′ h h′ i i′ : Bytes} → a ≡ a′ → d ≡ d′ → e ≡ e′ → f ≡ f′ → g ≡ g′ → h ≡ h′ → i ≡ i′
     → ((((((a ++ c) ++ d) ++ e) ++ f) ++ g) ++ h) ++ i ≡ a′ ++ (c ++ (d′ ++ (e′ ++ (f′ ++ (g′ ++ (h′ ++ i′))))))
 eight c {a} {a′} {d} {d′} {e} {e′} {f} {f′} {g} {g′} {h} {h′} {i} {i′} p q r s t u v =
-    cc (rejoin a′ c d′ e′ f′ g′ h′ i′)
-  where
-    rejoin : (a c d e f g h i : Bytes) → ((((((a ++ c) ++ d) ++ e) ++ f) ++ g) ++ h) ++ i ≡ a ++ (c ++ (d ++ (e ++ (f ++ (g ++ (h ++ i))))))
-    rejoin a c d e f g h i = simp append-assoc
+    cc (join-eight a′ c d′ e′ f′ g′ h′ i′)
 
 split-front : (l : Limits) (m : Marks) (tip : Id) → MarksFit m → startBytes l (m .persisted .0) (m .revision) ++ marksBytes m tip ≡ frontBytes l m tip
 unfolding frontBytes startBytes marksBytes

@@ -1,5 +1,6 @@
 -- The candidates of an area, the set's ids, and each exit of the search. Assumes nothing.
 use Rattle.queue.specs.Prelude.{_≡_, refl, ap, sym, _∙_, Bool, true, false, cond, not, some, List, [], _∷_, _++_, append-assoc, append-nil, ℕ, zero, suc, _+_, _-_, _*_, _/_, _%_, _^_, _≤_, _<_, arith, le-of-suc-le-suc, add-one, ltb, leb, eqb, length, take, drop, getD, set, length-append, length-set, length-take, drop-drop, drop-at, take-suc, take-suc-set, take-all, lt-ltb, le-ltb, le-leb, lt-leb, ltb-true, ltb-false, leb-true, leb-false, not-true, not-false}
+use Rattle.queue.specs.Basics.{cons-same}
 use Rattle.queue.specs.bytes.ListLaws.{sort-all}
 use Rattle.queue.specs.Codec as codec
 use Rattle.queue.specs.Codec.{All, cases, got, no-got, beC, be-fwd, be-length}
@@ -289,10 +290,7 @@ module _ (s : Bytes) (at : List ℕ) (few : length at ≤ 20) (all : All (Known 
       ids-of [] h = refl
       ids-of (p ∷ l) h =
           let e : idAt s (item at p) ≡ getD recs p noRec .id = known-at s at p all (h .0) .id ∙ ap (λ (r : Rec). r .id) (sym (getD-map (recAt s) at p noRec (h .0))) in
-          two e (ids-of l (h .1))
-        where
-          two : {x y : Id} {k m : List Id} → x ≡ y → k ≡ m → x ∷ k ≡ y ∷ m
-          two e f = cc
+          cons-same e (ids-of l (h .1))
 
       within-of : (l : List ℕ) → All (λ p. p < length at) l → All (λ p. p + 33 ≤ length s) (map (item at) l)
       within-of [] h = tt
@@ -371,10 +369,7 @@ pub rows-recs : (s : Bytes) (z : List Row) (l : List Rec) → RowsAs s z l → m
 rows-recs s [] [] h = refl
 rows-recs s [] (r ∷ l) h = absurd h
 rows-recs s (w ∷ z) [] h = absurd h
-rows-recs s (w ∷ z) (r ∷ l) h = two (row-rec (h .0)) (rows-recs s z l (h .1))
-  where
-    two : {x y : Rec} {k m : List Rec} → x ≡ y → k ≡ m → x ∷ k ≡ y ∷ m
-    two e f = cc
+rows-recs s (w ∷ z) (r ∷ l) h = cons-same (row-rec (h .0)) (rows-recs s z l (h .1))
 
 pub gathered-known : {s : Bytes} {l : List Rec} {room m : ℕ} {a b c : List ℕ} → Gathered s l room m a b c → All (λ w. Known s (w .1 .1)) (rows (take m a) (take m b) (take m c))
 gathered-known {s} {l} {room} {m} {a} {b} {c} g = rw (rows-take m a b c) (rows-known s (take m (rows a b c)) l (g .listed))

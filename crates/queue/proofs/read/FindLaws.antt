@@ -1,5 +1,6 @@
 -- The spot of an id among the records of an area, and the records with a new one there. Assumes nothing.
-use Rattle.queue.specs.Prelude.{_≡_, refl, ap, sym, _∙_, Bool, true, false, cond, not, Option, none, some, List, [], _∷_, _++_, append-assoc, append-nil, ℕ, zero, suc, _+_, _-_, _≤_, _<_, arith, length, drop, take, length-append, length-drop, take-append-drop, drop-drop, drop-at, eq-eqb, ne-eqb}
+use Rattle.queue.specs.Prelude.{_≡_, refl, ap, sym, _∙_, Bool, true, false, cond, not, Option, none, some, List, [], _∷_, _++_, append-assoc, append-nil, ℕ, zero, suc, _+_, _-_, _≤_, _<_, arith, length, drop, take, length-append, length-drop, take-append-drop, drop-drop, eq-eqb, ne-eqb}
+use Rattle.queue.specs.Basics.{join-same, join-four, drop-past}
 use Rattle.queue.specs.Codec.{All, encs}
 use Rattle.queue.specs.Lists.{Pairwise, all-map}
 use Rattle.queue.specs.bytes.PutAs.{Put}
@@ -162,8 +163,6 @@ split r (x ∷ l) at h = go (cmpL (r .id) (x .id)) refl (split r l (at + length 
         })
 
 -- ---- the bytes of the parts
-past : (s p q : Bytes) (k : ℕ) {j : ℕ} → j ≡ k + length p → drop k s ≡ p ++ q → drop j s ≡ q
-past s p q k {j} h e = ap (λ n. drop n s) h ∙ sym (drop-drop (length p) k s) ∙ ap (drop (length p)) e ∙ drop-at p q (length p) refl
 
 module _ {s : Bytes} {a : Area} (w : AreaIn s a) (r : Rec) {z : Id} (ri : r .id ≡ z) {x : Spot} (p : SpotIn s a z x) where
   parts : Split r (recsIn s a) (a .open .start) x
@@ -189,20 +188,14 @@ module _ {s : Bytes} {a : Area} (w : AreaIn s a) (r : Rec) {z : Id} (ri : r .id 
       let c : encs recC (w .q .recs) ≡ front ++ (mid ++ rear) =
       ap (encs recC) (sym (st .list) ∙ parts .list) ∙ encs-append (parts .before) (parts .old ++ parts .behind) ∙ ap (λ (k : Bytes). front ++ k) (encs-append (parts .old) (parts .behind)) in
       sym (take-append-drop (a .open .next - a .open .start) (drop (a .open .start) s))
-      ∙ two (recs-here (w .read) .0 ∙ c) (drop-drop (a .open .next - a .open .start) (a .open .start) s ∙ ap (λ k. drop k s) n)
-      ∙ rejoin front mid rear (drop (a .open .next) s)
-    where
-      two : {b b′ c c′ : Bytes} → b ≡ b′ → c ≡ c′ → b ++ c ≡ b′ ++ c′
-      two e f = cc
-
-      rejoin : (b c d e : Bytes) → (b ++ (c ++ d)) ++ e ≡ b ++ (c ++ (d ++ e))
-      rejoin b c d e = simp append-assoc
+      ∙ join-same (recs-here (w .read) .0 ∙ c) (drop-drop (a .open .next - a .open .start) (a .open .start) s ∙ ap (λ k. drop k s) n)
+      ∙ join-four front mid rear (drop (a .open .next) s)
 
   at-here : drop (x .at) s ≡ mid ++ (rear ++ drop (a .open .next) s)
-  at-here = past s front (mid ++ (rear ++ drop (a .open .next) s)) (a .open .start) (parts .here) all-here
+  at-here = drop-past s front (mid ++ (rear ++ drop (a .open .next) s)) (a .open .start) (parts .here) all-here
 
   next-here : drop (x .next) s ≡ rear ++ drop (a .open .next) s
-  next-here = past s mid (rear ++ drop (a .open .next) s) (x .at) (parts .next) at-here
+  next-here = drop-past s mid (rear ++ drop (a .open .next) s) (x .at) (parts .next) at-here
 
   -- where the parts begin and end, and how long the records are then
   pub among-fits : (a .open .start ≤ x .at) × (x .at ≤ x .next) × (x .next ≤ a .open .next) × (a .open .next ≤ length s)

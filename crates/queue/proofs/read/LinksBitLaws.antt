@@ -1,11 +1,11 @@
 -- The bits of words: one more is set, the lines of rows, the rows that a line names. Assumes nothing.
 use Rattle.queue.specs.Prelude.{_≡_, refl, ap, sym, _∙_, Bool, true, false, cond, _&&_, _||_, List, _∷_, ℕ, zero, suc, _+_, _-_, _*_, _/_, _%_, _^_, _≤_, _<_, max, arith, pow-suc, mod-lt, div-add-mod', div-lt-iff-lt-mul, max-zero, mul-comm, add-zero, suc-mul, mul-le-mul-right, add-one, ltb, leb, eqb, digits-div, digits-mod, bitOr, or-zero-r, length, getD, set, length-set, getD-set-same, getD-set-other, eqb-true, eqb-false, eq-eqb, ne-eqb, ltb-true, ltb-false, lt-ltb, le-ltb, leb-true, leb-false, le-leb, lt-leb}
+use Rattle.queue.specs.Basics.{any-append}
 use Rattle.queue.specs.Codec.{cases}
 use Rattle.queue.specs.check.SuspectsAs.{noR}
 use Rattle.queue.specs.paper.Lists.{any?}
 use Rattle.queue.specs.read.LinksAs.{bitL, bitAt, Joined, inLine, ones, wordOnes, kidsOf}
 use Rattle.queue.proofs.check.FilterLaws.{or-half, or-odd}
-use Rattle.queue.proofs.change.OwnLaws.{any-append}
 
 -- ---- a word
 or-right : (a : Bool) → (a || true) ≡ true

@@ -1,5 +1,6 @@
 -- Rows for what records want, in slots and in a table, and the bits that come of them. Assumes nothing.
 use Rattle.queue.specs.Prelude.{_≡_, refl, ap, sym, _∙_, Bool, true, false, not, _&&_, _||_, List, [], _∷_, _++_, ℕ, zero, suc, _+_, _-_, _/_, _%_, _≤_, _<_, arith, le-of-suc-le-suc, add-one, ltb, leb, eqb, length, drop, take, getD, set, length-set, length-take, List·getD-eq-default, length-take-le, drop-drop, getD-set-same, getD-set-other, take-suc, take-suc-set, take-all, getD-take, eqb-true, eqb-false, eq-eqb, ne-eqb, ltb-true, ltb-false, lt-ltb, le-ltb, leb-true, le-leb, lt-leb, not-true, not-false}
+use Rattle.queue.specs.Basics.{among-append, any-append}
 use Rattle.queue.specs.Codec.{All, cases}
 use Rattle.queue.specs.bytes.Parts.{part}
 use Rattle.queue.specs.Lists.{and-true, and-both}
@@ -22,8 +23,7 @@ use Rattle.queue.proofs.layout.TurnLaws.{Scan, start, here, on, ReadsRe
 use Rattle.queue.proofs.check.FilterLaws.{mark-size, mark-here, mark-old, slot-in}
 use Rattle.queue.proofs.check.SuspectsRowLaws.{id-long, any-none, any-some, later-no, later-yes, later-behind, rising}
 use Rattle.queue.proofs.check.SuspectsLaws.{id-bytes, all-at, all-append, shuffled-all}
-use Rattle.queue.proofs.change.TouchLaws.{among-append}
-use Rattle.queue.proofs.change.OwnLaws.{shuffled-any, any-append}
+use Rattle.queue.proofs.change.OwnLaws.{shuffled-any}
 use Rattle.queue.proofs.read.FeesLaws.{the-turn, rec-is, known-at}
 use Rattle.queue.proofs.read.LinksBitLaws.{or-no, or-group, spread, joined-none, joined-to, joined-then}
 

@@ -1,5 +1,6 @@
 -- The reading calls that write a piece for each record that passes. Assumes nothing.
 use Rattle.queue.specs.Prelude.{_≡_, refl, ap, sym, _∙_, Bool, true, false, cond, Option, none, some, List, [], _∷_, _++_, ℕ, _+_, _-_, _*_, _^_, _≤_, _<_, arith, length, take, drop, length-append, length-drop, length-take-le}
+use Rattle.queue.specs.Basics.{join-same}
 use Rattle.queue.specs.Codec as codec
 use Rattle.queue.specs.Codec.{cases}
 use Rattle.queue.specs.bytes.PutAs.{Put, beLast}
@@ -39,15 +40,12 @@ module _ {s : Bytes} {base m : ℕ} {ok : Bool} {y : Seen} {r : Rec} (h : base �
   pub piece-in : PieceIn s base y
   piece-in = record { id = id-here h x .1; up = place-here h x .0; entry = entry-in h x }
 
-  join : {a a′ b b′ : Bytes} → a ≡ a′ → b ≡ b′ → a ++ b ≡ a′ ++ b′
-  join p q = cc
-
   pub piece-is : (w : What) → pieceAt w s base y ≡ pieceOf w r
   unfolding pieceAt pieceOf dueAt
   piece-is Ids = id-here h x .0
   piece-is Guarded = id-here h x .0
-  piece-is (DueBy t u) = join (id-here h x .0) (state-here h x)
-  piece-is Confirmed = join (id-here h x .0) (place-here h x .1)
+  piece-is (DueBy t u) = join-same (id-here h x .0) (state-here h x)
+  piece-is Confirmed = join-same (id-here h x .0) (place-here h x .1)
   piece-is Entries = entry-is h x
 
   pub piece-size : (w : What) → length (pieceAt w s base y) ≡ pieceLen w y

@@ -1,7 +1,8 @@
 -- The reading calls: a search by id, what was looked up, and each exit. Assumes nothing.
 use Rattle.queue.specs.Prelude.{_≡_, refl, ap, sym, _∙_, Bool, true, false, _&&_, _||_, Option, none, some, List, [], _∷_, _++_, append-assoc, ℕ, _+_, _-_, _*_, _^_, _≤_, _<_, arith, zero-add, ltb, leb, eqb, length, drop, take, length-append, length-drop, drop-drop, take-all, take-at, drop-at, drop-append-le, length-take-le, eq-eqb, ne-eqb, lt-ltb, le-ltb}
+use Rattle.queue.specs.theorems.Bound.{bytes-most, number-most, place-most}
 use Rattle.queue.specs.Codec as codec
-use Rattle.queue.specs.Codec.{cases, Got, fail, got, decs, encs, byteC, beC, pairC, mapC, optC, vecC, countedC, vecMost, vec-bwd}
+use Rattle.queue.specs.Codec.{cases, Got, fail, got, decs, encs, beC, pairC, mapC, optC, vecC, countedC, vec-bwd}
 use Rattle.queue.specs.bytes.PutAs.{Put}
 use Rattle.queue.specs.theorems.Plain.{opt-plain, terms-plain, place-plain, ids-plain, id-plain, rec-plain, body-plain, head-plain}
 use Rattle.queue.specs.paper.Kinds.{newest}
@@ -276,15 +277,6 @@ place-part {s} {id} {x} p = go (x .answer) refl
     go (Done k) e = ap (λ n. take n (drop (x .start) s)) long ∙ ap (λ w. partIn s (w .1)) (p .done k (0, 0) e)
 
 -- ---- an entry
-bytes-most : (s : Bytes) → vecMost byteC s ≡ length s
-unfolding byteC
-bytes-most [] = refl
-bytes-most (b ∷ s) = let k = bytes-most s in omega arith
-
-number-most : (n : ℕ) (o : Option ℕ) → optC (beC n) .most o ≤ n + 1
-unfolding optC beC
-number-most n none = omega arith
-number-most n (some a) = omega arith
 
 label-most : (o : Option Bytes) → labelLen o < 256 → labelC .most o ≤ 257
 unfolding labelC optC countedC
@@ -298,11 +290,6 @@ terms-most t h =
     let b = number-most 4 (t .dueHeight) in
     let c = label-most (t .label) h in
     omega arith
-
-place-most : (o : Option (ℕ × Id)) → placeC .ok o → placeC .most o ≤ 37
-unfolding placeC optC pairC beC idC vecC
-place-most none h = omega arith
-place-most (some x) h = let e = bytes-most (x .1) in let k = h .1 .1 in omega arith
 
 pub record Parts (r : Rec) : Type 0 where
   pub id : length (r .id) ≡ 32
@@ -503,16 +490,16 @@ pub empty-is : (l : List Rec) {n : ℕ} → length l ≡ n → one (eqb n 0) ≡
 empty-is [] e = rw (← e)
 empty-is (r ∷ l) {n} e = rw (ne-eqb n 0 (λ z. absurd (let y : ⊥ = omega arith in y)))
 
+pub reached-is : (o : Option ℕ) (n : ℕ) → (isSome o && leb (optNum o) n) ≡ reached? o n
+reached-is none n = refl
+reached-is (some d) n = refl
+
 pub due-facts : (now height : ℕ) (r : Rec) → dueF now height (factsOf r) ≡ due? now height r
 unfolding dueF factsOf due?
 due-facts now height r = go (r .terms .due) (r .terms .dueHeight)
   where
-    reached : (o : Option ℕ) (n : ℕ) → (isSome o && leb (optNum o) n) ≡ reached? o n
-    reached none n = refl
-    reached (some d) n = refl
-
     go : (o p : Option ℕ) → (pending? (r .state) && ((isSome o && leb (optNum o) now) || (isSome p && leb (optNum p) height))) ≡ (pending? (r .state) && (reached? o now || reached? p height))
-    go o p = rw (reached o now, reached p height)
+    go o p = rw (reached-is o now, reached-is p height)
 
 pub due-sum : (t : Time) (h : Height) (l : List Rec) → ltb 0 (sum (Due t h) l) ≡ any? (due? (t .0) (h .0)) l
 unfolding sum weight

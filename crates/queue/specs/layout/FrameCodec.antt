@@ -1,5 +1,6 @@
 -- The frames of document 01's image and of the area as codecs, each under a header kind: a header, a record.
-use Rattle.queue.specs.Prelude.{_≡_, refl, Bool, true, false, cond, not, _&&_, _||_, Option, none, some, List, [], _∷_, _++_, ℕ, _+_, _-_, _%_, _^_, _<_, arith, ltb, leb, eqb, lt-ltb, le-ltb, ltb-true, ltb-false, leb-true, le-leb, eqb-true, eq-eqb}
+use Rattle.queue.specs.Prelude.{_≡_, refl, Bool, true, cond, not, _&&_, Option, none, some, List, [], _∷_, _++_, ℕ, _+_, _-_, _%_, _^_, _<_, arith, ltb, leb, eqb, lt-ltb, le-ltb, ltb-true, ltb-false, leb-true, le-leb, eqb-true, eq-eqb}
+use Rattle.queue.specs.Basics.{or-cases}
 use Rattle.queue.specs.Codec.{Got, fail, got, no-got, if-got, cases, Codec, byteC, beC, pairC, mapC, optC, vecC, countedC}
 use Rattle.queue.specs.layout.Choice.{pickC, sinceC, guardC, viaC, thenC}
 use Rattle.queue.specs.Lists.{and-true}
@@ -73,10 +74,6 @@ widen-low v h = cases (ltb v 2147483648)
     (λ e.
     let k = ltb-false v 2147483648 e in
     rw e (omega arith, (rw (le-ltb (v + 18446744069414584320) 2147483648 (omega arith), le-leb 18446744071562067968 (v + 18446744069414584320) (omega arith)), omega arith)))
-
-or-cases : {X : Type 0} (a b : Bool) → (a || b) ≡ true → (a ≡ true → X) → (b ≡ true → X) → X
-or-cases true b e f g = f refl
-or-cases false b e f g = g e
 
 pub low-widen : (w : ℕ) → Narrow w → (widen (low32 w) ≡ w) × (low32 w < 256 ^ 4)
 low-widen w h = or-cases (ltb w 2147483648) (leb 18446744071562067968 w) (h .0)
@@ -220,9 +217,6 @@ termsC = termsK newest
 
 abbrev pub restC : Codec (Option (ℕ × Id) × (ℕ × (ℕ × Option Held)))
 restC = restK newest
-
-abbrev pub heldC : Codec Held
-heldC = heldK newest
 
 abbrev pub bodyC : Codec (Option Held)
 bodyC = bodyK newest

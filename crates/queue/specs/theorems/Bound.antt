@@ -14,7 +14,7 @@ use Rattle.queue.specs.paper.Area.{areaBytes, imageUnder, imageBytes, ov
 use Rattle.queue.specs.paper.Kinds.{newest, kind?, says?}
 use Rattle.queue.specs.theorems.OlderKinds.{newest-says}
 
-bytes-most : (s : Bytes) → vecMost byteC s ≡ length s
+pub bytes-most : (s : Bytes) → vecMost byteC s ≡ length s
 unfolding byteC
 bytes-most [] = refl
 bytes-most (b ∷ s) = let k = bytes-most s in omega arith
@@ -27,7 +27,7 @@ ids-most : (l : List Id) → All (idC .ok) l → vecMost idC l ≡ 32 * length l
 ids-most [] h = refl
 ids-most (i ∷ l) h = let k = ids-most l (h .1) in let e = id-most i (h .0) in omega arith
 
-number-most : (n : ℕ) (o : Option ℕ) → optC (beC n) .most o ≤ n + 1
+pub number-most : (n : ℕ) (o : Option ℕ) → optC (beC n) .most o ≤ n + 1
 unfolding optC beC
 number-most n none = omega arith
 number-most n (some a) = omega arith
@@ -45,7 +45,7 @@ terms-most t h =
     let c = label-most (t .label) h in
     omega arith
 
-place-most : (o : Option (ℕ × Id)) → placeC .ok o → placeC .most o ≤ 37
+pub place-most : (o : Option (ℕ × Id)) → placeC .ok o → placeC .most o ≤ 37
 unfolding placeC optC pairC beC
 place-most none h = omega arith
 place-most (some x) h = let e = id-most (x .1) (h .1) in omega arith

@@ -1,6 +1,6 @@
 -- Filled from its answers by tools/proofkit.py: change those, and fill it again.
+use Rattle.queue.proofs.bytes.ViewLaws.{view-long}
 use Rattle.queue.proofs.change.AdmitExitLaws.{id-lent}
-use Rattle.queue.proofs.change.CallsLaws.{view-long}
 use borrow.Author.Needs.{needs}
 use native.Mathlib.Omega.{arith}
 use Rattle.queue.proofs.change.admit.lent_id.Statement.{statement}

@@ -1,6 +1,6 @@
 -- Filled from its answers by tools/proofkit.py: change those, and fill it again.
+use Rattle.queue.proofs.bytes.ViewLaws.{view-long}
 use Rattle.queue.proofs.change.CallsCancelLaws.{cancel-13, cancel-2, cancel-3, cancel-5, cancel-rest, find-asks, found-in}
-use Rattle.queue.proofs.change.CallsLaws.{view-long}
 use borrow.Author.Needs.{needs}
 use borrow.Author.Tests.{not-false, not-true}
 use native.Mathlib.Omega.{arith}

@@ -1,5 +1,6 @@
 -- Filled from its answers by tools/proofkit.py: change those, and fill it again.
-use Rattle.queue.proofs.change.CallsLaws.{cursor-2, cursor-3, cursor-5, cursor-5′, cursor-none, cursor-some, move-none, move-some, told-none, told-some, view-long}
+use Rattle.queue.proofs.bytes.ViewLaws.{view-long}
+use Rattle.queue.proofs.change.CallsLaws.{cursor-2, cursor-3, cursor-5, cursor-5′, cursor-none, cursor-some, move-none, move-some, told-none, told-some}
 use Rattle.queue.proofs.read.ReadingLaws.{key}
 use borrow.Author.Needs.{needs}
 use borrow.Author.Tests.{not-false, not-true}

@@ -1,5 +1,5 @@
 -- Filled from its answers by tools/proofkit.py: change those, and fill it again.
-use Rattle.queue.proofs.change.CallsLaws.{view-long}
+use Rattle.queue.proofs.bytes.ViewLaws.{view-long}
 use Rattle.queue.proofs.change.LentLaws.{Rising, rise-end, rise-go, rise-start, rise-stop}
 use borrow.Author.Needs.{needs}
 use mathlib.Core.Path.{_∙_, sym}

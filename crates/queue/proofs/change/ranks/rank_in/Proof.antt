@@ -1,6 +1,6 @@
 -- Filled from its answers by tools/proofkit.py: change those, and fill it again.
 use Prim.Native.Nat.{_-_}
-use Rattle.queue.proofs.change.CallsLaws.{view-long}
+use Rattle.queue.proofs.bytes.ViewLaws.{view-long}
 use Rattle.queue.proofs.change.RanksPlanLaws.{Ranking, rank-end, rank-few, rank-go, rank-room, rank-start, rank-stop}
 use borrow.Author.Needs.{needs}
 use lib.ListN.{length}

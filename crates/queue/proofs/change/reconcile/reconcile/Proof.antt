@@ -1,6 +1,6 @@
 -- Filled from its answers by tools/proofkit.py: change those, and fill it again.
+use Rattle.queue.proofs.bytes.ViewLaws.{view-long}
 use Rattle.queue.proofs.change.CallsExpireLaws.{area-in}
-use Rattle.queue.proofs.change.CallsLaws.{view-long}
 use Rattle.queue.proofs.change.ReconcileLaws.{lent-to, reconcile-2, reconcile-3, reconcile-5, reconcile-rest}
 use borrow.Author.Needs.{needs}
 use borrow.Author.Tests.{not-false, not-true}

@@ -1,5 +1,5 @@
 -- Filled from its answers by tools/proofkit.py: change those, and fill it again.
-use Rattle.queue.proofs.change.CallsLaws.{view-long}
+use Rattle.queue.proofs.bytes.ViewLaws.{view-long}
 use Rattle.queue.proofs.change.ReleaseLaws.{height-new, height-old}
 use borrow.Author.Needs.{needs}
 use native.Mathlib.Omega.{arith}

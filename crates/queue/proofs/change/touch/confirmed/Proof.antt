@@ -1,5 +1,5 @@
 -- Filled from its answers by tools/proofkit.py: change those, and fill it again.
-use Rattle.queue.proofs.change.CallsLaws.{view-long}
+use Rattle.queue.proofs.bytes.ViewLaws.{view-long}
 use Rattle.queue.proofs.change.TouchLaws.{place-room, placed-is, unmined, unplaced}
 use borrow.Author.Needs.{needs}
 use borrow.Author.Tests.{not-false, not-true}
