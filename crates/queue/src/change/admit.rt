@@ -31,6 +31,7 @@ use crate::layout::head::put_front;
 use crate::layout::head::tip_len;
 use crate::layout::limits::Limits;
 use crate::layout::reason;
+use crate::layout::records::Records;
 use crate::layout::state;
 use crate::read::entry::entry_len;
 use crate::read::entry::put_entry;
@@ -496,7 +497,11 @@ fn admit_named(
     let o = a.open;
     let h = o.head;
     let id = x.id;
-    let p = find_spot(cur, o.start, h.count, id);
+    let recs = Records {
+        start: o.start,
+        count: h.count,
+    };
+    let p = find_spot(cur, recs, id);
     if holder_at(cur, p) {
         return tell_old(cur, p.at, out);
     }

@@ -21,6 +21,7 @@ use crate::layout::frame::TERMS;
 use crate::layout::frame::Time;
 use crate::layout::frame::rec_at;
 use crate::layout::reason;
+use crate::layout::records::Records;
 use crate::layout::state;
 use crate::read::entry::entry_len;
 use crate::read::entry::put_entry;
@@ -141,7 +142,11 @@ pub fn cancel(cur: &[u8], next: &mut [u8], id: &[u8], out: &mut [u8]) -> Answer
     let k = id_at(id, false, 0, 0);
     let o = a.open;
     let h = o.head;
-    let f = find_id(cur, o.start, h.count, k);
+    let recs = Records {
+        start: o.start,
+        count: h.count,
+    };
+    let f = find_id(cur, recs, k);
     if !f.found {
         return Answer::Refused(refusal::NOT_FOUND);
     }
