@@ -7,6 +7,7 @@ use Rattle.queue.specs.bytes.PutAs.{Put, beLast}
 use Rattle.queue.specs.layout.FrameCodec.{recC}
 use Rattle.queue.specs.bytes.ReaderAs.{whole, listAt}
 use Rattle.queue.specs.layout.FormsCodec.{formC, queueC}
+use Rattle.queue.specs.layout.RecordsAs.{RecordsIn}
 use Rattle.queue.specs.Areas.{readArea}
 use Rattle.queue.specs.Lists.{all-map, total-split}
 use Rattle.queue.specs.theorems.AdmitKeeps.{held-split, weight-split}
@@ -14,7 +15,7 @@ use Rattle.queue.specs.change.CallsAs.{AreaIn}
 use Rattle.queue.specs.check.RulesAs.{weight, sum}
 use Rattle.queue.specs.bytes.ListLaws.{one-le}
 use Rattle.queue.specs.layout.HeadAs.{frontLen, tipOf, tipSize, frontBytes, queueOf}
-use Rattle.queue.specs.read.FindAs.{recsIn, SpotIn}
+use Rattle.queue.specs.read.FindAs.{recordsOf, recsIn, SpotIn}
 use Rattle.queue.specs.theorems.Plain.{rec-plain}
 use Rattle.queue.specs.change.PlanAs.{leadBytes}
 use Rattle.queue.specs.change.AdmitAs.{newOf, optLen, labelSize, termsLen, heldLen, newLen, newTerms, heldLent, TermsFit, HeldFit, withR, WithFrom, roomOf, PendingsAre, FullIs, RoomIs, entryNewLen}
@@ -199,8 +200,8 @@ module _ {s : Bytes} {a : Area} (w : AreaIn s a) where
   abbrev listed : List Rec
   listed = listAt (formC false recC) (a .open .head .count) s (a .open .start)
 
-  pub tally-asks : (a .open .start ≤ length s) × (whole (formC false recC) (a .open .head .count) s (a .open .start) ≡ true) × (a .open .head .count < 4294967296)
-  tally-asks = let g = w .read .store in (omega (arith, g .up, g .ends), g .all, g .head .countSmall)
+  pub tally-asks : RecordsIn (formC false recC) s (recordsOf a) × (a .open .head .count < 4294967296)
+  tally-asks = let g = w .read .store in ((omega (arith, g .up, g .ends), g .all), g .head .countSmall)
 
   pub many-is : {h g : ℕ} → h ≡ sum Holders (listAt (formC false recC) (a .open .head .count) s (a .open .start)) → g ≡ sum MinedHolders (listAt (formC false recC) (a .open .head .count) s (a .open .start)) → h ≡ pendings (w .q .recs) + g
   many-is e f =

@@ -8,8 +8,10 @@ use Rattle.queue.specs.bytes.PutAs.{Put, splice}
 use Rattle.queue.specs.layout.FrameCodec.{termsC, placeC, recC}
 use Rattle.queue.specs.bytes.Parts.{part}
 use Rattle.queue.specs.bytes.ViewAs.{view}
-use Rattle.queue.specs.bytes.ReaderAs.{whole, listAt}
+use Rattle.queue.specs.bytes.ReaderAs.{listAt}
 use Rattle.queue.specs.layout.FormsCodec.{formC}
+use Rattle.queue.specs.layout.RecordsAs.{RecordsIn}
+use Rattle.queue.specs.read.FindAs.{recordsOf}
 use Rattle.queue.specs.Areas.{readArea}
 use Rattle.queue.specs.theorems.Bound.{fits-need}
 use Rattle.queue.specs.theorems.SoundParts.{Fit, fit-sound, fit-ok}
@@ -59,7 +61,7 @@ module _ (cur next out id : Bytes) {a : Area} (i : AreaIs cur a) (t : a .ok ≡ 
     unfolding cancelOf
     cancel-5 n = let g = i .good t in rw (g .1, enough, ne-eqb (length id) 32 n)
 
-    pub find-asks : (a .open .start ≤ length cur) × (whole (formC false recC) (a .open .head .count) cur (a .open .start) ≡ true)
+    pub find-asks : RecordsIn (formC false recC) cur (recordsOf a)
     find-asks = let g = i .good t .2 .store in (omega (arith, g .up, g .ends), g .all)
 
     module _ (l : length id ≡ 32) {k : Id} (e : k ≡ part 32 (view false id 0) 0) {f : Found} (x : FoundAs cur f (find (named? k) (listAt (formC false recC) (a .open .head .count) cur (a .open .start)))) where

@@ -8,6 +8,8 @@ use Rattle.queue.specs.layout.FrameCodec.{recC}
 use Rattle.queue.specs.bytes.ReaderAs.{whole, listAt}
 use Rattle.queue.specs.bytes.ReaderLaws.{Turn, none-left}
 use Rattle.queue.specs.layout.FormsCodec.{areaForm, formC, turn-in, ok-queue, ok-store, storeOf}
+use Rattle.queue.specs.layout.RecordsAs.{RecordsIn}
+use Rattle.queue.specs.read.FindAs.{recordsOf}
 use Rattle.queue.specs.Areas.{readArea}
 use Rattle.queue.specs.theorems.Bound.{fits-need}
 use Rattle.queue.specs.theorems.SoundParts.{Fit, Right, fit-sound, fit-ok}
@@ -118,7 +120,7 @@ pub area-in : {cur : Bytes} {a : Area} → AreaIs cur a → a .ok ≡ true → A
 area-in i t = let g = i .good t in record { q = g .0; is = g .1; read = g .2 }
 
 module _ {s : Bytes} {a : Area} (w : AreaIn s a) where
-  pub hits-asks : (a .open .start ≤ length s) × (whole (formC false recC) (a .open .head .count) s (a .open .start) ≡ true)
+  pub hits-asks : RecordsIn (formC false recC) s (recordsOf a)
   hits-asks = let g = w .read .store in (omega (arith, g .up, g .ends), g .all)
 
   ids-32 : All (λ r. length (r .id) ≡ 32) (w .q .recs)

@@ -30,9 +30,10 @@ use crate::layout::head::Marks;
 use crate::layout::head::put_front;
 use crate::layout::head::tip_len;
 use crate::layout::reason;
+use crate::layout::records::Records;
 use crate::layout::state;
 ghost use mathlib.Core.Path.{_≡_};
-ghost use mathlib.Core.Bool.{true, false};
+ghost use mathlib.Core.Bool.{false};
 ghost use mathlib.Core.List.{[]};
 ghost use mathlib.Core.Logic.{_⊎_};
 ghost use Prim.Native.Nat.{ℕ, _+_, _*_, _/_, _≤_, _<_};
@@ -406,7 +407,11 @@ fn floor_of(s: &[u8], a: Area, m: u64) -> Finish
     if h.count - u.holders + m <= l.t {
         return Finish(0);
     }
-    floor(s, x.start, h.count, n, m, l.t)
+    let recs = Records {
+        start: x.start,
+        count: h.count,
+    };
+    floor(s, recs, n, m, l.t)
 }
 
 // The front of a queue that is committed with m records finished and so many kept, under the cursor that it has.

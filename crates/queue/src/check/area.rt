@@ -17,6 +17,7 @@ use crate::layout::frame::Height;
 use crate::layout::frame::head_at;
 use crate::layout::frame::num;
 use crate::layout::limits::Limits;
+use crate::layout::records::Records;
 ghost use mathlib.Core.Path.{_≡_};
 ghost use mathlib.Core.Bool.{true, false, _&&_};
 ghost use Prim.Native.Nat.{_+_, _-_, _*_, _≤_, _<_};
@@ -137,7 +138,11 @@ pub fn sound_at(s: &[u8], form: Form, x: Open) -> bool
     if both(a.clear, a.unread) {
         return true;
     }
-    let d = distinct(s, form, x.start, h.count, h.count - a.holders);
+    let recs = Records {
+        start: x.start,
+        count: h.count,
+    };
+    let d = distinct(s, form, recs, h.count - a.holders);
     let o = apart(s, form, x.start, h.count, a.unread, a.inputs <= 8192);
     both(d, o)
 }

@@ -23,6 +23,7 @@ use crate::layout::frame::Seen;
 use crate::layout::frame::id_read;
 use crate::layout::frame::rec_at;
 use crate::layout::frame::rec_in;
+use crate::layout::records::Records;
 ghost use mathlib.Core.Path.{_≡_};
 ghost use mathlib.Core.Bool.{true, false, _&&_};
 ghost use Prim.Native.Nat.{_+_, _-_, _*_, _≤_, _<_};
@@ -32,6 +33,7 @@ ghost use Rattle.queue.specs.layout.FrameCodec.{recC, idC};
 ghost use Rattle.queue.specs.layout.FormsCodec.{formC, recIn};
 ghost use Rattle.queue.specs.bytes.ViewAs.{view};
 ghost use Rattle.queue.specs.bytes.ReaderAs.{whole, listAt};
+ghost use Rattle.queue.specs.layout.RecordsAs.{RecordsIn, recsAt};
 ghost use Rattle.queue.specs.check.RulesAs.{sum};
 ghost use Rattle.queue.specs.check.ScanAs.{noSums, Under, SumsAdded, unread?, Checked};
 ghost use Rattle.queue.specs.check.FilterAs.{hashL, hashN, heldBy, Passed, New, NewSeen};
@@ -46,12 +48,12 @@ pub struct Span {
 }
 
 // What the records count for, for one question.
-pub fn tally(s: &[u8], at: usize, n: u64, q: Query) -> u64
-    requires { ⌜ (at ≤ length (now s)) × (whole (formC false recC) n (now s) at ≡ true) × (n < 4294967296) ⌝ }
-    ensures { λ r. ⌜ (r ≡ sum q (listAt (formC false recC) n (now (s .entry)) at)) × (r ≤ n * 4294967295) ⌝ }
+pub fn tally(s: &[u8], recs: Records, q: Query) -> u64
+    requires { ⌜ RecordsIn (formC false recC) (now s) recs × (recs .count < 4294967296) ⌝ }
+    ensures { λ r. ⌜ (r ≡ sum q (recsAt (formC false recC) (now (s .entry)) recs)) × (r ≤ recs .count * 4294967295) ⌝ }
 {
-    let mut i = at;
-    let mut left = n;
+    let mut i = recs.start;
+    let mut left = recs.count;
     let mut total: u64 = 0;
     while 0 < left {
         let x = rec_at(s, i);

@@ -169,7 +169,11 @@ pub fn deadline_due(area: &[u8], time: Time, height: Height, value: &mut u64) ->
     }
     let o = a.open;
     let h = o.head;
-    let n = tally(area, o.start, h.count, Query::Due(time, height));
+    let recs = Records {
+        start: o.start,
+        count: h.count,
+    };
+    let n = tally(area, recs, Query::Due(time, height));
     *value = one_if(0 < n);
     Answer::Done(Kind::Nothing)
 }

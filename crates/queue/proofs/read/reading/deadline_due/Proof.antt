@@ -23,7 +23,7 @@ returns : tie.Need-returns
 returns c = number-3 (λ q. one (deadlineDue? (c .before .before .before .before .args .time .0) (c .before .before .before .before .args .height .0) q)) (c .before .before .before .before .args .area .now) (c .before .before .before .before .args .value .now) (c .before .before .area-at .ensures) (not-true _ (c .if1 .taken))
 
 tally-requires : tie.Need-tally-requires
-tally-requires c κs = let w = c .before .before .before .before .area-at .ensures .good (not-false _ (c .before .before .if1 .left)) .2 .store in (omega (arith, w .up, w .ends), w .all, w .head .countSmall)
+tally-requires c κs = let w = c .before .before .before .before .area-at .ensures .good (not-false _ (c .before .before .if1 .left)) .2 .store in ((omega (arith, w .up, w .ends), w .all), w .head .countSmall)
 
 one-if-requires : tie.Need-one-if-requires
 one-if-requires c κs = search needs
