@@ -97,7 +97,11 @@ pub fn store_at(s: &[u8], form: Form, base: usize) -> Open
     let start = after_in(s, hex, base, h.size);
     let c = h.counter;
     let l = h.limits;
-    let p = frames(s, form, start, h.count, l.k, c);
+    let recs = Records {
+        start: start,
+        count: h.count,
+    };
+    let p = frames(s, form, recs, l.k, c);
     let a = p.sums;
     Open {
         ok: p.ok,
@@ -143,7 +147,7 @@ pub fn sound_at(s: &[u8], form: Form, x: Open) -> bool
         count: h.count,
     };
     let d = distinct(s, form, recs, h.count - a.holders);
-    let o = apart(s, form, x.start, h.count, a.unread, a.inputs <= 8192);
+    let o = apart(s, form, recs, a.unread, a.inputs <= 8192);
     both(d, o)
 }
 

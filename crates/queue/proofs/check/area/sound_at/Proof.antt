@@ -54,7 +54,7 @@ distinct-requires : tie.Need-distinct-requires
 distinct-requires c κs = ((c .before .before .before .before .before .before .before .before .before .before .before .before .before .before .pre .0, c .before .before .before .before .before .before .before .before .before .before .before .before .before .before .pre .2), tombs-are (limitsIn (c .before .before .before .before .before .before .before .before .before .before .before .before .before .before .args .x .head .limits)) _ _ _ _ (c .before .before .before .before .before .before .before .before .before .before .before .before .before .before .pre .3) (len ((c .before .before .before .before .before .before .before .before .before .before .before .before .before .before))), few-tombs (limitsIn (c .before .before .before .before .before .before .before .before .before .before .before .before .before .before .args .x .head .limits)) _ _ _ _ (c .before .before .before .before .before .before .before .before .before .before .before .before .before .before .pre .3) (len ((c .before .before .before .before .before .before .before .before .before .before .before .before .before .before))) (sym (c .before .before .before .before .before .before .before .before .before .right .ensures) ∙ not-false _ (c .before .before .before .before .before .before .before .before .if1 .left)) (c .before .before .before .before .before .before .before .counts-ok .ensures) (not-false _ (c .before .before .before .before .before .before .if2 .left)))
 
 apart-requires : tie.Need-apart-requires
-apart-requires c κs = (c .before .before .before .before .before .before .before .before .before .before .before .before .before .before .before .before .pre .0, c .before .before .before .before .before .before .before .before .before .before .before .before .before .before .before .before .pre .2, λ e. sym (c .before .before .before .before .before .before .before .before .before .before .before .before .before .before .before .before .pre .3 .unread) ∙ e)
+apart-requires c κs = ((c .before .before .before .before .before .before .before .before .before .before .before .before .before .before .before .before .pre .0, c .before .before .before .before .before .before .before .before .before .before .before .before .before .before .before .before .pre .2), λ e. sym (c .before .before .before .before .before .before .before .before .before .before .before .before .before .before .before .before .pre .3 .unread) ∙ e)
 
 both-requires-3 : tie.Need-both-requires-3
 both-requires-3 c κs = search needs
