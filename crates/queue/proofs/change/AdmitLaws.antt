@@ -5,7 +5,7 @@ use Rattle.queue.specs.Codec as codec
 use Rattle.queue.specs.Codec.{cases, encs, be-length}
 use Rattle.queue.specs.bytes.PutAs.{Put, beLast}
 use Rattle.queue.specs.layout.FrameCodec.{recC}
-use Rattle.queue.specs.bytes.ReaderAs.{whole, listAt}
+use Rattle.queue.specs.bytes.ReaderAs.{listAt}
 use Rattle.queue.specs.layout.FormsCodec.{formC, queueC}
 use Rattle.queue.specs.layout.RecordsAs.{RecordsIn}
 use Rattle.queue.specs.Areas.{readArea}
@@ -35,7 +35,7 @@ use Rattle.queue.proofs.bytes.PutLaws.{then, recast}
 use Rattle.queue.proofs.bytes.PutByteLaws.{be-same}
 use Rattle.queue.proofs.read.FindLaws.{among-many}
 use Rattle.queue.proofs.layout.HeadLaws.{area-done}
-use Rattle.queue.proofs.check.AreaLaws.{holders-sum, bytes-sum, mined-sum, minedBytes-sum}
+use Rattle.queue.proofs.check.AreaLaws.{holders-sum, bytes-sum, mined-sum, minedBytes-sum, recs-stand}
 use Rattle.queue.proofs.change.WriteLaws.{fit, one-queue, same-queue, the-limits, shares-sixteen, queue-long}
 use Rattle.queue.proofs.change.ReopenLaws.{pieces-join, pieces-many}
 
@@ -201,7 +201,7 @@ module _ {s : Bytes} {a : Area} (w : AreaIn s a) where
   listed = listAt (formC false recC) (a .open .head .count) s (a .open .start)
 
   pub tally-asks : RecordsIn (formC false recC) s (recordsOf a) × (a .open .head .count < 4294967296)
-  tally-asks = let g = w .read .store in ((omega (arith, g .up, g .ends), g .all), g .head .countSmall)
+  tally-asks = let g = w .read .store in (recs-stand g, g .head .countSmall)
 
   pub many-is : {h g : ℕ} → h ≡ sum Holders (listAt (formC false recC) (a .open .head .count) s (a .open .start)) → g ≡ sum MinedHolders (listAt (formC false recC) (a .open .head .count) s (a .open .start)) → h ≡ pendings (w .q .recs) + g
   many-is e f =

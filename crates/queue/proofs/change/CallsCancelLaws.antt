@@ -36,6 +36,7 @@ use Rattle.queue.specs.declared.layout.frame.Seen.{Seen}
 use Rattle.queue.specs.declared.check.area.Area.{Area}
 use Rattle.queue.specs.declared.read.find.Found.{Found}
 use Rattle.queue.specs.declared.change.finish.Change.the-variants.{Named}
+use Rattle.queue.proofs.check.AreaLaws.{recs-stand}
 use Rattle.queue.proofs.layout.FrameLaws.{caller-byte}
 use Rattle.queue.proofs.layout.TurnLaws.{SeenIn, ReadsRec}
 use Rattle.queue.proofs.bytes.PutLaws.{over-splice}
@@ -62,7 +63,7 @@ module _ (cur next out id : Bytes) {a : Area} (i : AreaIs cur a) (t : a .ok ≡ 
     cancel-5 n = let g = i .good t in rw (g .1, enough, ne-eqb (length id) 32 n)
 
     pub find-asks : RecordsIn (formC false recC) cur (recordsOf a)
-    find-asks = let g = i .good t .2 .store in (omega (arith, g .up, g .ends), g .all)
+    find-asks = recs-stand (i .good t .2 .store)
 
     module _ (l : length id ≡ 32) {k : Id} (e : k ≡ part 32 (view false id 0) 0) {f : Found} (x : FoundAs cur f (find (named? k) (listAt (formC false recC) (a .open .head .count) cur (a .open .start)))) where
       in-queue : listAt (formC false recC) (a .open .head .count) cur (a .open .start) ≡ i .good t .0 .recs

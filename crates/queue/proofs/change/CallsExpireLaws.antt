@@ -33,6 +33,7 @@ use Rattle.queue.specs.declared.layout.frame.Height.{Height}
 use Rattle.queue.specs.declared.check.area.Area.{Area}
 use Rattle.queue.specs.declared.change.finish.Change.{Change}
 use Rattle.queue.specs.declared.change.finish.Change.the-variants.{Due}
+use Rattle.queue.proofs.check.AreaLaws.{recs-stand}
 use Rattle.queue.proofs.layout.TurnLaws.{SeenIn, ReadsRec}
 use Rattle.queue.proofs.bytes.PutLaws as puts
 use Rattle.queue.proofs.bytes.PutLaws.{Left, begun, onward, kept, then, over-splice}
@@ -121,7 +122,7 @@ area-in i t = let g = i .good t in record { q = g .0; is = g .1; read = g .2 }
 
 module _ {s : Bytes} {a : Area} (w : AreaIn s a) where
   pub hits-asks : RecordsIn (formC false recC) s (recordsOf a)
-  hits-asks = let g = w .read .store in (omega (arith, g .up, g .ends), g .all)
+  hits-asks = recs-stand (w .read .store)
 
   ids-32 : All (λ r. length (r .id) ≡ 32) (w .q .recs)
   ids-32 = all-map (w .q .recs) id-32 (ok-store areaForm (storeOf (w .q)) (ok-queue (w .q) (w .read .range) .1) .1)

@@ -26,6 +26,7 @@ use Rattle.queue.specs.paper.Kinds.{newest}
 use Rattle.queue.specs.declared.layout.frame.HeadR.{HeadR}
 use Rattle.queue.specs.declared.check.area.Area.{Area}
 use Rattle.queue.specs.declared.layout.head.Marks.{Marks}
+use Rattle.queue.proofs.check.AreaLaws.{recs-stand}
 use Rattle.queue.proofs.bytes.PutByteLaws.{between}
 use Rattle.queue.proofs.layout.LimitsLaws.{sixteen}
 use Rattle.queue.proofs.layout.HeadLaws.{head-enc, front-enc}
@@ -158,4 +159,4 @@ floor-needs {s} {a} {q} w g h k =
     let st = w .store in
     let f = fit w in
     let t = head-T (st .head) in
-    ((omega (arith, st .up, st .ends), st .all), st .head .countSmall, h, k, omega (arith, f .sound .range .T-low), st .head .fit .t, rw (st .list, ← (st .head .counter)) (all-stamps _ _ (q .recs) (f .sound .right)), rw (st .list) (omega (arith, f .sound .fewTombs, f .sound .range .T-high)))
+    (recs-stand st, st .head .countSmall, h, k, omega (arith, f .sound .range .T-low), st .head .fit .t, rw (st .list, ← (st .head .counter)) (all-stamps _ _ (q .recs) (f .sound .right)), rw (st .list) (omega (arith, f .sound .fewTombs, f .sound .range .T-high)))

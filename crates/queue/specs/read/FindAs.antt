@@ -2,7 +2,7 @@
 use Rattle.queue.specs.Prelude.{_≡_, Bool, true, false, cond, some, List, [], _∷_, ℕ, _+_, eqb, length}
 use Rattle.queue.specs.layout.FrameCodec.{recC}
 use Rattle.queue.specs.layout.FormsCodec.{formC}
-use Rattle.queue.specs.layout.RecordsAs.{recsAt}
+use Rattle.queue.specs.layout.RecordsAs.{records, recsAt}
 use Rattle.queue.specs.read.ReadingAs.{Here}
 use Rattle.queue.specs.paper.Records.{Bytes, Id, Rec}
 use Rattle.queue.specs.paper.Lists.{find}
@@ -29,7 +29,7 @@ pub record SpotAs (s : Bytes) (z : Id) (at : ℕ) (l : List Rec) (x : Spot) : Ty
 
 -- where the records of an area stand, and which they are
 abbrev pub recordsOf : Area → Records
-recordsOf a = record { start = a .open .start; count = a .open .head .count }
+recordsOf a = records (a .open .start) (a .open .head .count)
 
 abbrev pub recsIn : Bytes → Area → List Rec
 recsIn s a = recsAt (formC false recC) s (recordsOf a)

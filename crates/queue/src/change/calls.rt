@@ -219,7 +219,7 @@ fn put_id_if(hit: bool, id: [u8; 32], dst: &mut [u8], at: usize) -> usize
     at
 }
 
-// The ids of those picked, of the records, to place `to` of dst.
+// The ids of those of the records that are picked, to place `to` of dst.
 fn put_picked(s: &[u8], recs: Records, c: Change, id: [u8; 32], dst: &mut [u8], to: usize) -> usize
     requires { ⌜ RecordsIn (formC false recC) (now s) recs × (to + length (concat (pickedIds c id (recsAt (formC false recC) (now s) recs))) ≤ length (now dst)) ⌝ }
     ensures { λ r. ⌜ Put (now (dst .entry)) to (concat (pickedIds c id (recsAt (formC false recC) (now (s .entry)) recs))) (length (concat (pickedIds c id (recsAt (formC false recC) (now (s .entry)) recs)))) r (now (dst .exit)) ⌝ }

@@ -80,7 +80,7 @@ fn confirmed(s: &[u8], base: usize, x: Seen, t: &[u8], p: usize) -> bool
     both(h.0 == n, cmp_id(a, b) == 1)
 }
 
-// Is the id an output of a Queued record, of the records?
+// Is the id an output of a Queued one of the records?
 fn is_output(s: &[u8], recs: Records, id: [u8; 32]) -> bool
     requires { ⌜ RecordsIn (formC false recC) (now s) recs ⌝ }
     ensures { λ r. ⌜ r ≡ among? id (queuedOutputs (recsAt (formC false recC) (now (s .entry)) recs)) ⌝ }
@@ -189,7 +189,7 @@ fn pending_verdict(fine: bool, f: Facts) -> u64
     verdict::CONFLICTED
 }
 
-// The verdict on the record read at base, of the records; the flags of the ids that it wants begin at g, where there are
+// The verdict on the one of the records that was read at base; the flags of the ids that it wants begin at g, where there are
 // flags.
 // In one number: what, and four times the number of the applied entry.
 fn touched(

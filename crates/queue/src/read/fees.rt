@@ -349,8 +349,8 @@ fn best_select(
     places: &mut [usize],
     out: &mut [u8],
 ) -> Answer
-    requires { ⌜ RecordsIn (formC false recC) (now s) recs × Even 2048 (now ranks) (now times) (now places) × (length (chosen (time .0) (height .0) (now s) (recs .count) (recs .start)) ≤ 2048) × Pairwise Before (chosen (time .0) (height .0) (now s) (recs .count) (recs .start)) × (0 < budget) × (budget ≤ 2097151) ⌝ }
-    ensures { λ r. ⌜ written r (now (out .exit)) ≡ searchOf (take 20 (sort first? (chosen (time .0) (height .0) (now (s .entry)) (recs .count) (recs .start)))) limit budget (now (out .entry)) ⌝ }
+    requires { ⌜ RecordsIn (formC false recC) (now s) recs × Even 2048 (now ranks) (now times) (now places) × (length (chosen (time .0) (height .0) (now s) recs) ≤ 2048) × Pairwise Before (chosen (time .0) (height .0) (now s) recs) × (0 < budget) × (budget ≤ 2097151) ⌝ }
+    ensures { λ r. ⌜ written r (now (out .exit)) ≡ searchOf (take 20 (sort first? (chosen (time .0) (height .0) (now (s .entry)) recs))) limit budget (now (out .entry)) ⌝ }
 {
     let m = gather(s, recs, time, height, ranks, times, places);
     best_rows(

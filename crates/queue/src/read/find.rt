@@ -17,7 +17,7 @@ pub struct Found {
     pub at: usize,
 }
 
-// The record with this id, of the records of an area.
+// The record with this id among the records of an area.
 pub fn find_id(s: &[u8], recs: Records, id: [u8; 32]) -> Found
     requires { ⌜ RecordsIn (formC false recC) (now s) recs ⌝ }
     ensures { λ r. ⌜ FoundAs (now (s .entry)) r (find (named? id) (recsAt (formC false recC) (now (s .entry)) recs)) × FoundEnd id (recs .start) (recsAt (formC false recC) (now (s .entry)) recs) r ⌝ }

@@ -312,8 +312,8 @@ fn parents_select(
     places: &mut [usize],
     out: &mut [u8],
 ) -> Answer
-    requires { ⌜ RecordsIn (formC false recC) (now s) recs × Even 2048 (now ranks) (now times) (now places) × (length (chosen (time .0) (height .0) (now s) (recs .count) (recs .start)) ≤ 2048) × Pairwise Before (chosen (time .0) (height .0) (now s) (recs .count) (recs .start)) × All Modest (chosen (time .0) (height .0) (now s) (recs .count) (recs .start)) × (length (now s) < 4294967296) ⌝ }
-    ensures { λ r. ⌜ written r (now (out .exit)) ≡ toldOut (idsBytes (map (λ r. r .id) (parentsFirst waitsFor? (sort first? (chosen (time .0) (height .0) (now (s .entry)) (recs .count) (recs .start)))))) (now (out .entry)) ⌝ }
+    requires { ⌜ RecordsIn (formC false recC) (now s) recs × Even 2048 (now ranks) (now times) (now places) × (length (chosen (time .0) (height .0) (now s) recs) ≤ 2048) × Pairwise Before (chosen (time .0) (height .0) (now s) recs) × All Modest (chosen (time .0) (height .0) (now s) recs) × (length (now s) < 4294967296) ⌝ }
+    ensures { λ r. ⌜ written r (now (out .exit)) ≡ toldOut (idsBytes (map (λ r. r .id) (parentsFirst waitsFor? (sort first? (chosen (time .0) (height .0) (now (s .entry)) recs))))) (now (out .entry)) ⌝ }
 {
     let m = gather(s, recs, time, height, ranks, times, places);
     parents_rows(s, &mut ranks[..m], &mut times[..m], &mut places[..m], out)
