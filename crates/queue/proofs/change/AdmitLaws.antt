@@ -1,6 +1,7 @@
 -- Admission: a new record's bytes, room for it, and the area with it. Assumes nothing.
 use Rattle.queue.specs.Prelude.{_≡_, refl, ap, sym, _∙_, Bool, true, false, cond, _&&_, some, List, [], _∷_, _++_, append-assoc, ℕ, suc, _+_, _-_, _/_, _%_, _^_, _≤_, _<_, arith, div-add-mod', leb, eqb, length, drop, take, replicate, length-append, getD, take-all, lt-ltb, le-ltb, le-leb, lt-leb, eq-eqb, ne-eqb}
 use Rattle.queue.specs.layout.FrameAs.{termsAt, factsOf, limitsIn, head-P, head-B}
+use Rattle.queue.specs.check.AreaAs.{recordsOf}
 use Rattle.queue.specs.Codec as codec
 use Rattle.queue.specs.Codec.{cases, encs, be-length}
 use Rattle.queue.specs.bytes.PutAs.{Put, beLast}
@@ -15,7 +16,7 @@ use Rattle.queue.specs.change.CallsAs.{AreaIn}
 use Rattle.queue.specs.check.RulesAs.{weight, sum}
 use Rattle.queue.specs.bytes.ListLaws.{one-le}
 use Rattle.queue.specs.layout.HeadAs.{frontLen, tipOf, tipSize, frontBytes, queueOf}
-use Rattle.queue.specs.read.FindAs.{recordsOf, recsIn, SpotIn}
+use Rattle.queue.specs.read.FindAs.{recsIn, SpotIn}
 use Rattle.queue.specs.theorems.Plain.{rec-plain}
 use Rattle.queue.specs.change.PlanAs.{leadBytes}
 use Rattle.queue.specs.change.AdmitAs.{newOf, optLen, labelSize, termsLen, heldLen, newLen, newTerms, heldLent, TermsFit, HeldFit, withR, WithFrom, roomOf, PendingsAre, FullIs, RoomIs, entryNewLen}
@@ -200,7 +201,7 @@ module _ {s : Bytes} {a : Area} (w : AreaIn s a) where
   abbrev listed : List Rec
   listed = listAt (formC false recC) (a .open .head .count) s (a .open .start)
 
-  pub tally-asks : RecordsIn (formC false recC) s (recordsOf a) × (a .open .head .count < 4294967296)
+  pub tally-asks : RecordsIn (formC false recC) s (recordsOf (a .open)) × (a .open .head .count < 4294967296)
   tally-asks = let g = w .read .store in (recs-stand g, g .head .countSmall)
 
   pub many-is : {h g : ℕ} → h ≡ sum Holders (listAt (formC false recC) (a .open .head .count) s (a .open .start)) → g ≡ sum MinedHolders (listAt (formC false recC) (a .open .head .count) s (a .open .start)) → h ≡ pendings (w .q .recs) + g

@@ -11,14 +11,13 @@ use Rattle.queue.specs.bytes.ViewAs.{view}
 use Rattle.queue.specs.bytes.ReaderAs.{listAt}
 use Rattle.queue.specs.layout.FormsCodec.{formC}
 use Rattle.queue.specs.layout.RecordsAs.{RecordsIn}
-use Rattle.queue.specs.read.FindAs.{recordsOf}
 use Rattle.queue.specs.Areas.{readArea}
 use Rattle.queue.specs.theorems.Bound.{fits-need}
 use Rattle.queue.specs.theorems.SoundParts.{Fit, fit-sound, fit-ok}
 use Rattle.queue.specs.theorems.CallsKeeps.{leaves-kept, named-once, cancel-leaves}
 use Rattle.queue.specs.theorems.Plain.{terms-plain, place-plain}
 use Rattle.queue.specs.layout.FrameAs.{termsAt, factsOf}
-use Rattle.queue.specs.check.AreaAs.{AreaIs}
+use Rattle.queue.specs.check.AreaAs.{AreaIs, recordsOf}
 use Rattle.queue.specs.change.FinishAs.{picked}
 use Rattle.queue.specs.read.ReadingAs.{FoundAs, EntryIn, entryAt, entryLen}
 use Rattle.queue.specs.change.WriteAs.{ended, EndedFrom, EndedTo}
@@ -62,7 +61,7 @@ module _ (cur next out id : Bytes) {a : Area} (i : AreaIs cur a) (t : a .ok ≡ 
     unfolding cancelOf
     cancel-5 n = let g = i .good t in rw (g .1, enough, ne-eqb (length id) 32 n)
 
-    pub find-asks : RecordsIn (formC false recC) cur (recordsOf a)
+    pub find-asks : RecordsIn (formC false recC) cur (recordsOf (a .open))
     find-asks = recs-stand (i .good t .2 .store)
 
     module _ (l : length id ≡ 32) {k : Id} (e : k ≡ part 32 (view false id 0) 0) {f : Found} (x : FoundAs cur f (find (named? k) (listAt (formC false recC) (a .open .head .count) cur (a .open .start)))) where

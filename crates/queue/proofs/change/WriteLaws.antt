@@ -9,10 +9,10 @@ use Rattle.queue.specs.bytes.ReaderAs.{whole, listAt, behind, isGot, val
 use Rattle.queue.specs.bytes.ReaderLaws.{false-true}
 use Rattle.queue.specs.layout.FormsCodec.{formC, form-raw, queueC, storeOf, headFor}
 use Rattle.queue.specs.layout.RecordsAs.{RecordsIn}
-use Rattle.queue.specs.read.FindAs.{recordsOf, recsIn}
+use Rattle.queue.specs.read.FindAs.{recsIn}
 use Rattle.queue.specs.Areas.{readArea}
 use Rattle.queue.specs.layout.FrameAs.{limitsIn, HeadAs, head-T}
-use Rattle.queue.specs.check.AreaAs.{AreaAs}
+use Rattle.queue.specs.check.AreaAs.{AreaAs, recordsOf}
 use Rattle.queue.specs.theorems.SoundParts.{Fit, fit-of, Right}
 use Rattle.queue.specs.layout.HeadAs.{frontLen, tipOf, tipSize, headWith, frontBytes, queueOf}
 use Rattle.queue.specs.layout.LimitsAs.{shares-long}
@@ -153,7 +153,7 @@ all-stamps K c [] h = tt
 all-stamps K c (r ∷ l) h = (λ b. let e : finishRight? c false (r .finish) ≡ true = rw b at (h .0 .finish) in leb-true _ _ (and-true (leb 1 (r .finish)) _ e .1), all-stamps K c l (h .1))
 
 pub floor-needs : {s : Bytes} {a : Area} {q : Queue} → AreaAs s a q → (g : ℕ) → g ≤ a .open .head .count → a .open .head .counter .0 + g < 18446744073709551616
-    → RecordsIn (formC false recC) s (recordsOf a) × (a .open .head .count < 4294967296) × (g ≤ a .open .head .count) × (a .open .head .counter .0 + g < 18446744073709551616) × (0 < a .open .head .limits .t) × (a .open .head .limits .t < 4294967296)
+    → RecordsIn (formC false recC) s (recordsOf (a .open)) × (a .open .head .count < 4294967296) × (g ≤ a .open .head .count) × (a .open .head .counter .0 + g < 18446744073709551616) × (0 < a .open .head .limits .t) × (a .open .head .limits .t < 4294967296)
     × All (λ r. holder? r ≡ false → r .finish ≤ a .open .head .counter .0) (recsIn s a) × (tombstones (recsIn s a) ≤ 1024)
 floor-needs {s} {a} {q} w g h k =
     let st = w .store in

@@ -2,13 +2,13 @@
 use Rattle.queue.specs.Prelude.{_≡_, Bool, true, false, cond, some, List, [], _∷_, ℕ, _+_, eqb, length}
 use Rattle.queue.specs.layout.FrameCodec.{recC}
 use Rattle.queue.specs.layout.FormsCodec.{formC}
-use Rattle.queue.specs.layout.RecordsAs.{records, recsAt}
+use Rattle.queue.specs.layout.RecordsAs.{recsAt}
+use Rattle.queue.specs.check.AreaAs.{recordsOf}
 use Rattle.queue.specs.read.ReadingAs.{Here}
 use Rattle.queue.specs.paper.Records.{Bytes, Id, Rec}
 use Rattle.queue.specs.paper.Lists.{find}
 use Rattle.queue.specs.paper.Ids.{cmpL}
 use Rattle.queue.specs.paper.Changing.{named?}
-use Rattle.queue.specs.declared.layout.records.Records.{Records}
 use Rattle.queue.specs.declared.check.area.Area.{Area}
 use Rattle.queue.specs.declared.read.find.Spot.{Spot}
 
@@ -27,12 +27,9 @@ pub record SpotAs (s : Bytes) (z : Id) (at : ℕ) (l : List Rec) (x : Spot) : Ty
   pub is : x ≡ spotF z at l
   pub here : x .found ≡ true → (r : Rec) × (find (named? z) l ≡ some r) × Here s (x .at) r
 
--- where the records of an area stand, and which they are
-abbrev pub recordsOf : Area → Records
-recordsOf a = records (a .open .start) (a .open .head .count)
-
+-- the records of an area as they stand in it
 abbrev pub recsIn : Bytes → Area → List Rec
-recsIn s a = recsAt (formC false recC) s (recordsOf a)
+recsIn s a = recsAt (formC false recC) s (recordsOf (a .open))
 
 abbrev pub SpotIn : Bytes → Area → Id → Spot → Type 0
 SpotIn s a z x = SpotAs s z (a .open .start) (recsIn s a) x

@@ -44,8 +44,7 @@ ghost use Rattle.queue.specs.theorems.Arguments.{Small};
 ghost use Rattle.queue.specs.layout.FrameAs.{termsAt};
 ghost use Rattle.queue.specs.bytes.PutAs.{Put};
 ghost use Rattle.queue.specs.layout.FrameCodec.{recC};
-ghost use Rattle.queue.specs.bytes.ReaderAs.{listAt};
-ghost use Rattle.queue.specs.layout.FormsCodec.{formC};
+ghost use Rattle.queue.specs.read.FindAs.{recsIn};
 ghost use Rattle.queue.specs.check.RulesAs.{sum};
 ghost use Rattle.queue.specs.change.CallsAs.{AreaIn};
 ghost use Rattle.queue.specs.change.FinishAs.{above};
@@ -397,7 +396,7 @@ pub fn put_moved(
 // The floor where m more records are finished; what the check counted says whether any is forgotten.
 fn floor_of(s: &[u8], a: Area, m: u64) -> Finish
     requires { ⌜ AreaIn (now s) a × (m ≤ a .open .head .count) × (a .open .head .counter .0 + m < 18446744073709551616) ⌝ }
-    ensures { λ r. ⌜ ((sum Query.Tombstones (listAt (formC false recC) (a .open .head .count) (now (s .entry)) (a .open .start)) + m ≤ a .open .head .limits .t) × (r .0 ≡ 0)) ⊎ ((x : ℕ) → ltb (above (a .open .head .counter .0) m (listAt (formC false recC) (a .open .head .count) (now (s .entry)) (a .open .start)) x) (a .open .head .limits .t) ≡ leb (r .0) x) ⌝ }
+    ensures { λ r. ⌜ ((sum Query.Tombstones (recsIn (now (s .entry)) a) + m ≤ a .open .head .limits .t) × (r .0 ≡ 0)) ⊎ ((x : ℕ) → ltb (above (a .open .head .counter .0) m (recsIn (now (s .entry)) a) x) (a .open .head .limits .t) ≡ leb (r .0) x) ⌝ }
 {
     let x = a.open;
     let h = x.head;
