@@ -61,8 +61,8 @@ pub fn gather_mined(
     times: &mut [u64],
     places: &mut [usize],
 ) -> usize
-    requires { ⌜ RecordsIn (formC false recC) (now s) recs × ((length (now vs) ≡ (recs .count)) × All (InEntry (now t)) (now vs)) × Even (length (now ranks)) (now ranks) (now times) (now places) × (length (minedOf (now s) (recs .start) (recs .count) (now t) (now vs)) ≤ length (now ranks)) ⌝ }
-    ensures { λ r. ⌜ MinedGathered (now (s .entry)) (recs .count) (minedOf (now (s .entry)) (recs .start) (recs .count) (now (t .entry)) (now (vs .entry))) (length (now (ranks .entry))) r (now (ranks .exit)) (now (times .exit)) (now (places .exit)) ⌝ }
+    requires { ⌜ RecordsIn (formC false recC) (now s) recs × ((length (now vs) ≡ recs .count) × All (InEntry (now t)) (now vs)) × Even (length (now ranks)) (now ranks) (now times) (now places) × (length (minedOf (now s) recs (now t) (now vs)) ≤ length (now ranks)) ⌝ }
+    ensures { λ r. ⌜ MinedGathered (now (s .entry)) (recs .count) (minedOf (now (s .entry)) recs (now (t .entry)) (now (vs .entry))) (length (now (ranks .entry))) r (now (ranks .exit)) (now (times .exit)) (now (places .exit)) ⌝ }
 {
     let mut i = recs.start;
     let mut left = recs.count;

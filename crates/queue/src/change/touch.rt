@@ -205,7 +205,7 @@ fn touched(
     g: usize,
 ) -> u64
     requires { ⌜ RecordsIn (formC false recC) (now s) recs × SeenHere (now s) base x × EntriesRise (now t) (b .entries) × IdsRise (now ids) (b .available) × QuickFor quick (ownIds (idsAt (now ids) (b .available)) (recsAt (formC false recC) (now s) recs)) (wantedAt (view false (now s) base) x) (bitsIn (now flags)) g (x .facts .ins + x .facts .reads) ⌝ }
-    ensures { λ r. ⌜ TouchIs (now (s .entry)) (recs .start) (recs .count) base x (now (t .entry)) (b .entries) (b .caught) (idsAt (now (ids .entry)) (b .available)) r ⌝ }
+    ensures { λ r. ⌜ TouchIs (now (s .entry)) recs base x (now (t .entry)) (b .entries) (b .caught) (idsAt (now (ids .entry)) (b .available)) r ⌝ }
 {
     let id = x.id;
     let f = x.facts;
@@ -250,7 +250,7 @@ pub fn judge_all(
     vs: &mut [u64],
 )
     requires { ⌜ RecordsIn (formC false recC) (now s) recs × EntriesRise (now t) (b .entries) × IdsRise (now ids) (b .available) × (recs .count ≤ length (now vs)) × (recs .count < 4294967296) × (quick ≡ true → FlagsAre (λ z. among? z (ownIds (idsAt (now ids) (b .available)) (recsAt (formC false recC) (now s) recs))) (wantedOf (recsAt (formC false recC) (now s) recs)) (bitsIn (now flags))) ⌝ }
-    ensures { λ _. ⌜ JudgedAt (now (s .entry)) (recs .start) (recs .count) b (now (t .entry)) (now (ids .entry)) (take (recs .count) (now (vs .exit))) ⌝ }
+    ensures { λ _. ⌜ JudgedAt (now (s .entry)) recs b (now (t .entry)) (now (ids .entry)) (take (recs .count) (now (vs .exit))) ⌝ }
 {
     let mut i = recs.start;
     let mut left = recs.count;

@@ -30,7 +30,7 @@ fn judge_few(
     vs: &mut [u64],
 )
     requires { ⌜ RecordsIn (formC false recC) (now s) recs × EntriesRise (now t) (b .entries) × IdsRise (now ids) (b .available) × (recs .count ≤ length (now vs)) × (recs .count < 4294967296) × (go ≡ true → length (now s) < 4294967296) × (go ≡ true → total ≡ length (wantedOf (recsAt (formC false recC) (now s) recs))) × (total ≤ 524288) ⌝ }
-    ensures { λ _. ⌜ JudgedAt (now (s .entry)) (recs .start) (recs .count) b (now (t .entry)) (now (ids .entry)) (take (recs .count) (now (vs .exit))) ⌝ }
+    ensures { λ _. ⌜ JudgedAt (now (s .entry)) recs b (now (t .entry)) (now (ids .entry)) (take (recs .count) (now (vs .exit))) ⌝ }
 {
     let mut rows = [0u64; 2048];
     let mut flags = [0u64; 128];
@@ -65,7 +65,7 @@ fn judge_many(
     vs: &mut [u64],
 )
     requires { ⌜ RecordsIn (formC false recC) (now s) recs × EntriesRise (now t) (b .entries) × IdsRise (now ids) (b .available) × (recs .count ≤ length (now vs)) × (recs .count < 4294967296) × (go ≡ true → length (now s) < 4294967296) × (go ≡ true → total ≡ length (wantedOf (recsAt (formC false recC) (now s) recs))) × (total ≤ 524288) ⌝ }
-    ensures { λ _. ⌜ JudgedAt (now (s .entry)) (recs .start) (recs .count) b (now (t .entry)) (now (ids .entry)) (take (recs .count) (now (vs .exit))) ⌝ }
+    ensures { λ _. ⌜ JudgedAt (now (s .entry)) recs b (now (t .entry)) (now (ids .entry)) (take (recs .count) (now (vs .exit))) ⌝ }
 {
     let mut rows = [0u64; 65536];
     let mut flags = [0u64; 8192];
@@ -92,7 +92,7 @@ fn judge_many(
 // values: the compiler then makes no single call of them, which it would take in here together with the tables.
 pub fn judge(s: &[u8], recs: Records, t: &[u8], b: Block, ids: &[u8], vs: &mut [u64])
     requires { ⌜ RecordsIn (formC false recC) (now s) recs × EntriesRise (now t) (b .entries) × IdsRise (now ids) (b .available) × (recs .count ≤ length (now vs)) × (recs .count < 4294967296) ⌝ }
-    ensures { λ _. ⌜ JudgedAt (now (s .entry)) (recs .start) (recs .count) b (now (t .entry)) (now (ids .entry)) (take (recs .count) (now (vs .exit))) ⌝ }
+    ensures { λ _. ⌜ JudgedAt (now (s .entry)) recs b (now (t .entry)) (now (ids .entry)) (take (recs .count) (now (vs .exit))) ⌝ }
 {
     let total = count_wanted(s, recs);
     if !both(b.caught, s.len() < 4294967296) {

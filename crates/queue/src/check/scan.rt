@@ -188,7 +188,7 @@ pub struct Read {
 // Whatever t holds: what it holds too much only costs time.
 fn frames_by(s: &[u8], form: Form, recs: Records, k: u64, c: Finish, t: &mut [u64]) -> Read
     requires { ⌜ (recs .start ≤ length (now s)) × (recs .count < 4294967296) × (0 < length (now t)) ⌝ }
-    ensures { λ r. ⌜ Checked form (now (s .entry)) (recs .start) (recs .count) k c r ⌝ }
+    ensures { λ r. ⌜ Checked form (now (s .entry)) recs k c r ⌝ }
 {
     let mut i = recs.start;
     let mut left = recs.count;
@@ -230,7 +230,7 @@ fn frames_by(s: &[u8], form: Form, recs: Records, k: u64, c: Finish, t: &mut [u6
 
 pub fn frames(s: &[u8], form: Form, recs: Records, k: u64, c: Finish) -> Read
     requires { ⌜ (recs .start ≤ length (now s)) × (recs .count < 4294967296) ⌝ }
-    ensures { λ r. ⌜ Checked form (now (s .entry)) (recs .start) (recs .count) k c r ⌝ }
+    ensures { λ r. ⌜ Checked form (now (s .entry)) recs k c r ⌝ }
 {
     let mut t = [0u64; 4096];
     frames_by(s, form, recs, k, c, &mut t)
