@@ -2,6 +2,7 @@
 pub mod Choice
 pub mod FrameCodec
 pub mod FormsCodec
+pub mod RecordsAs
 pub mod FrameAs
 pub mod NearAs
 pub mod LimitsAs

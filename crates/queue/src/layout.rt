@@ -6,4 +6,5 @@ pub mod head;
 pub mod limits;
 pub mod near;
 pub mod reason;
+pub mod records;
 pub mod state;

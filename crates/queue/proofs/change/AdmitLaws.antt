@@ -3,12 +3,14 @@ use Rattle.queue.specs.Prelude.{_≡_, refl, ap, sym, _∙_, Bool, true,
 use Rattle.queue.proofs.read.ReservedStandLaws.{pieces-many}
 use Rattle.queue.specs.Basics.{join-same, join-eight, length-eight}
 use Rattle.queue.specs.layout.FrameAs.{termsAt, factsOf, limitsIn, head-P, head-B}
+use Rattle.queue.specs.check.AreaAs.{recordsOf}
 use Rattle.queue.specs.Codec as codec
 use Rattle.queue.specs.Codec.{cases, encs, be-length}
 use Rattle.queue.specs.bytes.PutAs.{Put, beLast}
 use Rattle.queue.specs.layout.FrameCodec.{recC}
-use Rattle.queue.specs.bytes.ReaderAs.{whole, listAt}
+use Rattle.queue.specs.bytes.ReaderAs.{listAt}
 use Rattle.queue.specs.layout.FormsCodec.{formC, queueC}
+use Rattle.queue.specs.layout.RecordsAs.{RecordsIn}
 use Rattle.queue.specs.Areas.{readArea}
 use Rattle.queue.specs.Lists.{all-map, total-split}
 use Rattle.queue.specs.theorems.AdmitKeeps.{held-split, weight-split}
@@ -36,7 +38,7 @@ use Rattle.queue.proofs.bytes.PutLaws.{then, recast}
 use Rattle.queue.proofs.bytes.PutByteLaws.{be-same}
 use Rattle.queue.proofs.read.FindLaws.{among-many}
 use Rattle.queue.proofs.layout.HeadLaws.{area-done}
-use Rattle.queue.proofs.check.AreaLaws.{holders-sum, bytes-sum, mined-sum, minedBytes-sum}
+use Rattle.queue.proofs.check.AreaLaws.{holders-sum, bytes-sum, mined-sum, minedBytes-sum, recs-stand}
 use Rattle.queue.proofs.change.WriteLaws.{fit, one-queue, same-queue, the-limits, shares-sixteen, queue-long}
 use Rattle.queue.proofs.change.ReopenLaws.{pieces-join}
 
@@ -189,8 +191,8 @@ module _ {s : Bytes} {a : Area} (w : AreaIn s a) where
   abbrev listed : List Rec
   listed = listAt (formC false recC) (a .open .head .count) s (a .open .start)
 
-  pub tally-asks : (a .open .start ≤ length s) × (whole (formC false recC) (a .open .head .count) s (a .open .start) ≡ true) × (a .open .head .count < 4294967296)
-  tally-asks = let g = w .read .store in (omega (arith, g .up, g .ends), g .all, g .head .countSmall)
+  pub tally-asks : RecordsIn (formC false recC) s (recordsOf (a .open)) × (a .open .head .count < 4294967296)
+  tally-asks = let g = w .read .store in (recs-stand g, g .head .countSmall)
 
   pub many-is : {h g : ℕ} → h ≡ sum Holders (listAt (formC false recC) (a .open .head .count) s (a .open .start)) → g ≡ sum MinedHolders (listAt (formC false recC) (a .open .head .count) s (a .open .start)) → h ≡ pendings (w .q .recs) + g
   many-is e f =

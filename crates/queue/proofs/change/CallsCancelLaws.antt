@@ -8,15 +8,16 @@ use Rattle.queue.specs.bytes.PutAs.{Put, splice}
 use Rattle.queue.specs.layout.FrameCodec.{termsC, placeC, recC}
 use Rattle.queue.specs.bytes.Parts.{part}
 use Rattle.queue.specs.bytes.ViewAs.{view}
-use Rattle.queue.specs.bytes.ReaderAs.{whole, listAt}
+use Rattle.queue.specs.bytes.ReaderAs.{listAt}
 use Rattle.queue.specs.layout.FormsCodec.{formC}
+use Rattle.queue.specs.layout.RecordsAs.{RecordsIn}
 use Rattle.queue.specs.Areas.{readArea}
 use Rattle.queue.specs.theorems.Bound.{fits-need}
 use Rattle.queue.specs.theorems.SoundParts.{Fit, fit-sound, fit-ok}
 use Rattle.queue.specs.theorems.CallsKeeps.{leaves-kept, named-once, cancel-leaves}
 use Rattle.queue.specs.theorems.Plain.{terms-plain, place-plain}
 use Rattle.queue.specs.layout.FrameAs.{termsAt, factsOf}
-use Rattle.queue.specs.check.AreaAs.{AreaIs}
+use Rattle.queue.specs.check.AreaAs.{AreaIs, recordsOf}
 use Rattle.queue.specs.change.FinishAs.{picked}
 use Rattle.queue.specs.read.ReadingAs.{FoundAs, EntryIn, entryAt, entryLen}
 use Rattle.queue.specs.change.WriteAs.{ended, EndedFrom, EndedTo}
@@ -34,6 +35,7 @@ use Rattle.queue.specs.declared.layout.frame.Seen.{Seen}
 use Rattle.queue.specs.declared.check.area.Area.{Area}
 use Rattle.queue.specs.declared.read.find.Found.{Found}
 use Rattle.queue.specs.declared.change.finish.Change.the-variants.{Named}
+use Rattle.queue.proofs.check.AreaLaws.{recs-stand}
 use Rattle.queue.proofs.layout.FrameLaws.{caller-byte}
 use Rattle.queue.proofs.layout.TurnLaws.{SeenIn, ReadsRec}
 use Rattle.queue.proofs.bytes.PutLaws.{over-splice}
@@ -59,8 +61,8 @@ module _ (cur next out id : Bytes) {a : Area} (i : AreaIs cur a) (t : a .ok ≡ 
     unfolding cancelOf
     cancel-5 n = let g = i .good t in rw (g .1, enough, ne-eqb (length id) 32 n)
 
-    pub find-asks : (a .open .start ≤ length cur) × (whole (formC false recC) (a .open .head .count) cur (a .open .start) ≡ true)
-    find-asks = let g = i .good t .2 .store in (omega (arith, g .up, g .ends), g .all)
+    pub find-asks : RecordsIn (formC false recC) cur (recordsOf (a .open))
+    find-asks = recs-stand (i .good t .2 .store)
 
     module _ (l : length id ≡ 32) {k : Id} (e : k ≡ part 32 (view false id 0) 0) {f : Found} (x : FoundAs cur f (find (named? k) (listAt (formC false recC) (a .open .head .count) cur (a .open .start)))) where
       in-queue : listAt (formC false recC) (a .open .head .count) cur (a .open .start) ≡ i .good t .0 .recs

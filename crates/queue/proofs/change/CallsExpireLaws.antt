@@ -9,11 +9,12 @@ use Rattle.queue.specs.layout.FrameCodec.{recC}
 use Rattle.queue.specs.bytes.ReaderAs.{whole, listAt}
 use Rattle.queue.specs.bytes.ReaderLaws.{Turn, none-left}
 use Rattle.queue.specs.layout.FormsCodec.{areaForm, formC, turn-in, ok-queue, ok-store, storeOf}
+use Rattle.queue.specs.layout.RecordsAs.{RecordsIn}
 use Rattle.queue.specs.Areas.{readArea}
 use Rattle.queue.specs.theorems.Bound.{fits-need}
 use Rattle.queue.specs.theorems.SoundParts.{Fit, Right, fit-sound, fit-ok}
 use Rattle.queue.specs.theorems.CallsKeeps.{leaves-kept, pending-held, expire-leaves}
-use Rattle.queue.specs.check.AreaAs.{AreaIs}
+use Rattle.queue.specs.check.AreaAs.{AreaIs, recordsOf}
 use Rattle.queue.specs.change.FinishAs.{picked, pickedS}
 use Rattle.queue.specs.change.WriteAs.{ended, EndedFrom, EndedTo}
 use Rattle.queue.specs.change.CallsAs.{idIf, pickedIds, AreaIn, ExpireTold}
@@ -32,6 +33,7 @@ use Rattle.queue.specs.declared.layout.frame.Height.{Height}
 use Rattle.queue.specs.declared.check.area.Area.{Area}
 use Rattle.queue.specs.declared.change.finish.Change.{Change}
 use Rattle.queue.specs.declared.change.finish.Change.the-variants.{Due}
+use Rattle.queue.proofs.check.AreaLaws.{recs-stand}
 use Rattle.queue.proofs.layout.TurnLaws.{SeenIn, ReadsRec}
 use Rattle.queue.proofs.bytes.PutLaws as puts
 use Rattle.queue.proofs.bytes.PutLaws.{Left, begun, onward, kept, then, over-splice}
@@ -119,8 +121,8 @@ pub area-in : {cur : Bytes} {a : Area} → AreaIs cur a → a .ok ≡ true → A
 area-in i t = let g = i .good t in record { q = g .0; is = g .1; read = g .2 }
 
 module _ {s : Bytes} {a : Area} (w : AreaIn s a) where
-  pub hits-asks : (a .open .start ≤ length s) × (whole (formC false recC) (a .open .head .count) s (a .open .start) ≡ true)
-  hits-asks = let g = w .read .store in (omega (arith, g .up, g .ends), g .all)
+  pub hits-asks : RecordsIn (formC false recC) s (recordsOf (a .open))
+  hits-asks = recs-stand (w .read .store)
 
   ids-32 : All (λ r. length (r .id) ≡ 32) (w .q .recs)
   ids-32 = all-map (w .q .recs) id-32 (ok-store areaForm (storeOf (w .q)) (ok-queue (w .q) (w .read .range) .1) .1)

@@ -18,7 +18,7 @@ use Rattle.queue.specs.bytes.OrderLaws.{or-false}
 use Rattle.queue.specs.theorems.SoundParts.{Fit, fit-sound, fit-ok, Before}
 use Rattle.queue.specs.theorems.CallsKeeps.{Alike, alike-rising, leaves-kept, moved-fit}
 use Rattle.queue.specs.theorems.ReconcileKeeps.{touched-alike, reconcile-leaves, released-all, released}
-use Rattle.queue.specs.check.AreaAs.{limits, AreaIs}
+use Rattle.queue.specs.check.AreaAs.{limits, AreaIs, recordsOf}
 use Rattle.queue.specs.check.RulesAs.{sum}
 use Rattle.queue.specs.change.FinishAs.{above}
 use Rattle.queue.specs.change.CallsAs.{AreaIn}
@@ -136,7 +136,7 @@ module _ {s : Bytes} {a : Area} (w : AreaIn s a) {B : Block} {t ids : Bytes} (L 
   keeps : (l : List Rec) → KeepsEach f l
   keeps l = all-every _ (λ r. let x = alike r in (ap isSome (x .body), x .finish, x .id)) l
 
-  mined-is : minedOf s (a .open .start) (a .open .head .count) t vs ≡ filter minedHolder? (touchedRecs C (w .q))
+  mined-is : minedOf s (recordsOf (a .open)) t vs ≡ filter minedHolder? (touchedRecs C (w .q))
   unfolding minedOf
   mined-is = ap (filter minedHolder?) next-is
 
@@ -149,25 +149,25 @@ module _ {s : Bytes} {a : Area} (w : AreaIn s a) {B : Block} {t ids : Bytes} (L 
       (λ x. let y : holder? r ≡ true = sym h ∙ and-true (mined? (f r)) (holder? (f r)) x .1 in rw (x, y) (omega arith))
       (λ x. rw x (omega arith))
 
-  pub few-mined : length (minedOf s (a .open .start) (a .open .head .count) t vs) ≤ 2048
+  pub few-mined : length (minedOf s (recordsOf (a .open)) t vs) ≤ 2048
   unfolding touchedRecs
   few-mined =
       let e = ap length mined-is in let i = few-mined′ (w .q .recs) in
       let g = fit (w .read) .sound in
       omega (arith, g .fewHolders, g .range .P-high)
 
-  pub before-mined : Pairwise Before (minedOf s (a .open .start) (a .open .head .count) t vs)
+  pub before-mined : Pairwise Before (minedOf s (recordsOf (a .open)) t vs)
   unfolding touchedRecs
   before-mined = rw mined-is (sub-pairwise Before (filter-sub minedHolder? (map f (w .q .recs))) (alike-rising f alike (w .q .recs) (fit (w .read) .sound .rising)))
 
-  gone-is : releases (limits (a .open .head .limits .p) (a .open .head .limits .b) 0 0) (B .height .0) (B .window) 0 0 (sort newer? (minedOf s (a .open .start) (a .open .head .count) t vs)) ≡ toRelease C (w .q)
+  gone-is : releases (limits (a .open .head .limits .p) (a .open .head .limits .b) 0 0) (B .height .0) (B .window) 0 0 (sort newer? (minedOf s (recordsOf (a .open)) t vs)) ≡ toRelease C (w .q)
   unfolding toRelease
   gone-is =
       let h = w .read .store .head in
-      same-releases _ (w .q .limits) (B .height .0) (B .window) 0 0 (sort newer? (minedOf s (a .open .start) (a .open .head .count) t vs)) (sym (head-P h)) (sym (head-B h))
+      same-releases _ (w .q .limits) (B .height .0) (B .window) 0 0 (sort newer? (minedOf s (recordsOf (a .open)) t vs)) (sym (head-P h)) (sym (head-B h))
       ∙ ap (λ l. releases (w .q .limits) (B .height .0) (B .window) 0 0 (sort newer? l)) mined-is
 
-  module _ {n c : ℕ} {ra ti pl : List ℕ} (G : MinedGathered s n (minedOf s (a .open .start) (a .open .head .count) t vs) 2048 c ra ti pl) where
+  module _ {n c : ℕ} {ra ti pl : List ℕ} (G : MinedGathered s n (minedOf s (recordsOf (a .open)) t vs) 2048 c ra ti pl) where
     pub mined-even : Even c (take c ra) (take c ti) (take c pl)
     mined-even = let e = G .even in let q = few-mined in record {
       ranks = length-take-le c ra (omega (arith, G .all, e .ranks));
@@ -186,7 +186,7 @@ module _ {s : Bytes} {a : Area} (w : AreaIn s a) {B : Block} {t ids : Bytes} (L 
     pub mined-stands : All (StandsAt s) (rows (take c ra) (take c ti) (take c pl))
     mined-stands = rw (rows-take c ra ti pl) (fall-stand (n + 1) (take c (rows ra ti pl)) _ (G .listed))
 
-    sorted : MinedRows s (sort ahead? (rows (take c ra) (take c ti) (take c pl))) (sort newer? (minedOf s (a .open .start) (a .open .head .count) t vs))
+    sorted : MinedRows s (sort ahead? (rows (take c ra) (take c ti) (take c pl))) (sort newer? (minedOf s (recordsOf (a .open)) t vs))
     sorted = rw (rows-take c ra ti pl) (sort-mined s (n + 1) (take c (rows ra ti pl)) _ (G .listed) before-mined)
 
     pub gone-are : (r : ℕ) (gone : List ℕ) → r ≤ length (take c ra) → take r gone ≡ walkR (limits (a .open .head .limits .p) (a .open .head .limits .b) 0 0) (B .height .0) (B .window) s 0 0 (sort ahead? (rows (take c ra) (take c ti) (take c pl))) → (r ≤ 2048) × GoneAre s (asked B t ids) (take r gone)
@@ -195,7 +195,7 @@ module _ {s : Bytes} {a : Area} (w : AreaIn s a) {B : Block} {t ids : Bytes} (L 
           z,
           record {
             are = λ q x. ap (map (idAt s)) e ∙ walk-ids _ (B .height .0) (B .window) s 0 0 _ _ sorted ∙ gone-is ∙ ap (toRelease C) (one-queue s (w .is) x);
-            placed = rw e (walk-part (λ p. p + 33 ≤ length s) _ (B .height .0) (B .window) s 0 0 _ (mined-placed s (sort ahead? (rows (take c ra) (take c ti) (take c pl))) (sort newer? (minedOf s (a .open .start) (a .open .head .count) t vs)) sorted));
+            placed = rw e (walk-part (λ p. p + 33 ≤ length s) _ (B .height .0) (B .window) s 0 0 _ (mined-placed s (sort ahead? (rows (take c ra) (take c ti) (take c pl))) (sort newer? (minedOf s (recordsOf (a .open)) t vs)) sorted));
             few = let y = length-take r gone in let x = min-le-left r (length gone) in omega arith;
           },
         )

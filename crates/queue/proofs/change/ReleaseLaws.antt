@@ -10,6 +10,7 @@ use Rattle.queue.specs.bytes.ViewAs.{view}
 use Rattle.queue.specs.bytes.ReaderAs.{whole, listAt}
 use Rattle.queue.specs.bytes.ReaderLaws.{Turn, beAt, false-true, none-left}
 use Rattle.queue.specs.layout.FormsCodec.{formC, afterIn}
+use Rattle.queue.specs.layout.RecordsAs.{records}
 use Rattle.queue.specs.layout.FrameAs.{factsOf, placeHeight}
 use Rattle.queue.specs.theorems.SoundParts.{Before}
 use Rattle.queue.specs.read.SelectAs.{Row, rows, Even, aheadOf, ahead?, Added, idAt, RecStands, PlaceAdded}
@@ -131,13 +132,13 @@ pub record Mining (s : Bytes) (at n : ℕ) (t : Bytes) (vs : List ℕ) (room i l
   pub count : j + left ≡ n
   pub scan : Scan (formC false recC) nothingF s n at tt i left tt
   pub even : Even room a b c
-  pub few : length (minedOf s at n t vs) ≤ room
-  pub upto : m ≤ length (minedOf s at n t vs)
-  pub rest : drop m (minedOf s at n t vs) ≡ filter minedHolder? (nextV t (listAt (formC false recC) left s i) (drop j vs))
-  pub sofar : FallingRows s (n + 1) (take m (rows a b c)) (take m (minedOf s at n t vs))
+  pub few : length (minedOf s (records at n) t vs) ≤ room
+  pub upto : m ≤ length (minedOf s (records at n) t vs)
+  pub rest : drop m (minedOf s (records at n) t vs) ≡ filter minedHolder? (nextV t (listAt (formC false recC) left s i) (drop j vs))
+  pub sofar : FallingRows s (n + 1) (take m (rows a b c)) (take m (minedOf s (records at n) t vs))
   pub above : All (λ (v : Row). left < v .1 .0) (take m (rows a b c))
 
-pub mine-start : (s : Bytes) (at n : ℕ) (t : Bytes) (vs : List ℕ) {room : ℕ} {a b c : List ℕ} → at ≤ length s → whole (formC false recC) n s at ≡ true → Even room a b c → length (minedOf s at n t vs) ≤ room → Mining s at n t vs room at n 0 0 a b c
+pub mine-start : (s : Bytes) (at n : ℕ) (t : Bytes) (vs : List ℕ) {room : ℕ} {a b c : List ℕ} → at ≤ length s → whole (formC false recC) n s at ≡ true → Even room a b c → length (minedOf s (records at n) t vs) ≤ room → Mining s at n t vs room at n 0 0 a b c
 unfolding minedOf nextL
 mine-start s at n t vs h w e f = record { count = omega arith; scan = start (formC false recC) nothingF s n at tt h w; even = e; few = f; upto = omega arith; rest = refl; sofar = tt; above = tt }
 
@@ -156,7 +157,7 @@ module _ {s : Bytes} {at n : ℕ} {t : Bytes} {vs : List ℕ} {room i left j m :
     it = maybe (turn .item) (λ y. y) (asTouched t v (turn .item))
 
     abbrev L : List Rec
-    L = minedOf s at n t vs
+    L = minedOf s (records at n) t vs
 
     sel-is : minedHolder? it ≡ sel
     sel-is = sym (e ∙ after-mined s i y t v within (turn .item) mine-seen)
@@ -168,7 +169,7 @@ module _ {s : Bytes} {at n : ℕ} {t : Bytes} {vs : List ℕ} {room i left j m :
     unfolding behind nextV
     cut = g .rest ∙ ap (λ l. filter minedHolder? (nextV t l (drop j vs))) (turn .list) ∙ rw (drop-cons vs j 0 (omega (arith, long, g .count)), ← (add-one j), ← eV, sel-is)
 
-    pub mine-room : sel ≡ true → m < length (minedOf s at n t vs)
+    pub mine-room : sel ≡ true → m < length (minedOf s (records at n) t vs)
     mine-room u =
         let d : drop m L ≡ it ∷ behind = cut ∙ ap (λ b. cond b (it ∷ behind) behind) u in
         let l = ap length d in
@@ -229,10 +230,10 @@ module _ {s : Bytes} {at n : ℕ} {t : Bytes} {vs : List ℕ} {room i left j m :
           above = rw (y .1) (all-more (take m (rows a b c)) left (left - 1) (omega arith) (g .above));
         }))
 
-pub mine-end : {s : Bytes} {at n : ℕ} {t : Bytes} {vs : List ℕ} {room i left j m : ℕ} {a b c : List ℕ} → Mining s at n t vs room i left j m a b c → left ≡ 0 → MinedGathered s n (minedOf s at n t vs) room m a b c
+pub mine-end : {s : Bytes} {at n : ℕ} {t : Bytes} {vs : List ℕ} {room i left j m : ℕ} {a b c : List ℕ} → Mining s at n t vs room i left j m a b c → left ≡ 0 → MinedGathered s n (minedOf s (records at n) t vs) room m a b c
 unfolding nextV
 mine-end {s} {at} {n} {t} {vs} {room} {i} {left} {j} {m} {a} {b} {c} g z =
-    let L = minedOf s at n t vs in
+    let L = minedOf s (records at n) t vs in
     let d : drop m L ≡ [] = g .rest ∙ ap (λ l. filter minedHolder? (nextV t l (drop j vs))) (none-left (formC false recC) s left i z .0) in
     let l = ap length d in
     let u = g .upto in

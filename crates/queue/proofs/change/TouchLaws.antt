@@ -9,6 +9,7 @@ use Rattle.queue.specs.bytes.ViewAs.{view}
 use Rattle.queue.specs.bytes.ReaderAs.{Reads, whole, listAt}
 use Rattle.queue.specs.bytes.ReaderLaws.{beAt, false-true, none-left}
 use Rattle.queue.specs.layout.FormsCodec.{formC, afterIn}
+use Rattle.queue.specs.layout.RecordsAs.{records, recsAt}
 use Rattle.queue.specs.layout.FrameAs.{factsOf, placeHeight, SeenAs}
 use Rattle.queue.specs.theorems.Plain.{place-plain}
 use Rattle.queue.specs.theorems.SoundParts.{fields-of}
@@ -23,6 +24,7 @@ use Rattle.queue.specs.paper.Changing.{Applied, confirmed?, confirm, jud
 use Rattle.queue.specs.paper.Calls.{appliedOf}
 use Rattle.queue.specs.declared.layout.frame.Seen.{Seen}
 use Rattle.queue.specs.declared.layout.frame.Facts.{Facts}
+use Rattle.queue.specs.declared.layout.records.Records.{Records}
 use Rattle.queue.specs.declared.read.find.Found.{Found}
 use Rattle.queue.specs.declared.change.touch.Verdict.{Verdict}
 use Rattle.queue.proofs.layout.TurnLaws.{Scan, start, here, on, stop, end, ReadsRec, seen}
@@ -308,9 +310,9 @@ pub other-is : (c : ℕ) {what : ℕ} → what ≡ c % 4 → (what ≡ 1 → ⊥
 unfolding verdictOf
 other-is c e h = rw (e, ne-eqb (c % 4) 1 (λ z. h (e ∙ z)))
 
-module _ (s : Bytes) (at n base : ℕ) (x : Seen) (t : Bytes) (k : ℕ) (caught : Bool) (ids : List Id) {f : Found} (e : EntryAs t k (x .id) f) where
+module _ (s : Bytes) (recs : Records) (base : ℕ) (x : Seen) (t : Bytes) (k : ℕ) (caught : Bool) (ids : List Id) {f : Found} (e : EntryAs t k (x .id) f) where
   abbrev own : List Id
-  own = ownIds ids (listAt (formC false recC) n s at)
+  own = ownIds ids (recsAt (formC false recC) s recs)
 
   by-id : (r : Rec) → SeenOf s base x r → find (λ a. same? (r .id) (a .id)) (appliedIn t k) ≡ find (λ a. same? (x .id) (a .id)) (appliedIn t k)
   by-id r w = ap (λ i. find (λ a. same? i (a .id)) (appliedIn t k)) (sym (w .0 .id))
@@ -319,11 +321,11 @@ module _ (s : Bytes) (at n base : ℕ) (x : Seen) (t : Bytes) (k : ℕ) (caught 
     found-is : (r : Rec) → SeenOf s base x r → touchFound caught own r (find (λ a. same? (r .id) (a .id)) (appliedIn t k)) ≡ cond b none (some (confirm (entryIn t (68 * f .at)) r))
     found-is r w = ap (touchFound caught own r) (by-id r w ∙ e .good g .1) ∙ ap (λ v. cond v none (some (confirm (entryIn t (68 * f .at)) r))) (sym (c r w))
 
-    pub verdict-same : b ≡ true → TouchIs s at n base x t k caught ids 0
+    pub verdict-same : b ≡ true → TouchIs s recs base x t k caught ids 0
     unfolding asTouched
     verdict-same y = record { is = λ r w. found-is r w ∙ rw (y, verdict-0); within = λ z. absurd (let u : ⊥ = omega arith in u) }
 
-    pub verdict-confirm : b ≡ false → TouchIs s at n base x t k caught ids (f .at * 4 + 1)
+    pub verdict-confirm : b ≡ false → TouchIs s recs base x t k caught ids (f .at * 4 + 1)
     unfolding asTouched
     verdict-confirm y = record { is = λ r w. found-is r w ∙ rw (y, verdict-1 (f .at)); within = λ z. rw (digits-div (f .at) {m = 4} {r = 1} (omega arith)) (e .good g .0) }
 
@@ -334,11 +336,11 @@ module _ (s : Bytes) (at n base : ℕ) (x : Seen) (t : Bytes) (k : ℕ) (caught 
         ap (touchFound caught own r) (by-id r w ∙ e .bad g)
         ∙ ap (λ v. cond v (cond (all? (λ i. among? i own) (wanted (r .body))) (judge queued 0 r) (judge conflicted 5 r)) none) (sym (c ∙ ap (λ v. caught && pending? (v .state)) (w .0 .facts)))
 
-    pub verdict-none : u ≡ false → TouchIs s at n base x t k caught ids 0
+    pub verdict-none : u ≡ false → TouchIs s recs base x t k caught ids 0
     unfolding asTouched
     verdict-none y = record { is = λ r w. missing-is r w ∙ rw (y, verdict-0); within = λ z. absurd (let v : ⊥ = omega arith in v) }
 
-    pub verdict-judge : {a : Bool} {j : ℕ} → u ≡ true → a ≡ all? (λ i. among? i (ownIds ids (listAt (formC false recC) n s at))) (wantedAt (view false s base) x) → j ≡ judgeF a (x .facts) → TouchIs s at n base x t k caught ids j
+    pub verdict-judge : {a : Bool} {j : ℕ} → u ≡ true → a ≡ all? (λ i. among? i (ownIds ids (recsAt (formC false recC) s recs))) (wantedAt (view false s base) x) → j ≡ judgeF a (x .facts) → TouchIs s recs base x t k caught ids j
     verdict-judge {a} {j} y h i = record {
       is = λ r w.
           let z : all? (λ i. among? i own) (wanted (r .body)) ≡ a = sym (h ∙ ap (all? (λ i. among? i own)) (wanted-is (w .0))) in
@@ -395,7 +397,7 @@ module _ {t : Bytes} (k : ℕ) {caught : Bool} (ids : List Id) {s : Bytes} {n at
     pub judge-seen : SeenOf s i y (seen false (x .scan) h r .item)
     judge-seen = let u = seen false (x .scan) h r in (u .is .0, u .is .1 .fine)
 
-    pub judge-go : {c o : ℕ} → n ≤ room → TouchIs s at n i y t k caught ids c → o ≡ afterIn false s i m → Judging t caught (ownIds ids (listAt (formC false recC) n s at)) (appliedIn t k) s n at room o (left - 1) (j + 1) (set vs j c)
+    pub judge-go : {c o : ℕ} → n ≤ room → TouchIs s (records at n) i y t k caught ids c → o ≡ afterIn false s i m → Judging t caught (ownIds ids (listAt (formC false recC) n s at)) (appliedIn t k) s n at room o (left - 1) (j + 1) (set vs j c)
     unfolding nothingF
     judge-go {c} {o} f T g =
         let u = seen false (x .scan) h r in

@@ -9,9 +9,11 @@ use Rattle.queue.specs.layout.FrameCodec.{Head, idC, limitsC, recC}
 use Rattle.queue.specs.bytes.ReaderAs.{whole, listAt, behind, isGot, valOf, restOf}
 use Rattle.queue.specs.bytes.ReaderLaws.{false-true}
 use Rattle.queue.specs.layout.FormsCodec.{formC, form-raw, queueC, storeOf, headFor}
+use Rattle.queue.specs.layout.RecordsAs.{RecordsIn}
+use Rattle.queue.specs.read.FindAs.{recsIn}
 use Rattle.queue.specs.Areas.{readArea}
 use Rattle.queue.specs.layout.FrameAs.{limitsIn, HeadAs, head-T}
-use Rattle.queue.specs.check.AreaAs.{AreaAs}
+use Rattle.queue.specs.check.AreaAs.{AreaAs, recordsOf}
 use Rattle.queue.specs.theorems.SoundParts.{Fit, fit-of, Right}
 use Rattle.queue.specs.layout.HeadAs.{frontLen, tipOf, tipSize, headWith, frontBytes, queueOf}
 use Rattle.queue.specs.layout.LimitsAs.{shares-long}
@@ -25,6 +27,7 @@ use Rattle.queue.specs.paper.Kinds.{newest}
 use Rattle.queue.specs.declared.layout.frame.HeadR.{HeadR}
 use Rattle.queue.specs.declared.check.area.Area.{Area}
 use Rattle.queue.specs.declared.layout.head.Marks.{Marks}
+use Rattle.queue.proofs.check.AreaLaws.{recs-stand}
 use Rattle.queue.proofs.bytes.PutByteLaws.{between}
 use Rattle.queue.proofs.layout.LimitsLaws.{sixteen}
 use Rattle.queue.proofs.layout.HeadLaws.{head-enc, front-enc}
@@ -148,10 +151,10 @@ all-stamps K c [] h = tt
 all-stamps K c (r ∷ l) h = (λ b. let e : finishRight? c false (r .finish) ≡ true = rw b at (h .0 .finish) in leb-true _ _ (and-true (leb 1 (r .finish)) _ e .1), all-stamps K c l (h .1))
 
 pub floor-needs : {s : Bytes} {a : Area} {q : Queue} → AreaAs s a q → (g : ℕ) → g ≤ a .open .head .count → a .open .head .counter .0 + g < 18446744073709551616
-    → (a .open .start ≤ length s) × (whole (formC false recC) (a .open .head .count) s (a .open .start) ≡ true) × (a .open .head .count < 4294967296) × (g ≤ a .open .head .count) × (a .open .head .counter .0 + g < 18446744073709551616) × (0 < a .open .head .limits .t) × (a .open .head .limits .t < 4294967296)
-    × All (λ r. holder? r ≡ false → r .finish ≤ a .open .head .counter .0) (listAt (formC false recC) (a .open .head .count) s (a .open .start)) × (tombstones (listAt (formC false recC) (a .open .head .count) s (a .open .start)) ≤ 1024)
+    → RecordsIn (formC false recC) s (recordsOf (a .open)) × (a .open .head .count < 4294967296) × (g ≤ a .open .head .count) × (a .open .head .counter .0 + g < 18446744073709551616) × (0 < a .open .head .limits .t) × (a .open .head .limits .t < 4294967296)
+    × All (λ r. holder? r ≡ false → r .finish ≤ a .open .head .counter .0) (recsIn s a) × (tombstones (recsIn s a) ≤ 1024)
 floor-needs {s} {a} {q} w g h k =
     let st = w .store in
     let f = fit w in
     let t = head-T (st .head) in
-    (omega (arith, st .up, st .ends), st .all, st .head .countSmall, h, k, omega (arith, f .sound .range .T-low), st .head .fit .t, rw (st .list, ← (st .head .counter)) (all-stamps _ _ (q .recs) (f .sound .right)), rw (st .list) (omega (arith, f .sound .fewTombs, f .sound .range .T-high)))
+    (recs-stand st, st .head .countSmall, h, k, omega (arith, f .sound .range .T-low), st .head .fit .t, rw (st .list, ← (st .head .counter)) (all-stamps _ _ (q .recs) (f .sound .right)), rw (st .list) (omega (arith, f .sound .fewTombs, f .sound .range .T-high)))

@@ -8,11 +8,12 @@ use Rattle.queue.specs.bytes.ReaderAs.{Reads, whole, listAt, isGot, valO
 use Rattle.queue.specs.bytes.ReaderLaws.{false-true, weaken}
 use Rattle.queue.specs.bytes.ViewAs.{view}
 use Rattle.queue.specs.layout.FormsCodec.{formC, afterIn, endsLine, Framed, framed, frame-bad, taken, Many, Store, recIn, storeIn, areaForm, store-read, queueC, storeOf, queue-read}
+use Rattle.queue.specs.layout.RecordsAs.{RecordsIn}
 use Rattle.queue.specs.Areas.{readArea, zero?, reads-stands, area-found, area-none}
 use Rattle.queue.specs.layout.FrameAs.{factsOf, limitsIn, HeadUnder}
 use Rattle.queue.specs.check.RulesAs.{weight, sum}
 use Rattle.queue.specs.check.ScanAs.{SumsAs, countsN}
-use Rattle.queue.specs.check.AreaAs.{StoreAs, soundL, sound-list, filledBy, FilledAs, AreaIs}
+use Rattle.queue.specs.check.AreaAs.{StoreAs, soundL, sound-list, filledBy, FilledAs, AreaIs, recordsOf}
 use Rattle.queue.specs.paper.Ids.{rise?}
 use Rattle.queue.specs.paper.Records.{Bytes, Limits, Rec, Queue}
 use Rattle.queue.specs.paper.Lists.{all?, map}
@@ -190,6 +191,10 @@ module _ (form : Form) (s : Bytes) {base : ℕ} {h : HeadR} (b : base ≤ length
         );
         bad = λ l y. v .bad l (rw k y);
       }
+
+-- its records stand there
+pub recs-stand : {form : Form} {s : Bytes} {base : ℕ} {x : Open} {st : Store} → StoreAs form s base x st → RecordsIn (recIn form) s (recordsOf x)
+recs-stand w = (omega (arith, w .up, w .ends), w .all)
 
 -- ---- an area
 pub filled-unsound : {s : Bytes} {x : Open} {b : Bool} → b ≡ soundL (limitsIn (x .head .limits)) (x .head .counter .0) (listAt (formC false recC) (x .head .count) s (x .start)) → b ≡ false → FilledAs s x (record { ok = false; next = 0 })

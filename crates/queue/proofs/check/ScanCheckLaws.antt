@@ -5,6 +5,7 @@ use Rattle.queue.specs.layout.FrameCodec.{idC}
 use Rattle.queue.specs.bytes.ViewAs.{view}
 use Rattle.queue.specs.check.FilterAs.{hashL, hashN, hasIn, NewSeen}
 use Rattle.queue.specs.layout.FormsCodec.{afterIn, endsLine, turn-in, recIn}
+use Rattle.queue.specs.layout.RecordsAs.{records}
 use Rattle.queue.specs.bytes.ReaderAs.{whole, listAt}
 use Rattle.queue.specs.bytes.ReaderLaws.{none-left, false-true}
 use Rattle.queue.specs.layout.FrameAs.{factsOf}
@@ -170,13 +171,13 @@ module _ (form : Form) (s : Bytes) (n at k : ℕ) (c : Finish) where
           rw g (told-on (v .item) (listAt (recIn form) (left - 1) s (afterIn (form .hex) s i m)) (v .is .0 .insList) (v .is .0 .facts) (q .0) (rw (v .list) at (x .told w (h .before))) h);
     }
 
-    pub check-short : {a′ : Sums} → ok ≡ false → Checked form s at n k c (record { ok = false; next = 0; sums = a′ })
+    pub check-short : {a′ : Sums} → ok ≡ false → Checked form s (records at n) k c (record { ok = false; next = 0; sums = a′ })
     check-short t = record { many = record { is = frames-short (x .frame) p r t; end = λ z. false-true z }; sums = λ z. false-true z }
 
-    pub check-line : {b : Bool} {a′ : Sums} → ok ≡ true → b ≡ endsLine (form .hex) s i m → b ≡ false → Checked form s at n k c (record { ok = false; next = 0; sums = a′ })
+    pub check-line : {b : Bool} {a′ : Sums} → ok ≡ true → b ≡ endsLine (form .hex) s i m → b ≡ false → Checked form s (records at n) k c (record { ok = false; next = 0; sums = a′ })
     check-line t e f = record { many = record { is = frames-line (x .frame) p r t e f; end = λ z. false-true z }; sums = λ z. false-true z }
 
-  pub check-end : {i left : ℕ} {a : Sums} {prev : Id} {first : Bool} {t : List ℕ} → Checking i left a prev first t → left ≡ 0 → Checked form s at n k c (record { ok = true; next = i; sums = a })
+  pub check-end : {i left : ℕ} {a : Sums} {prev : Id} {first : Bool} {t : List ℕ} → Checking i left a prev first t → left ≡ 0 → Checked form s (records at n) k c (record { ok = true; next = i; sums = a })
   check-end {i} {left} x z =
       let e = frames-end (x .frame) z in
       record {

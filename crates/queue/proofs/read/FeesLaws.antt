@@ -13,7 +13,7 @@ use Rattle.queue.specs.bytes.ViewAs.{view}
 use Rattle.queue.specs.layout.FormsCodec.{formC, afterIn, turn-in}
 use Rattle.queue.specs.layout.FrameAs.{termsAt, factsOf, NumAt}
 use Rattle.queue.specs.theorems.SoundParts.{fields-of, Before}
-use Rattle.queue.specs.check.AreaAs.{AreaAs, AreaIs}
+use Rattle.queue.specs.check.AreaAs.{AreaAs, AreaIs, recordsOf}
 use Rattle.queue.specs.Areas.{readArea}
 use Rattle.queue.specs.Checked.{Written, written}
 use Rattle.queue.specs.read.SelectAs.{Row, rows, Table, ahead?, idAt, RowIs, RowsAs, chosen, Gathered, RecStands, PlaceAdded}
@@ -394,7 +394,7 @@ module _ {s : Bytes} {x : Area} (limit budget now height : ℕ) {q : Queue} (a :
   unfolding bestFeesOf
   fees-high h = rw (r, le-leb 1 budget (omega arith), lt-leb budget 2097151 h) refl
 
-  pub fees-100 : {w : Written} → 1 ≤ budget → budget ≤ 2097151 → w ≡ searchOf (take 20 (sort first? (chosen now height s (x .open .head .count) (x .open .start)))) limit budget out
+  pub fees-100 : {w : Written} → 1 ≤ budget → budget ≤ 2097151 → w ≡ searchOf (take 20 (sort first? (chosen now height s (recordsOf (x .open))))) limit budget out
       → w ≡ bestFeesOf s limit budget now height out
   unfolding bestFeesOf chosen
   fees-100 h k e =

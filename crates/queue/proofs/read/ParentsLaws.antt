@@ -10,7 +10,7 @@ use Rattle.queue.specs.bytes.ReaderLaws.{false-true}
 use Rattle.queue.specs.bytes.PutAs.{Put, beLast}
 use Rattle.queue.specs.theorems.SoundParts.{Before, InRange, sound-of}
 use Rattle.queue.specs.layout.FormsCodec.{queueC}
-use Rattle.queue.specs.check.AreaAs.{AreaAs, AreaIs}
+use Rattle.queue.specs.check.AreaAs.{AreaAs, AreaIs, recordsOf}
 use Rattle.queue.specs.Areas.{layout, readArea, stands-reads, reads-stands}
 use Rattle.queue.specs.Checked.{Written, written}
 use Rattle.queue.specs.read.SelectAs.{Row, rows, Table, ahead?, idAt, RowsAs, chosen, Gathered}
@@ -621,12 +621,12 @@ gathered-listed {s} {l} {room} {m} {a} {b} {c} out g h e =
 
 -- ---- the call
 module _ {s : Bytes} {x : Area} (now height : ℕ) {q : Queue} (a : AreaAs s x q) where
-  pub chosen-modest : All Modest (chosen now height s (x .open .head .count) (x .open .start))
+  pub chosen-modest : All Modest (chosen now height s (recordsOf (x .open)))
   chosen-modest =
       let u = sound-of q (a .sound) in
       rw (chosen-is now height a) (sub-all Modest (filter-sub (selected? now height) (q .recs)) (all-map (q .recs) (λ r h. let k = h .ins in let l = h .reads in let m = u .range .K-high in (omega arith, omega arith)) (u .right)))
 
-  pub parents-100 : (out : Bytes) {w : Written} → readArea s ≡ some q → w ≡ toldOut (idsBytes (map (λ (r : Rec). r .id) (parentsFirst waitsFor? (sort first? (chosen now height s (x .open .head .count) (x .open .start)))))) out
+  pub parents-100 : (out : Bytes) {w : Written} → readArea s ≡ some q → w ≡ toldOut (idsBytes (map (λ (r : Rec). r .id) (parentsFirst waitsFor? (sort first? (chosen now height s (recordsOf (x .open))))))) out
       → w ≡ parentsFirstOf s now height out
   unfolding parentsFirstOf readOf
   parents-100 out r e = e ∙ ap (λ (l : List Rec). toldOut (idsBytes (map (λ (r : Rec). r .id) (parentsFirst waitsFor? (sort first? l)))) out) (chosen-is now height a) ∙ rw r

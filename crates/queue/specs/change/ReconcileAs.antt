@@ -3,6 +3,7 @@ use Rattle.queue.specs.Prelude.{_≡_, Bool, false, cond, not, _||_, som
 use Rattle.queue.specs.layout.FrameCodec.{recC}
 use Rattle.queue.specs.bytes.ReaderAs.{listAt}
 use Rattle.queue.specs.layout.FormsCodec.{formC}
+use Rattle.queue.specs.check.AreaAs.{recordsOf}
 use Rattle.queue.specs.check.RulesAs.{sum}
 use Rattle.queue.specs.change.FinishAs.{above}
 use Rattle.queue.specs.Codec.{All}
@@ -42,7 +43,7 @@ pub record LentTo (b : Block) (t ids : Bytes) : Type 0 where
 
 -- a verdict on each record
 pub record JudgedIn (s : Bytes) (a : Area) (b : Block) (t ids : Bytes) (v : List ℕ) : Type 0 where
-  pub all : JudgedAt s (a .open .start) (a .open .head .count) b t ids v
+  pub all : JudgedAt s (recordsOf (a .open)) b t ids v
 
 -- whether a verdict changed a record
 unfoldable pub anyTouched : Reconciling → Queue → Bool

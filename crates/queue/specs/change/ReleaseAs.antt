@@ -14,6 +14,7 @@ use Rattle.queue.specs.paper.Sound.{content}
 use Rattle.queue.specs.paper.Changing.{Applied, touchFound, minedHeight}
 use Rattle.queue.specs.paper.Decisions.{minedHolder?}
 use Rattle.queue.specs.declared.layout.frame.Facts.{Facts}
+use Rattle.queue.specs.declared.layout.records.Records.{Records}
 use Rattle.queue.specs.declared.change.touch.Verdict.{Verdict}
 
 -- a record after the verdict on it
@@ -29,8 +30,8 @@ nextV t (r ∷ l) (c ∷ v) = maybe r (λ y. y) (asTouched t (verdictOf c) r) �
 unfoldable pub nextL : Bytes → ℕ → ℕ → Bytes → List ℕ → List Rec
 nextL s at n t v = nextV t (listAt (formC false recC) n s at) v
 
-unfoldable pub minedOf : Bytes → ℕ → ℕ → Bytes → List ℕ → List Rec
-minedOf s at n t v = filter minedHolder? (nextL s at n t v)
+unfoldable pub minedOf : Bytes → Records → Bytes → List ℕ → List Rec
+minedOf s recs t v = filter minedHolder? (nextL s (recs .start) (recs .count) t v)
 
 unfoldable pub minedF : ℕ → Facts → Bool
 minedF what f = (eqb what 1 || (eqb what 0 && eqb (f .state) 2)) && f .holder

@@ -2,8 +2,8 @@
 use Rattle.queue.specs.Prelude.{_≡_, Bool, true, false, cond, not, _&&_, Option, none, some, List, [], _∷_, _++_, ℕ, _+_, _*_, _/_, _%_, _≤_, eqb, length, take, drop}
 use Rattle.queue.specs.layout.FrameCodec.{recC}
 use Rattle.queue.specs.bytes.ViewAs.{view}
-use Rattle.queue.specs.bytes.ReaderAs.{listAt}
 use Rattle.queue.specs.layout.FormsCodec.{formC}
+use Rattle.queue.specs.layout.RecordsAs.{recsAt}
 use Rattle.queue.specs.layout.FrameAs.{SeenAs}
 use Rattle.queue.specs.change.ReopenAs.{idsAt}
 use Rattle.queue.specs.paper.Records.{Bytes, Id, Rec, queued, conflicted}
@@ -15,6 +15,7 @@ use Rattle.queue.specs.paper.Calls.{pieces, appliedOf}
 use Rattle.queue.specs.declared.change.block.Block.{Block}
 use Rattle.queue.specs.declared.layout.frame.Seen.{Seen}
 use Rattle.queue.specs.declared.layout.frame.Facts.{Facts}
+use Rattle.queue.specs.declared.layout.records.Records.{Records}
 use Rattle.queue.specs.declared.read.find.Found.{Found}
 use Rattle.queue.specs.declared.change.touch.Verdict.{Verdict}
 
@@ -69,8 +70,8 @@ verdictOf c = record { what = c % 4; at = cond (eqb (c % 4) 1) (68 * (c / 4)) 0 
 abbrev pub InEntry : Bytes → ℕ → Type 0
 InEntry t c = c % 4 ≡ 1 → 68 * (c / 4) + 68 ≤ length t
 
-pub record TouchIs (s : Bytes) (at n base : ℕ) (x : Seen) (t : Bytes) (k : ℕ) (caught : Bool) (ids : List Id) (c : ℕ) : Type 0 where
-  pub is : (r : Rec) → SeenOf s base x r → touchFound caught (ownIds ids (listAt (formC false recC) n s at)) r (find (λ a. same? (r .id) (a .id)) (appliedIn t k)) ≡ asTouched t (verdictOf c) r
+pub record TouchIs (s : Bytes) (recs : Records) (base : ℕ) (x : Seen) (t : Bytes) (k : ℕ) (caught : Bool) (ids : List Id) (c : ℕ) : Type 0 where
+  pub is : (r : Rec) → SeenOf s base x r → touchFound caught (ownIds ids (recsAt (formC false recC) s recs)) r (find (λ a. same? (r .id) (a .id)) (appliedIn t k)) ≡ asTouched t (verdictOf c) r
   pub within : InEntry t c
 
 -- a verdict on each record
@@ -84,9 +85,9 @@ Judged t caught own es [] (c ∷ v) = ⊥
 Judged t caught own es (r ∷ l) [] = ⊥
 Judged t caught own es (r ∷ l) (c ∷ v) = VerdictOn t caught own es r c × Judged t caught own es l v
 
--- on each of the n records at `at`
-abbrev pub JudgedAt : Bytes → ℕ → ℕ → Block → Bytes → Bytes → List ℕ → Type 0
-JudgedAt s at n b t ids v = Judged t (b .caught) (ownIds (idsAt ids (b .available)) (listAt (formC false recC) n s at)) (appliedIn t (b .entries)) (listAt (formC false recC) n s at) v
+-- on each of the records of an area
+abbrev pub JudgedAt : Bytes → Records → Block → Bytes → Bytes → List ℕ → Type 0
+JudgedAt s recs b t ids v = Judged t (b .caught) (ownIds (idsAt ids (b .available)) (recsAt (formC false recC) s recs)) (appliedIn t (b .entries)) (recsAt (formC false recC) s recs) v
 
 abbrev pub changed? : ℕ → Bool
 changed? c = not (eqb (c % 4) 0)

@@ -1,9 +1,10 @@
 -- What a queue that was read from bytes or from a text says of the queue.
 use Rattle.queue.specs.Prelude.{_≡_, refl, Bool, true, false, _&&_, none, some, List, [], ℕ, _-_, _≤_, leb, length, take, drop}
 use Rattle.queue.specs.layout.FrameCodec.{headK, recC}
-use Rattle.queue.specs.bytes.ReaderAs.{whole, listAt, behind}
+use Rattle.queue.specs.bytes.ReaderAs.{whole, behind}
 use Rattle.queue.specs.bytes.ViewAs.{view}
 use Rattle.queue.specs.layout.FormsCodec.{formC, afterIn, Framed, Store, headFor, recIn, areaForm, storeOf, queueC}
+use Rattle.queue.specs.layout.RecordsAs.{records, recsAt}
 use Rattle.queue.specs.Areas.{readArea, zero?}
 use Rattle.queue.specs.layout.FrameAs.{limitsIn, HeadUnder}
 use Rattle.queue.specs.check.ScanAs.{SumsAs}
@@ -13,6 +14,7 @@ use Rattle.queue.specs.paper.Lists.{all?, map}
 use Rattle.queue.specs.paper.Calls.{limitsOf}
 use Rattle.queue.specs.paper.Sound.{limitsRight?, need, right?, counts?, distinct?, apart?, readApart?, sound?}
 use Rattle.queue.specs.declared.layout.frame.Form.{Form}
+use Rattle.queue.specs.declared.layout.records.Records.{Records}
 use Rattle.queue.specs.declared.check.area.Open.{Open}
 use Rattle.queue.specs.declared.check.area.Area.{Area}
 use Rattle.queue.specs.declared.check.scan.Span.{Span}
@@ -22,18 +24,22 @@ use Rattle.queue.specs.layout.LimitsAs.{needMost}
 abbrev pub limits : ℕ → ℕ → ℕ → ℕ → Limits
 limits p b t k = limitsOf p b t k []
 
+-- where the records of a queue that was read stand
+abbrev pub recordsOf : Open → Records
+recordsOf x = records (x .start) (x .head .count)
+
 -- x was read from s at base, and says of st: its header, and where its records stand
 pub record StoreAs (form : Form) (s : Bytes) (base : ℕ) (x : Open) (st : Store) : Type 0 where
   pub head : HeadUnder (form .kind) (view (form .hex) s base) (x .head) (headFor st)
   pub frame : Framed (headK (form .kind)) (form .hex) s base (x .head .ok) (x .head .size) (headFor st)
   pub start : x .start ≡ afterIn (form .hex) s base (x .head .size)
   pub all : whole (recIn form) (x .head .count) s (x .start) ≡ true
-  pub list : listAt (recIn form) (x .head .count) s (x .start) ≡ st .recs
+  pub list : recsAt (recIn form) s (recordsOf x) ≡ st .recs
   pub count : length (st .recs) ≡ x .head .count
   pub end : drop (x .next) s ≡ behind (recIn form) (x .head .count) s (x .start)
   pub up : x .start ≤ x .next
   pub ends : x .next ≤ length s
-  pub sums : SumsAs (x .head .limits .k) (x .head .counter) (x .sums) (listAt (recIn form) (x .head .count) s (x .start))
+  pub sums : SumsAs (x .head .limits .k) (x .head .counter) (x .sums) (recsAt (recIn form) s (recordsOf x))
 
 -- the rules of a sound queue on its limits, counter and records
 unfoldable pub soundL : Limits → ℕ → List Rec → Bool
@@ -49,7 +55,7 @@ unfoldable pub filledBy : Bytes → ℕ → Limits → ℕ → List Rec → Bool
 filledBy s from m counter l = soundL m counter l && (leb (need m) (length s) && (leb from (need m) && zero? (take (need m - from) (drop from s))))
 
 pub record FilledAs (s : Bytes) (x : Open) (r : Span) : Type 0 where
-  pub is : r .ok ≡ filledBy s (x .next) (limitsIn (x .head .limits)) (x .head .counter .0) (listAt (formC false recC) (x .head .count) s (x .start))
+  pub is : r .ok ≡ filledBy s (x .next) (limitsIn (x .head .limits)) (x .head .counter .0) (recsAt (formC false recC) s (recordsOf x))
   pub next : r .ok ≡ true → (r .next ≡ need (limitsIn (x .head .limits))) × (r .next ≤ needMost)
 
 -- x was read from the area s, which holds q

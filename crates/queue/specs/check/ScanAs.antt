@@ -1,7 +1,7 @@
 -- What the check counts in its one pass over the records.
 use Rattle.queue.specs.Prelude.{_≡_, Bool, true, _&&_, List, ℕ, _+_, _-_, _*_, _≤_, leb, eqb, length}
 use Rattle.queue.specs.layout.FormsCodec.{recIn, Many}
-use Rattle.queue.specs.bytes.ReaderAs.{listAt}
+use Rattle.queue.specs.layout.RecordsAs.{recsAt}
 use Rattle.queue.specs.check.RulesAs.{rightF, weight, sum}
 use Rattle.queue.specs.paper.Ids.{rise?}
 use Rattle.queue.specs.paper.Records.{Bytes, Rec}
@@ -10,6 +10,7 @@ use Rattle.queue.specs.paper.Sound.{right?, reads, apart?, distinct?}
 use Rattle.queue.specs.declared.layout.frame.Facts.{Facts}
 use Rattle.queue.specs.declared.layout.frame.Form.{Form}
 use Rattle.queue.specs.declared.layout.frame.Finish.{Finish}
+use Rattle.queue.specs.declared.layout.records.Records.{Records}
 use Rattle.queue.specs.declared.check.scan.Sums.{Sums}
 use Rattle.queue.specs.declared.check.scan.Read.{Read}
 use Rattle.queue.specs.declared.check.rules.Query.the-variants.{Holders, HeldBytes, MinedHolders, MinedBytes}
@@ -50,9 +51,9 @@ pub record SumsAs (k : ℕ) (c : Finish) (a : Sums) (l : List Rec) : Type 0 wher
   pub unread : a .unread ≡ all? unread? l
   pub clear : a .clear ≡ true → (apart? l ≡ true) × (distinct? l ≡ true)
 
-pub record Checked (form : Form) (s : Bytes) (at n k : ℕ) (c : Finish) (r : Read) : Type 0 where
-  pub many : Many (recIn form) s at n (r .ok) (r .next)
-  pub sums : r .ok ≡ true → SumsAs k c (r .sums) (listAt (recIn form) n s at)
+pub record Checked (form : Form) (s : Bytes) (recs : Records) (k : ℕ) (c : Finish) (r : Read) : Type 0 where
+  pub many : Many (recIn form) s (recs .start) (recs .count) (r .ok) (r .next)
+  pub sums : r .ok ≡ true → SumsAs k c (r .sums) (recsAt (recIn form) s recs)
 
 -- the counts of n records are within the limits
 unfoldable pub countsN : ℕ → ℕ → ℕ → ℕ → Sums → Bool

@@ -1,8 +1,9 @@
 -- Where the record of an id stands among records, or would stand.
 use Rattle.queue.specs.Prelude.{_≡_, Bool, true, false, cond, some, List, [], _∷_, ℕ, _+_, eqb, length}
 use Rattle.queue.specs.layout.FrameCodec.{recC}
-use Rattle.queue.specs.bytes.ReaderAs.{listAt}
 use Rattle.queue.specs.layout.FormsCodec.{formC}
+use Rattle.queue.specs.layout.RecordsAs.{recsAt}
+use Rattle.queue.specs.check.AreaAs.{recordsOf}
 use Rattle.queue.specs.read.ReadingAs.{Here}
 use Rattle.queue.specs.paper.Records.{Bytes, Id, Rec}
 use Rattle.queue.specs.paper.Lists.{find}
@@ -28,7 +29,7 @@ pub record SpotAs (s : Bytes) (z : Id) (at : ℕ) (l : List Rec) (x : Spot) : Ty
 
 -- the records of an area as they stand in it
 abbrev pub recsIn : Bytes → Area → List Rec
-recsIn s a = listAt (formC false recC) (a .open .head .count) s (a .open .start)
+recsIn s a = recsAt (formC false recC) s (recordsOf (a .open))
 
 abbrev pub SpotIn : Bytes → Area → Id → Spot → Type 0
 SpotIn s a z x = SpotAs s z (a .open .start) (recsIn s a) x

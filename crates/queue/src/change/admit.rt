@@ -31,6 +31,7 @@ use crate::layout::head::put_front;
 use crate::layout::head::tip_len;
 use crate::layout::limits::Limits;
 use crate::layout::reason;
+use crate::layout::records::Records;
 use crate::layout::state;
 use crate::read::entry::entry_len;
 use crate::read::entry::put_entry;
@@ -247,7 +248,11 @@ fn share_full(s: &[u8], a: Area, caller: u64, n: u64) -> bool
     if n < m {
         return false;
     }
-    m <= tally(s, o.start, h.count, Query::PendingOf(caller))
+    let recs = Records {
+        start: o.start,
+        count: h.count,
+    };
+    m <= tally(s, recs, Query::PendingOf(caller))
 }
 
 // Is there room for one more pending record of n bytes, of that caller? Refusal 10, 18 or 11 where there is not, else 0.
@@ -409,7 +414,11 @@ fn inputs_read(s: &[u8], a: Area, inputs: &[u8]) -> bool
         return false;
     }
     let n = (inputs.len() / 32) as u64;
-    ids_clash(inputs, n, s, o.start, h.count, true)
+    let recs = Records {
+        start: o.start,
+        count: h.count,
+    };
+    ids_clash(inputs, n, s, recs, true)
 }
 
 // Does a record read one of the inputs, or spend one of the read ids?
@@ -426,7 +435,11 @@ fn reads_cross(s: &[u8], a: Area, inputs: &[u8], reads: &[u8]) -> bool
     if m == 0 {
         return false;
     }
-    ids_clash(reads, m, s, o.start, h.count, false)
+    let recs = Records {
+        start: o.start,
+        count: h.count,
+    };
+    ids_clash(reads, m, s, recs, false)
 }
 
 // 10, 18, 11, 12 or 20 for a new record of that caller, of n bytes; else 0.
@@ -441,7 +454,11 @@ fn new_refusal(s: &[u8], a: Area, caller: u64, n: u64, inputs: &[u8], reads: &[u
     let o = a.open;
     let h = o.head;
     let m = (inputs.len() / 32) as u64;
-    if ids_clash(inputs, m, s, o.start, h.count, false) {
+    let recs = Records {
+        start: o.start,
+        count: h.count,
+    };
+    if ids_clash(inputs, m, s, recs, false) {
         return refusal::INPUT_RESERVED;
     }
     if reads_cross(s, a, inputs, reads) {
@@ -496,7 +513,11 @@ fn admit_named(
     let o = a.open;
     let h = o.head;
     let id = x.id;
-    let p = find_spot(cur, o.start, h.count, id);
+    let recs = Records {
+        start: o.start,
+        count: h.count,
+    };
+    let p = find_spot(cur, recs, id);
     if holder_at(cur, p) {
         return tell_old(cur, p.at, out);
     }

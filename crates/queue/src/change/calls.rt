@@ -21,6 +21,7 @@ use crate::layout::frame::TERMS;
 use crate::layout::frame::Time;
 use crate::layout::frame::rec_at;
 use crate::layout::reason;
+use crate::layout::records::Records;
 use crate::layout::state;
 use crate::read::entry::entry_len;
 use crate::read::entry::put_entry;
@@ -34,7 +35,7 @@ ghost use lib.ListN.{length};
 ghost use Rattle.queue.specs.layout.FrameAs.{termsAt};
 ghost use Rattle.queue.specs.bytes.PutAs.{Put};
 ghost use Rattle.queue.specs.layout.FrameCodec.{recC};
-ghost use Rattle.queue.specs.bytes.ReaderAs.{whole, listAt};
+ghost use Rattle.queue.specs.layout.RecordsAs.{RecordsIn, recsAt};
 ghost use Rattle.queue.specs.layout.FormsCodec.{formC};
 ghost use Rattle.queue.specs.change.FinishAs.{picked};
 ghost use Rattle.queue.specs.paper.Lists.{filter, map, concat, count};
@@ -141,7 +142,11 @@ pub fn cancel(cur: &[u8], next: &mut [u8], id: &[u8], out: &mut [u8]) -> Answer
     let k = id_at(id, false, 0, 0);
     let o = a.open;
     let h = o.head;
-    let f = find_id(cur, o.start, h.count, k);
+    let recs = Records {
+        start: o.start,
+        count: h.count,
+    };
+    let f = find_id(cur, recs, k);
     if !f.found {
         return Answer::Refused(refusal::NOT_FOUND);
     }
@@ -214,21 +219,13 @@ fn put_id_if(hit: bool, id: [u8; 32], dst: &mut [u8], at: usize) -> usize
     at
 }
 
-// The ids of those picked, of n records at `at`, to place `to` of dst.
-fn put_picked(
-    s: &[u8],
-    at: usize,
-    n: u64,
-    c: Change,
-    id: [u8; 32],
-    dst: &mut [u8],
-    to: usize,
-) -> usize
-    requires { ⌜ (at ≤ length (now s)) × (whole (formC false recC) n (now s) at ≡ true) × (to + length (concat (pickedIds c id (listAt (formC false recC) n (now s) at))) ≤ length (now dst)) ⌝ }
-    ensures { λ r. ⌜ Put (now (dst .entry)) to (concat (pickedIds c id (listAt (formC false recC) n (now (s .entry)) at))) (length (concat (pickedIds c id (listAt (formC false recC) n (now (s .entry)) at)))) r (now (dst .exit)) ⌝ }
+// The ids of those of the records that are picked, to place `to` of dst.
+fn put_picked(s: &[u8], recs: Records, c: Change, id: [u8; 32], dst: &mut [u8], to: usize) -> usize
+    requires { ⌜ RecordsIn (formC false recC) (now s) recs × (to + length (concat (pickedIds c id (recsAt (formC false recC) (now s) recs))) ≤ length (now dst)) ⌝ }
+    ensures { λ r. ⌜ Put (now (dst .entry)) to (concat (pickedIds c id (recsAt (formC false recC) (now (s .entry)) recs))) (length (concat (pickedIds c id (recsAt (formC false recC) (now (s .entry)) recs)))) r (now (dst .exit)) ⌝ }
 {
-    let mut i = at;
-    let mut left = n;
+    let mut i = recs.start;
+    let mut left = recs.count;
     let mut o = to;
     while 0 < left {
         let x = rec_at(s, i);
@@ -270,7 +267,11 @@ fn expire_found(
     let h = o.head;
     let c = h.counter;
     let none = [0u8; 32];
-    let m = hits(cur, o.start, h.count, Change::Due(time, height), none);
+    let recs = Records {
+        start: o.start,
+        count: h.count,
+    };
+    let m = hits(cur, recs, Change::Due(time, height), none);
     if 18446744073709551615 - c.0 < m {
         return Answer::Refused(refusal::COUNTER_EXHAUSTED);
     }
@@ -283,14 +284,6 @@ fn expire_found(
     }
     put_ended(cur, a, Change::Due(time, height), none, m, next);
     let e = put_be(out, 0, 4, m);
-    put_picked(
-        cur,
-        o.start,
-        h.count,
-        Change::Due(time, height),
-        none,
-        out,
-        e,
-    );
+    put_picked(cur, recs, Change::Due(time, height), none, out, e);
     Answer::Done(Kind::Whole)
 }

@@ -11,6 +11,7 @@ use crate::layout::forms::after_in;
 use crate::layout::frame::Seen;
 use crate::layout::frame::id_read;
 use crate::layout::frame::rec_at;
+use crate::layout::records::Records;
 ghost use mathlib.Core.Path.{_≡_};
 ghost use mathlib.Core.Bool.{true, false};
 ghost use Prim.Native.Nat.{_+_, _≤_, _<_};
@@ -19,6 +20,7 @@ ghost use Rattle.queue.specs.layout.FrameCodec.{recC, idC};
 ghost use Rattle.queue.specs.layout.FormsCodec.{formC};
 ghost use Rattle.queue.specs.bytes.ViewAs.{view};
 ghost use Rattle.queue.specs.bytes.ReaderAs.{whole, listAt};
+ghost use Rattle.queue.specs.layout.RecordsAs.{RecordsIn, recsAt};
 ghost use Rattle.queue.specs.change.ReopenAs.{IdsIn, idsAt};
 ghost use Rattle.queue.specs.check.SuspectsAs.{idR, InOrder};
 ghost use Rattle.queue.specs.change.ClashAs.{rowHas, RowsOf, CutId, anyOf, MeetsIs, meetsIds, clashes};
@@ -147,22 +149,21 @@ fn meets(
     any_lent(s, base, x.at, f.ins, ids, m, v, ordered)
 }
 
-// The same of one of the n records at `at`.
+// The same of one of the records.
 fn any_meets(
     s: &[u8],
-    at: usize,
-    n: u64,
+    recs: Records,
     read: bool,
     ids: &[u8],
     m: u64,
     v: &[u64],
     ordered: bool,
 ) -> bool
-    requires { ⌜ (at ≤ length (now s)) × (whole (formC false recC) n (now s) at ≡ true) × IdsIn (now ids) m × RowsOf (now ids) m (now v) × (ordered ≡ true → InOrder false (now ids) (now v)) ⌝ }
-    ensures { λ r. ⌜ r ≡ meetsIds read (idsAt (now (ids .entry)) m) (listAt (formC false recC) n (now (s .entry)) at) ⌝ }
+    requires { ⌜ RecordsIn (formC false recC) (now s) recs × IdsIn (now ids) m × RowsOf (now ids) m (now v) × (ordered ≡ true → InOrder false (now ids) (now v)) ⌝ }
+    ensures { λ r. ⌜ r ≡ meetsIds read (idsAt (now (ids .entry)) m) (recsAt (formC false recC) (now (s .entry)) recs) ⌝ }
 {
-    let mut i = at;
-    let mut left = n;
+    let mut i = recs.start;
+    let mut left = recs.count;
     while 0 < left {
         let x = rec_at(s, i);
         if meets(s, i, x, read, ids, m, v, ordered) {
@@ -175,21 +176,21 @@ fn any_meets(
 }
 
 // The rows of v are put in order first.
-fn clash_by(ids: &[u8], m: u64, s: &[u8], at: usize, n: u64, read: bool, v: &mut [u64]) -> bool
-    requires { ⌜ (at ≤ length (now s)) × (whole (formC false recC) n (now s) at ≡ true) × IdsIn (now ids) m × RowsOf (now ids) m (now v) ⌝ }
-    ensures { λ r. ⌜ r ≡ clashes read (idsAt (now (ids .entry)) m) (listAt (formC false recC) n (now (s .entry)) at) ⌝ }
+fn clash_by(ids: &[u8], m: u64, s: &[u8], recs: Records, read: bool, v: &mut [u64]) -> bool
+    requires { ⌜ RecordsIn (formC false recC) (now s) recs × IdsIn (now ids) m × RowsOf (now ids) m (now v) ⌝ }
+    ensures { λ r. ⌜ r ≡ clashes read (idsAt (now (ids .entry)) m) (recsAt (formC false recC) (now (s .entry)) recs) ⌝ }
 {
     order_rows(ids, Order::Ids(false), v);
     let o = in_order(ids, false, v);
-    any_meets(s, at, n, read, ids, m, v, o)
+    any_meets(s, recs, read, ids, m, v, o)
 }
 
-// Does one of the n records at `at` spend one of m lent ids, or, if so asked, read it?
-pub fn ids_clash(ids: &[u8], m: u64, s: &[u8], at: usize, n: u64, read: bool) -> bool
-    requires { ⌜ IdsIn (now ids) m × (at ≤ length (now s)) × (whole (formC false recC) n (now s) at ≡ true) × (m ≤ 128) × (length (now ids) < 4294967296) ⌝ }
-    ensures { λ r. ⌜ r ≡ clashes read (idsAt (now (ids .entry)) m) (listAt (formC false recC) n (now (s .entry)) at) ⌝ }
+// Does one of the records spend one of m lent ids, or, if so asked, read it?
+pub fn ids_clash(ids: &[u8], m: u64, s: &[u8], recs: Records, read: bool) -> bool
+    requires { ⌜ IdsIn (now ids) m × RecordsIn (formC false recC) (now s) recs × (m ≤ 128) × (length (now ids) < 4294967296) ⌝ }
+    ensures { λ r. ⌜ r ≡ clashes read (idsAt (now (ids .entry)) m) (recsAt (formC false recC) (now (s .entry)) recs) ⌝ }
 {
     let mut v = [0u64; 128];
     let k = place_rows(ids, m, &mut v);
-    clash_by(ids, m, s, at, n, read, &mut v[..k])
+    clash_by(ids, m, s, recs, read, &mut v[..k])
 }

@@ -17,15 +17,16 @@ use crate::layout::frame::Height;
 use crate::layout::frame::Seen;
 use crate::layout::frame::Time;
 use crate::layout::frame::rec_at;
+use crate::layout::records::Records;
 ghost use mathlib.Core.Path.{_≡_};
-ghost use mathlib.Core.Bool.{true, false, cond};
+ghost use mathlib.Core.Bool.{false, cond};
 ghost use mathlib.Core.List.{[]};
 ghost use Prim.Native.Nat.{ℕ, _+_, _≤_, _<_};
 ghost use lib.Dec.{leb, ltb};
 ghost use lib.ListN.{length, take};
 ghost use Rattle.queue.specs.Codec.{All};
 ghost use Rattle.queue.specs.layout.FrameCodec.{recC};
-ghost use Rattle.queue.specs.bytes.ReaderAs.{whole, listAt};
+ghost use Rattle.queue.specs.layout.RecordsAs.{RecordsIn, recsAt};
 ghost use Rattle.queue.specs.layout.FormsCodec.{formC};
 ghost use Rattle.queue.specs.paper.Lists.{count};
 ghost use Rattle.queue.specs.paper.Sound.{holder?, tombstones};
@@ -82,12 +83,12 @@ fn rank_next(hit: bool, given: u64) -> u64
 }
 
 // How many records a call finishes.
-pub fn hits(s: &[u8], at: usize, n: u64, c: Change, id: [u8; 32]) -> u64
-    requires { ⌜ (at ≤ length (now s)) × (whole (formC false recC) n (now s) at ≡ true) ⌝ }
-    ensures { λ r. ⌜ (r ≡ count (picked c id) (listAt (formC false recC) n (now (s .entry)) at)) × (r ≤ n) ⌝ }
+pub fn hits(s: &[u8], recs: Records, c: Change, id: [u8; 32]) -> u64
+    requires { ⌜ RecordsIn (formC false recC) (now s) recs ⌝ }
+    ensures { λ r. ⌜ (r ≡ count (picked c id) (recsAt (formC false recC) (now (s .entry)) recs)) × (r ≤ recs .count) ⌝ }
 {
-    let mut i = at;
-    let mut left = n;
+    let mut i = recs.start;
+    let mut left = recs.count;
     let mut total: u64 = 0;
     while 0 < left {
         let x = rec_at(s, i);
@@ -99,12 +100,12 @@ pub fn hits(s: &[u8], at: usize, n: u64, c: Change, id: [u8; 32]) -> u64
 }
 
 // The lowest finish number that stays once m records are finished after num: those below it are beyond t.
-pub fn floor(s: &[u8], at: usize, n: u64, num: Finish, m: u64, t: u64) -> Finish
-    requires { ⌜ (at ≤ length (now s)) × (whole (formC false recC) n (now s) at ≡ true) × (n < 4294967296) × (m ≤ n) × (num .0 + m < 18446744073709551616) × (0 < t) × (t < 4294967296) × All (λ y. holder? y ≡ false → y .finish ≤ num .0) (listAt (formC false recC) n (now s) at) × (tombstones (listAt (formC false recC) n (now s) at) ≤ 1024) ⌝ }
-    ensures { λ r. ⌜ ((sum Query.Tombstones (listAt (formC false recC) n (now (s .entry)) at) + m ≤ t) × (r .0 ≡ 0)) ⊎ ((x : ℕ) → ltb (above (num .0) m (listAt (formC false recC) n (now (s .entry)) at) x) t ≡ leb (r .0) x) ⌝ }
+pub fn floor(s: &[u8], recs: Records, num: Finish, m: u64, t: u64) -> Finish
+    requires { ⌜ RecordsIn (formC false recC) (now s) recs × (recs .count < 4294967296) × (m ≤ recs .count) × (num .0 + m < 18446744073709551616) × (0 < t) × (t < 4294967296) × All (λ y. holder? y ≡ false → y .finish ≤ num .0) (recsAt (formC false recC) (now s) recs) × (tombstones (recsAt (formC false recC) (now s) recs) ≤ 1024) ⌝ }
+    ensures { λ r. ⌜ ((sum Query.Tombstones (recsAt (formC false recC) (now (s .entry)) recs) + m ≤ t) × (r .0 ≡ 0)) ⊎ ((x : ℕ) → ltb (above (num .0) m (recsAt (formC false recC) (now (s .entry)) recs) x) t ≡ leb (r .0) x) ⌝ }
 {
     let mut v = [0u64; 1024];
-    let k = gather(s, AREA, at, n, &mut v);
+    let k = gather(s, AREA, recs, &mut v);
     if k as u64 + m <= t {
         return Finish(0);
     }

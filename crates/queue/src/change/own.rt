@@ -16,6 +16,7 @@ use crate::layout::forms::after_in;
 use crate::layout::frame::Seen;
 use crate::layout::frame::id_read;
 use crate::layout::frame::rec_at;
+use crate::layout::records::Records;
 use crate::layout::state;
 use crate::read::links::clear;
 ghost use mathlib.Core.Path.{_≡_};
@@ -29,6 +30,7 @@ ghost use Rattle.queue.specs.layout.FrameCodec.{recC, idC};
 ghost use Rattle.queue.specs.layout.FormsCodec.{formC};
 ghost use Rattle.queue.specs.bytes.ViewAs.{view};
 ghost use Rattle.queue.specs.bytes.ReaderAs.{whole, listAt};
+ghost use Rattle.queue.specs.layout.RecordsAs.{RecordsIn, recsAt};
 ghost use Rattle.queue.specs.change.ReopenAs.{IdsRise, idsAt};
 ghost use Rattle.queue.specs.check.FilterAs.{hashL, markL};
 ghost use Rattle.queue.specs.check.SuspectsAs.{idR, noR, later, InOrder};
@@ -39,13 +41,13 @@ ghost use Rattle.queue.specs.paper.Lists.{any?, all?};
 ghost use Rattle.queue.specs.paper.Sound.{among?};
 ghost use Rattle.queue.specs.paper.Changing.{queuedOutputs};
 
-// How many ids n records at `at` want.
-pub fn count_wanted(s: &[u8], at: usize, n: u64) -> u64
-    requires { ⌜ (at ≤ length (now s)) × (whole (formC false recC) n (now s) at ≡ true) × (n < 4294967296) ⌝ }
-    ensures { λ r. ⌜ (r ≡ length (wantedOf (listAt (formC false recC) n (now (s .entry)) at))) × (r ≤ n * 131070) ⌝ }
+// How many ids the records want.
+pub fn count_wanted(s: &[u8], recs: Records) -> u64
+    requires { ⌜ RecordsIn (formC false recC) (now s) recs × (recs .count < 4294967296) ⌝ }
+    ensures { λ r. ⌜ (r ≡ length (wantedOf (recsAt (formC false recC) (now (s .entry)) recs))) × (r ≤ recs .count * 131070) ⌝ }
 {
-    let mut i = at;
-    let mut left = n;
+    let mut i = recs.start;
+    let mut left = recs.count;
     let mut total: u64 = 0;
     while 0 < left {
         let x = rec_at(s, i);
@@ -135,13 +137,13 @@ fn note_ids(
     }
 }
 
-// The flags of all wanted ids of n records at `at` that are available; the others into the filter.
-fn note_all(s: &[u8], at: usize, n: u64, ids: &[u8], m: u64, flags: &mut [u64], t: &mut [u64])
-    requires { ⌜ (at ≤ length (now s)) × (whole (formC false recC) n (now s) at ≡ true) × IdsRise (now ids) m × Fits (length (wantedOf (listAt (formC false recC) n (now s) at))) (now flags) × (0 < length (now t)) ⌝ }
-    ensures { λ _. ⌜ ((bitsIn (now (flags .exit))) ≡ markAll (λ z. among? z (idsAt (now (ids .entry)) m)) (wantedOf (listAt (formC false recC) n (now (s .entry)) at)) (bitsIn (now (flags .entry))) 0) × (now (t .exit) ≡ missAll (λ z. among? z (idsAt (now (ids .entry)) m)) (wantedOf (listAt (formC false recC) n (now (s .entry)) at)) (now (t .entry))) ⌝ }
+// The flags of all wanted ids of the records that are available; the others into the filter.
+fn note_all(s: &[u8], recs: Records, ids: &[u8], m: u64, flags: &mut [u64], t: &mut [u64])
+    requires { ⌜ RecordsIn (formC false recC) (now s) recs × IdsRise (now ids) m × Fits (length (wantedOf (recsAt (formC false recC) (now s) recs))) (now flags) × (0 < length (now t)) ⌝ }
+    ensures { λ _. ⌜ ((bitsIn (now (flags .exit))) ≡ markAll (λ z. among? z (idsAt (now (ids .entry)) m)) (wantedOf (recsAt (formC false recC) (now (s .entry)) recs)) (bitsIn (now (flags .entry))) 0) × (now (t .exit) ≡ missAll (λ z. among? z (idsAt (now (ids .entry)) m)) (wantedOf (recsAt (formC false recC) (now (s .entry)) recs)) (now (t .entry))) ⌝ }
 {
-    let mut i = at;
-    let mut left = n;
+    let mut i = recs.start;
+    let mut left = recs.count;
     let mut g: usize = 0;
     while 0 < left {
         let x = rec_at(s, i);
@@ -195,13 +197,13 @@ fn mark_ids(
     }
 }
 
-// The flags of all wanted ids of n records at `at` that are rows'.
-fn mark_all(s: &[u8], at: usize, n: u64, v: &[u64], ordered: bool, flags: &mut [u64])
-    requires { ⌜ (at ≤ length (now s)) × (whole (formC false recC) n (now s) at ≡ true) × (length (now s) < 4294967296) × (ordered ≡ true → InOrder false (now s) (now v)) × Fits (length (wantedOf (listAt (formC false recC) n (now s) at))) (now flags) ⌝ }
-    ensures { λ _. ⌜ (bitsIn (now (flags .exit))) ≡ markAll (λ z. any? (later false (now (s .entry)) z 0) (now (v .entry))) (wantedOf (listAt (formC false recC) n (now (s .entry)) at)) (bitsIn (now (flags .entry))) 0 ⌝ }
+// The flags of all wanted ids of the records that are rows'.
+fn mark_all(s: &[u8], recs: Records, v: &[u64], ordered: bool, flags: &mut [u64])
+    requires { ⌜ RecordsIn (formC false recC) (now s) recs × (length (now s) < 4294967296) × (ordered ≡ true → InOrder false (now s) (now v)) × Fits (length (wantedOf (recsAt (formC false recC) (now s) recs))) (now flags) ⌝ }
+    ensures { λ _. ⌜ (bitsIn (now (flags .exit))) ≡ markAll (λ z. any? (later false (now (s .entry)) z 0) (now (v .entry))) (wantedOf (recsAt (formC false recC) (now (s .entry)) recs)) (bitsIn (now (flags .entry))) 0 ⌝ }
 {
-    let mut i = at;
-    let mut left = n;
+    let mut i = recs.start;
+    let mut left = recs.count;
     let mut g: usize = 0;
     while 0 < left {
         let x = rec_at(s, i);
@@ -216,21 +218,20 @@ fn mark_all(s: &[u8], at: usize, n: u64, v: &[u64], ordered: bool, flags: &mut [
 }
 
 // The flags of the wanted ids that are rows', the rows put in order first.
-fn flag_rows(s: &[u8], at: usize, n: u64, v: &mut [u64], flags: &mut [u64])
-    requires { ⌜ (at ≤ length (now s)) × (whole (formC false recC) n (now s) at ≡ true) × (length (now s) < 4294967296) × Fits (length (wantedOf (listAt (formC false recC) n (now s) at))) (now flags) ⌝ }
-    ensures { λ _. ⌜ Settled (now (s .entry)) (wantedOf (listAt (formC false recC) n (now (s .entry)) at)) (bitsIn (now (flags .entry))) (now (v .entry)) (bitsIn (now (flags .exit))) (now (v .exit)) ⌝ }
+fn flag_rows(s: &[u8], recs: Records, v: &mut [u64], flags: &mut [u64])
+    requires { ⌜ RecordsIn (formC false recC) (now s) recs × (length (now s) < 4294967296) × Fits (length (wantedOf (recsAt (formC false recC) (now s) recs))) (now flags) ⌝ }
+    ensures { λ _. ⌜ Settled (now (s .entry)) (wantedOf (recsAt (formC false recC) (now (s .entry)) recs)) (bitsIn (now (flags .entry))) (now (v .entry)) (bitsIn (now (flags .exit))) (now (v .exit)) ⌝ }
 {
     order_rows(s, Order::Ids(false), v);
     let o = in_order(s, false, v);
-    mark_all(s, at, n, v, o, flags);
+    mark_all(s, recs, v, o, flags);
 }
 
 // The row w behind k others, if the filter has its id, whose number is h; a full table is settled and begun anew. Returns how many rows
 // there are then.
 fn add_output(
     s: &[u8],
-    at: usize,
-    n: u64,
+    recs: Records,
     v: &mut [u64],
     flags: &mut [u64],
     t: &[u64],
@@ -238,8 +239,8 @@ fn add_output(
     w: u64,
     h: u64,
 ) -> usize
-    requires { ⌜ (at ≤ length (now s)) × (whole (formC false recC) n (now s) at ≡ true) × (length (now s) < 4294967296) × Fits (length (wantedOf (listAt (formC false recC) n (now s) at))) (now flags) × (k ≤ length (now v)) × (0 < length (now v)) × (0 < length (now t)) × (h ≡ hashL (idR false (now s) w)) ⌝ }
-    ensures { λ r. ⌜ Taken (now (s .entry)) (wantedOf (listAt (formC false recC) n (now (s .entry)) at)) (now (t .entry)) (bitsIn (now (flags .entry))) (take k (now (v .entry))) (λ z. later false (now (s .entry)) z 0 w) (bitsIn (now (flags .exit))) (take r (now (v .exit))) × (r ≤ length (now (v .entry))) ⌝ }
+    requires { ⌜ RecordsIn (formC false recC) (now s) recs × (length (now s) < 4294967296) × Fits (length (wantedOf (recsAt (formC false recC) (now s) recs))) (now flags) × (k ≤ length (now v)) × (0 < length (now v)) × (0 < length (now t)) × (h ≡ hashL (idR false (now s) w)) ⌝ }
+    ensures { λ r. ⌜ Taken (now (s .entry)) (wantedOf (recsAt (formC false recC) (now (s .entry)) recs)) (now (t .entry)) (bitsIn (now (flags .entry))) (take k (now (v .entry))) (λ z. later false (now (s .entry)) z 0 w) (bitsIn (now (flags .exit))) (take r (now (v .exit))) × (r ≤ length (now (v .entry))) ⌝ }
 {
     if !seen(t, h) {
         return k;
@@ -248,7 +249,7 @@ fn add_output(
         v[k] = w;
         return k + 1;
     }
-    flag_rows(s, at, n, v, flags);
+    flag_rows(s, recs, v, flags);
     v[0] = w;
     1
 }
@@ -256,8 +257,7 @@ fn add_output(
 // The c ids at offset `outs` of the frame at base.
 fn add_rows(
     s: &[u8],
-    at: usize,
-    n: u64,
+    recs: Records,
     v: &mut [u64],
     flags: &mut [u64],
     t: &[u64],
@@ -266,8 +266,8 @@ fn add_rows(
     outs: usize,
     c: u64,
 ) -> usize
-    requires { ⌜ (at ≤ length (now s)) × (whole (formC false recC) n (now s) at ≡ true) × (length (now s) < 4294967296) × Fits (length (wantedOf (listAt (formC false recC) n (now s) at))) (now flags) × (k ≤ length (now v)) × (0 < length (now v)) × (0 < length (now t)) × (outs ≤ length (view false (now s) base)) × (whole idC c (view false (now s) base) outs ≡ true) ⌝ }
-    ensures { λ r. ⌜ Taken (now (s .entry)) (wantedOf (listAt (formC false recC) n (now (s .entry)) at)) (now (t .entry)) (bitsIn (now (flags .entry))) (take k (now (v .entry))) (λ z. among? z (listAt idC c (view false (now (s .entry)) base) outs)) (bitsIn (now (flags .exit))) (take r (now (v .exit))) × (r ≤ length (now (v .entry))) ⌝ }
+    requires { ⌜ RecordsIn (formC false recC) (now s) recs × (length (now s) < 4294967296) × Fits (length (wantedOf (recsAt (formC false recC) (now s) recs))) (now flags) × (k ≤ length (now v)) × (0 < length (now v)) × (0 < length (now t)) × (outs ≤ length (view false (now s) base)) × (whole idC c (view false (now s) base) outs ≡ true) ⌝ }
+    ensures { λ r. ⌜ Taken (now (s .entry)) (wantedOf (recsAt (formC false recC) (now (s .entry)) recs)) (now (t .entry)) (bitsIn (now (flags .entry))) (take k (now (v .entry))) (λ z. among? z (listAt idC c (view false (now (s .entry)) base) outs)) (bitsIn (now (flags .exit))) (take r (now (v .exit))) × (r ≤ length (now (v .entry))) ⌝ }
 {
     let mut i = outs;
     let mut left = c;
@@ -276,7 +276,7 @@ fn add_rows(
         let x = id_read(s, false, base, i);
         let id = x.id;
         let w = row_at(s, false, base, i, 1);
-        h = add_output(s, at, n, v, flags, t, h, w, hash(id));
+        h = add_output(s, recs, v, flags, t, h, w, hash(id));
         i = x.next;
         left = left - 1;
     }
@@ -286,8 +286,7 @@ fn add_rows(
 // The outputs of the record read at base, if that is Queued.
 fn add_outputs(
     s: &[u8],
-    at: usize,
-    n: u64,
+    recs: Records,
     v: &mut [u64],
     flags: &mut [u64],
     t: &[u64],
@@ -295,38 +294,37 @@ fn add_outputs(
     base: usize,
     x: Seen,
 ) -> usize
-    requires { ⌜ (at ≤ length (now s)) × (whole (formC false recC) n (now s) at ≡ true) × (length (now s) < 4294967296) × Fits (length (wantedOf (listAt (formC false recC) n (now s) at))) (now flags) × (k ≤ length (now v)) × (0 < length (now v)) × (0 < length (now t)) × (x .outs ≤ length (view false (now s) base)) × (whole idC (x .facts .outs) (view false (now s) base) (x .outs) ≡ true) ⌝ }
-    ensures { λ r. ⌜ Taken (now (s .entry)) (wantedOf (listAt (formC false recC) n (now (s .entry)) at)) (now (t .entry)) (bitsIn (now (flags .entry))) (take k (now (v .entry))) (λ z. eqb (x .facts .state) 0 && among? z (listAt idC (x .facts .outs) (view false (now (s .entry)) base) (x .outs))) (bitsIn (now (flags .exit))) (take r (now (v .exit))) × (r ≤ length (now (v .entry))) ⌝ }
+    requires { ⌜ RecordsIn (formC false recC) (now s) recs × (length (now s) < 4294967296) × Fits (length (wantedOf (recsAt (formC false recC) (now s) recs))) (now flags) × (k ≤ length (now v)) × (0 < length (now v)) × (0 < length (now t)) × (x .outs ≤ length (view false (now s) base)) × (whole idC (x .facts .outs) (view false (now s) base) (x .outs) ≡ true) ⌝ }
+    ensures { λ r. ⌜ Taken (now (s .entry)) (wantedOf (recsAt (formC false recC) (now (s .entry)) recs)) (now (t .entry)) (bitsIn (now (flags .entry))) (take k (now (v .entry))) (λ z. eqb (x .facts .state) 0 && among? z (listAt idC (x .facts .outs) (view false (now (s .entry)) base) (x .outs))) (bitsIn (now (flags .exit))) (take r (now (v .exit))) × (r ≤ length (now (v .entry))) ⌝ }
 {
     let f = x.facts;
     if f.state != state::QUEUED {
         return k;
     }
-    add_rows(s, at, n, v, flags, t, k, base, x.outs, f.outs)
+    add_rows(s, recs, v, flags, t, k, base, x.outs, f.outs)
 }
 
-// The outputs of the Queued ones of n records at `at`, those that the filter has; returns how many rows are left.
-fn add_queued(s: &[u8], at: usize, n: u64, v: &mut [u64], flags: &mut [u64], t: &[u64]) -> usize
-    requires { ⌜ (at ≤ length (now s)) × (whole (formC false recC) n (now s) at ≡ true) × (length (now s) < 4294967296) × Fits (length (wantedOf (listAt (formC false recC) n (now s) at))) (now flags) × (0 < length (now v)) × (0 < length (now t)) ⌝ }
-    ensures { λ r. ⌜ Taken (now (s .entry)) (wantedOf (listAt (formC false recC) n (now (s .entry)) at)) (now (t .entry)) (bitsIn (now (flags .entry))) [] (λ z. among? z (queuedOutputs (listAt (formC false recC) n (now (s .entry)) at))) (bitsIn (now (flags .exit))) (take r (now (v .exit))) × (r ≤ length (now (v .entry))) ⌝ }
+// The outputs of the Queued ones of the records, those that the filter has; returns how many rows are left.
+fn add_queued(s: &[u8], recs: Records, v: &mut [u64], flags: &mut [u64], t: &[u64]) -> usize
+    requires { ⌜ RecordsIn (formC false recC) (now s) recs × (length (now s) < 4294967296) × Fits (length (wantedOf (recsAt (formC false recC) (now s) recs))) (now flags) × (0 < length (now v)) × (0 < length (now t)) ⌝ }
+    ensures { λ r. ⌜ Taken (now (s .entry)) (wantedOf (recsAt (formC false recC) (now (s .entry)) recs)) (now (t .entry)) (bitsIn (now (flags .entry))) [] (λ z. among? z (queuedOutputs (recsAt (formC false recC) (now (s .entry)) recs))) (bitsIn (now (flags .exit))) (take r (now (v .exit))) × (r ≤ length (now (v .entry))) ⌝ }
 {
-    let mut i = at;
-    let mut left = n;
+    let mut i = recs.start;
+    let mut left = recs.count;
     let mut k: usize = 0;
     while 0 < left {
         let x = rec_at(s, i);
-        k = add_outputs(s, at, n, v, flags, t, k, i, x);
+        k = add_outputs(s, recs, v, flags, t, k, i, x);
         i = after_in(s, false, i, x.size);
         left = left - 1;
     }
     k
 }
 
-// The flags of the wanted ids of n records at `at` that are available, and the filter of the others, if they are to be and there is room.
+// The flags of the wanted ids of the records that are available, and the filter of the others, if they are to be and there is room.
 pub fn note_flags(
     s: &[u8],
-    at: usize,
-    n: u64,
+    recs: Records,
     ids: &[u8],
     m: u64,
     go: bool,
@@ -334,15 +332,15 @@ pub fn note_flags(
     flags: &mut [u64],
     t: &mut [u64],
 ) -> bool
-    requires { ⌜ (at ≤ length (now s)) × (whole (formC false recC) n (now s) at ≡ true) × IdsRise (now ids) m × (go ≡ true → total ≡ length (wantedOf (listAt (formC false recC) n (now s) at))) × (total ≤ 524288) ⌝ }
-    ensures { λ r. ⌜ (r ≡ true → go ≡ true) × (r ≡ true → Noted (λ z. among? z (idsAt (now (ids .entry)) m)) (wantedOf (listAt (formC false recC) n (now (s .entry)) at)) (now (flags .exit)) (now (t .exit))) ⌝ }
+    requires { ⌜ RecordsIn (formC false recC) (now s) recs × IdsRise (now ids) m × (go ≡ true → total ≡ length (wantedOf (recsAt (formC false recC) (now s) recs))) × (total ≤ 524288) ⌝ }
+    ensures { λ r. ⌜ (r ≡ true → go ≡ true) × (r ≡ true → Noted (λ z. among? z (idsAt (now (ids .entry)) m)) (wantedOf (recsAt (formC false recC) (now (s .entry)) recs)) (now (flags .exit)) (now (t .exit))) ⌝ }
 {
     let words = (total + 63) / 64;
     if !both(go, both(words <= flags.len() as u64, 0 < t.len())) {
         return false;
     }
     clear(flags, true);
-    note_all(s, at, n, ids, m, flags, t);
+    note_all(s, recs, ids, m, flags, t);
     true
 }
 
@@ -350,15 +348,14 @@ pub fn note_flags(
 // looked at only where an id is not available, and ids looked up only where the filter has an output.
 pub fn own_flags(
     s: &[u8],
-    at: usize,
-    n: u64,
+    recs: Records,
     total: u64,
     v: &mut [u64],
     flags: &mut [u64],
     t: &[u64],
 ) -> bool
-    requires { ⌜ (at ≤ length (now s)) × (whole (formC false recC) n (now s) at ≡ true) × (length (now s) < 4294967296) × Fits (length (wantedOf (listAt (formC false recC) n (now s) at))) (now flags) × (total ≡ length (wantedOf (listAt (formC false recC) n (now s) at))) × (0 < length (now t)) ⌝ }
-    ensures { λ r. ⌜ (r ≡ true → (own : List Id) → Noted (λ z. among? z own) (wantedOf (listAt (formC false recC) n (now (s .entry)) at)) (now (flags .entry)) (now (t .entry)) → FlagsAre (λ z. among? z (ownIds own (listAt (formC false recC) n (now (s .entry)) at))) (wantedOf (listAt (formC false recC) n (now (s .entry)) at)) (bitsIn (now (flags .exit)))) ⌝ }
+    requires { ⌜ RecordsIn (formC false recC) (now s) recs × (length (now s) < 4294967296) × Fits (length (wantedOf (recsAt (formC false recC) (now s) recs))) (now flags) × (total ≡ length (wantedOf (recsAt (formC false recC) (now s) recs))) × (0 < length (now t)) ⌝ }
+    ensures { λ r. ⌜ (r ≡ true → (own : List Id) → Noted (λ z. among? z own) (wantedOf (recsAt (formC false recC) (now (s .entry)) recs)) (now (flags .entry)) (now (t .entry)) → FlagsAre (λ z. among? z (ownIds own (recsAt (formC false recC) (now (s .entry)) recs))) (wantedOf (recsAt (formC false recC) (now (s .entry)) recs)) (bitsIn (now (flags .exit)))) ⌝ }
 {
     if v.len() == 0 {
         return false;
@@ -366,10 +363,10 @@ pub fn own_flags(
     if all_set(flags, 0, total) {
         return true;
     }
-    let k = add_queued(s, at, n, v, flags, t);
+    let k = add_queued(s, recs, v, flags, t);
     if k == 0 {
         return true;
     }
-    flag_rows(s, at, n, &mut v[..k], flags);
+    flag_rows(s, recs, &mut v[..k], flags);
     true
 }

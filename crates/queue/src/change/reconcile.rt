@@ -23,6 +23,7 @@ use crate::check::area::area_at;
 use crate::layout::frame::Finish;
 use crate::layout::frame::Height;
 use crate::layout::head::Marks;
+use crate::layout::records::Records;
 use crate::read::select::order;
 use crate::read::select::put_ids;
 use crate::refusal;
@@ -84,7 +85,11 @@ fn release_all(
     let o = a.open;
     let h = o.head;
     let l = h.limits;
-    let c = gather_mined(s, o.start, h.count, t, vs, ranks, times, places);
+    let recs = Records {
+        start: o.start,
+        count: h.count,
+    };
+    let c = gather_mined(s, recs, t, vs, ranks, times, places);
     release_rows(
         s,
         &mut ranks[..c],
@@ -110,7 +115,11 @@ fn floor_for(s: &[u8], a: Area, g: u64) -> Finish
     let h = o.head;
     let n = h.counter;
     let l = h.limits;
-    floor(s, o.start, h.count, n, g, l.t)
+    let recs = Records {
+        start: o.start,
+        count: h.count,
+    };
+    floor(s, recs, n, g, l.t)
 }
 
 // The rows for it: with the records at the places gone released; ranks has room for their ranks.
@@ -272,7 +281,11 @@ fn reconcile_lent(
     let h = o.head;
     let n = h.count as usize;
     let mut vs = [0u64; 3072];
-    judge(cur, o.start, h.count, t, b, ids, &mut vs);
+    let recs = Records {
+        start: o.start,
+        count: h.count,
+    };
+    judge(cur, recs, t, b, ids, &mut vs);
     let mut ranks = [0u64; 2048];
     let mut times = [0u64; 2048];
     let mut places = [0usize; 2048];

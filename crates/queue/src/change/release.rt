@@ -9,17 +9,18 @@ use crate::layout::forms::after_in;
 use crate::layout::frame::Facts;
 use crate::layout::frame::Height;
 use crate::layout::frame::rec_at;
+use crate::layout::records::Records;
 use crate::layout::state;
 use crate::read::select::add_place;
 use crate::read::select::add_row;
 ghost use mathlib.Core.Path.{_≡_};
-ghost use mathlib.Core.Bool.{true, false, _||_};
+ghost use mathlib.Core.Bool.{false, _||_};
 ghost use Prim.Native.Nat.{_+_, _-_, _≤_, _<_};
 ghost use lib.Dec.{ltb, leb};
 ghost use lib.ListN.{length, take};
 ghost use Rattle.queue.specs.Codec.{All};
 ghost use Rattle.queue.specs.layout.FrameCodec.{recC};
-ghost use Rattle.queue.specs.bytes.ReaderAs.{whole};
+ghost use Rattle.queue.specs.layout.RecordsAs.{RecordsIn};
 ghost use Rattle.queue.specs.layout.FormsCodec.{formC};
 ghost use Rattle.queue.specs.check.AreaAs.{limits};
 ghost use Rattle.queue.specs.change.TouchAs.{InEntry};
@@ -53,19 +54,18 @@ fn height_after(t: &[u8], v: Verdict, f: Facts) -> Height
 // A row for each Mined holder: height, how many records were left, place.
 pub fn gather_mined(
     s: &[u8],
-    at: usize,
-    n: u64,
+    recs: Records,
     t: &[u8],
     vs: &[u64],
     ranks: &mut [u64],
     times: &mut [u64],
     places: &mut [usize],
 ) -> usize
-    requires { ⌜ (at ≤ length (now s)) × (whole (formC false recC) n (now s) at ≡ true) × ((length (now vs) ≡ n) × All (InEntry (now t)) (now vs)) × Even (length (now ranks)) (now ranks) (now times) (now places) × (length (minedOf (now s) at n (now t) (now vs)) ≤ length (now ranks)) ⌝ }
-    ensures { λ r. ⌜ MinedGathered (now (s .entry)) n (minedOf (now (s .entry)) at n (now (t .entry)) (now (vs .entry))) (length (now (ranks .entry))) r (now (ranks .exit)) (now (times .exit)) (now (places .exit)) ⌝ }
+    requires { ⌜ RecordsIn (formC false recC) (now s) recs × ((length (now vs) ≡ recs .count) × All (InEntry (now t)) (now vs)) × Even (length (now ranks)) (now ranks) (now times) (now places) × (length (minedOf (now s) recs (now t) (now vs)) ≤ length (now ranks)) ⌝ }
+    ensures { λ r. ⌜ MinedGathered (now (s .entry)) (recs .count) (minedOf (now (s .entry)) recs (now (t .entry)) (now (vs .entry))) (length (now (ranks .entry))) r (now (ranks .exit)) (now (times .exit)) (now (places .exit)) ⌝ }
 {
-    let mut i = at;
-    let mut left = n;
+    let mut i = recs.start;
+    let mut left = recs.count;
     let mut j: usize = 0;
     let mut c: usize = 0;
     while 0 < left {

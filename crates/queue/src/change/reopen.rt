@@ -15,6 +15,7 @@ use crate::check::area::Area;
 use crate::check::area::area_at;
 use crate::layout::frame::Seen;
 use crate::layout::frame::rec_at;
+use crate::layout::records::Records;
 use crate::layout::state;
 use crate::refusal;
 ghost use mathlib.Core.Path.{_≡_};
@@ -23,7 +24,7 @@ ghost use mathlib.Core.List.{[]};
 ghost use Prim.Native.Nat.{_+_, _≤_};
 ghost use lib.ListN.{length, take};
 ghost use Rattle.queue.specs.layout.FrameCodec.{recC};
-ghost use Rattle.queue.specs.bytes.ReaderAs.{whole, listAt};
+ghost use Rattle.queue.specs.layout.RecordsAs.{RecordsIn, recsAt};
 ghost use Rattle.queue.specs.layout.FormsCodec.{formC};
 ghost use Rattle.queue.specs.change.CallsAs.{AreaIn};
 ghost use Rattle.queue.specs.change.ReopenAs.{IdsRise, idsAt, listedS, again, AgainFrom, AgainTo, ReopenTold};
@@ -46,13 +47,13 @@ fn listed(ids: &[u8], k: u64, x: Seen) -> bool
     find_lent(ids, k, id)
 }
 
-// Is one of n records at `at` listed?
-fn any_listed(s: &[u8], at: usize, n: u64, ids: &[u8], k: u64) -> bool
-    requires { ⌜ (at ≤ length (now s)) × (whole (formC false recC) n (now s) at ≡ true) × IdsRise (now ids) k ⌝ }
-    ensures { λ r. ⌜ r ≡ any? (listed? (idsAt (now (ids .entry)) k)) (listAt (formC false recC) n (now (s .entry)) at) ⌝ }
+// Is one of the records listed?
+fn any_listed(s: &[u8], recs: Records, ids: &[u8], k: u64) -> bool
+    requires { ⌜ RecordsIn (formC false recC) (now s) recs × IdsRise (now ids) k ⌝ }
+    ensures { λ r. ⌜ r ≡ any? (listed? (idsAt (now (ids .entry)) k)) (recsAt (formC false recC) (now (s .entry)) recs) ⌝ }
 {
-    let mut i = at;
-    let mut left = n;
+    let mut i = recs.start;
+    let mut left = recs.count;
     while 0 < left {
         let x = rec_at(s, i);
         if listed(ids, k, x) {
@@ -127,7 +128,11 @@ fn reopen_those(cur: &[u8], next: &mut [u8], a: Area, ids: &[u8], k: u64) -> Ans
 {
     let o = a.open;
     let h = o.head;
-    if !any_listed(cur, o.start, h.count, ids, k) {
+    let recs = Records {
+        start: o.start,
+        count: h.count,
+    };
+    if !any_listed(cur, recs, ids, k) {
         return Answer::Done(Kind::Nothing);
     }
     put_opened(cur, a, ids, k, next);

@@ -15,6 +15,7 @@ use crate::layout::frame::Seen;
 use crate::layout::frame::id_read;
 use crate::layout::frame::rec_at;
 use crate::layout::reason;
+use crate::layout::records::Records;
 use crate::layout::state;
 use crate::read::find::Found;
 ghost use mathlib.Core.Path.{_≡_};
@@ -24,6 +25,7 @@ ghost use lib.Dec.{eqb};
 ghost use lib.ListN.{length, take};
 ghost use Rattle.queue.specs.layout.FrameCodec.{recC, idC};
 ghost use Rattle.queue.specs.bytes.ReaderAs.{whole, listAt};
+ghost use Rattle.queue.specs.layout.RecordsAs.{RecordsIn, recsAt};
 ghost use Rattle.queue.specs.layout.FormsCodec.{formC};
 ghost use Rattle.queue.specs.bytes.ViewAs.{view};
 ghost use Rattle.queue.specs.change.ReopenAs.{IdsRise, idsAt};
@@ -78,13 +80,13 @@ fn confirmed(s: &[u8], base: usize, x: Seen, t: &[u8], p: usize) -> bool
     both(h.0 == n, cmp_id(a, b) == 1)
 }
 
-// Is the id an output of a Queued record, of the n records at `at`?
-fn is_output(s: &[u8], at: usize, n: u64, id: [u8; 32]) -> bool
-    requires { ⌜ (at ≤ length (now s)) × (whole (formC false recC) n (now s) at ≡ true) ⌝ }
-    ensures { λ r. ⌜ r ≡ among? id (queuedOutputs (listAt (formC false recC) n (now (s .entry)) at)) ⌝ }
+// Is the id an output of a Queued one of the records?
+fn is_output(s: &[u8], recs: Records, id: [u8; 32]) -> bool
+    requires { ⌜ RecordsIn (formC false recC) (now s) recs ⌝ }
+    ensures { λ r. ⌜ r ≡ among? id (queuedOutputs (recsAt (formC false recC) (now (s .entry)) recs)) ⌝ }
 {
-    let mut i = at;
-    let mut left = n;
+    let mut i = recs.start;
+    let mut left = recs.count;
     while 0 < left {
         let x = rec_at(s, i);
         if in_outputs(s, i, x, id) {
@@ -109,27 +111,27 @@ fn in_outputs(s: &[u8], base: usize, x: Seen, id: [u8; 32]) -> bool
 }
 
 // Is the id available, or an output of a Queued record?
-fn owned(s: &[u8], at: usize, n: u64, ids: &[u8], m: u64, id: [u8; 32]) -> bool
-    requires { ⌜ (at ≤ length (now s)) × (whole (formC false recC) n (now s) at ≡ true) × IdsRise (now ids) m ⌝ }
-    ensures { λ r. ⌜ r ≡ among? id (ownIds (idsAt (now (ids .entry)) m) (listAt (formC false recC) n (now (s .entry)) at)) ⌝ }
+fn owned(s: &[u8], recs: Records, ids: &[u8], m: u64, id: [u8; 32]) -> bool
+    requires { ⌜ RecordsIn (formC false recC) (now s) recs × IdsRise (now ids) m ⌝ }
+    ensures { λ r. ⌜ r ≡ among? id (ownIds (idsAt (now (ids .entry)) m) (recsAt (formC false recC) (now (s .entry)) recs)) ⌝ }
 {
     if lent::find_lent(ids, m, id) {
         return true;
     }
-    is_output(s, at, n, id)
+    is_output(s, recs, id)
 }
 
 // Are the c ids at offset `from` of the frame at base owned?
-fn fine(s: &[u8], at: usize, n: u64, base: usize, from: usize, c: u64, ids: &[u8], m: u64) -> bool
-    requires { ⌜ (at ≤ length (now s)) × (whole (formC false recC) n (now s) at ≡ true) × IdsRise (now ids) m × (from ≤ length (view false (now s) base)) × (whole idC c (view false (now s) base) from ≡ true) ⌝ }
-    ensures { λ r. ⌜ r ≡ all? (λ i. among? i (ownIds (idsAt (now (ids .entry)) m) (listAt (formC false recC) n (now (s .entry)) at))) (listAt idC c (view false (now (s .entry)) base) from) ⌝ }
+fn fine(s: &[u8], recs: Records, base: usize, from: usize, c: u64, ids: &[u8], m: u64) -> bool
+    requires { ⌜ RecordsIn (formC false recC) (now s) recs × IdsRise (now ids) m × (from ≤ length (view false (now s) base)) × (whole idC c (view false (now s) base) from ≡ true) ⌝ }
+    ensures { λ r. ⌜ r ≡ all? (λ i. among? i (ownIds (idsAt (now (ids .entry)) m) (recsAt (formC false recC) (now (s .entry)) recs))) (listAt idC c (view false (now (s .entry)) base) from) ⌝ }
 {
     let mut i = from;
     let mut left = c;
     while 0 < left {
         let y = id_read(s, false, base, i);
         let id = y.id;
-        if !owned(s, at, n, ids, m, id) {
+        if !owned(s, recs, ids, m, id) {
             return false;
         }
         i = y.next;
@@ -141,8 +143,7 @@ fn fine(s: &[u8], at: usize, n: u64, base: usize, from: usize, c: u64, ids: &[u8
 // Are all ids that the record read at base wants owned? By their flags, which begin at g, where there are flags.
 fn all_owned(
     s: &[u8],
-    at: usize,
-    n: u64,
+    recs: Records,
     base: usize,
     x: Seen,
     ids: &[u8],
@@ -151,17 +152,17 @@ fn all_owned(
     flags: &[u64],
     g: usize,
 ) -> bool
-    requires { ⌜ (at ≤ length (now s)) × (whole (formC false recC) n (now s) at ≡ true) × IdsRise (now ids) m × SeenHere (now s) base x × QuickFor quick (ownIds (idsAt (now ids) m) (listAt (formC false recC) n (now s) at)) (wantedAt (view false (now s) base) x) (bitsIn (now flags)) g (x .facts .ins + x .facts .reads) ⌝ }
-    ensures { λ r. ⌜ r ≡ all? (λ i. among? i (ownIds (idsAt (now (ids .entry)) m) (listAt (formC false recC) n (now (s .entry)) at))) (wantedAt (view false (now (s .entry)) base) x) ⌝ }
+    requires { ⌜ RecordsIn (formC false recC) (now s) recs × IdsRise (now ids) m × SeenHere (now s) base x × QuickFor quick (ownIds (idsAt (now ids) m) (recsAt (formC false recC) (now s) recs)) (wantedAt (view false (now s) base) x) (bitsIn (now flags)) g (x .facts .ins + x .facts .reads) ⌝ }
+    ensures { λ r. ⌜ r ≡ all? (λ i. among? i (ownIds (idsAt (now (ids .entry)) m) (recsAt (formC false recC) (now (s .entry)) recs))) (wantedAt (view false (now (s .entry)) base) x) ⌝ }
 {
     let f = x.facts;
     if quick {
         return all_set(flags, g, f.ins + f.reads);
     }
-    if !fine(s, at, n, base, x.at, f.ins, ids, m) {
+    if !fine(s, recs, base, x.at, f.ins, ids, m) {
         return false;
     }
-    fine(s, at, n, base, x.reads, f.reads, ids, m)
+    fine(s, recs, base, x.reads, f.reads, ids, m)
 }
 
 // What becomes of a record (`verdict`), and where the applied entry begins that confirms it.
@@ -188,13 +189,12 @@ fn pending_verdict(fine: bool, f: Facts) -> u64
     verdict::CONFLICTED
 }
 
-// The verdict on the record read at base, of the n records at `at`; the flags of the ids that it wants begin at g, where there are
+// The verdict on the one of the records that was read at base; the flags of the ids that it wants begin at g, where there are
 // flags.
 // In one number: what, and four times the number of the applied entry.
 fn touched(
     s: &[u8],
-    at: usize,
-    n: u64,
+    recs: Records,
     base: usize,
     x: Seen,
     t: &[u8],
@@ -204,8 +204,8 @@ fn touched(
     flags: &[u64],
     g: usize,
 ) -> u64
-    requires { ⌜ (at ≤ length (now s)) × (whole (formC false recC) n (now s) at ≡ true) × SeenHere (now s) base x × EntriesRise (now t) (b .entries) × IdsRise (now ids) (b .available) × QuickFor quick (ownIds (idsAt (now ids) (b .available)) (listAt (formC false recC) n (now s) at)) (wantedAt (view false (now s) base) x) (bitsIn (now flags)) g (x .facts .ins + x .facts .reads) ⌝ }
-    ensures { λ r. ⌜ TouchIs (now (s .entry)) at n base x (now (t .entry)) (b .entries) (b .caught) (idsAt (now (ids .entry)) (b .available)) r ⌝ }
+    requires { ⌜ RecordsIn (formC false recC) (now s) recs × SeenHere (now s) base x × EntriesRise (now t) (b .entries) × IdsRise (now ids) (b .available) × QuickFor quick (ownIds (idsAt (now ids) (b .available)) (recsAt (formC false recC) (now s) recs)) (wantedAt (view false (now s) base) x) (bitsIn (now flags)) g (x .facts .ins + x .facts .reads) ⌝ }
+    ensures { λ r. ⌜ TouchIs (now (s .entry)) recs base x (now (t .entry)) (b .entries) (b .caught) (idsAt (now (ids .entry)) (b .available)) r ⌝ }
 {
     let id = x.id;
     let f = x.facts;
@@ -219,7 +219,7 @@ fn touched(
     if !both(b.caught, pending(f.state)) {
         return 0;
     }
-    let a = all_owned(s, at, n, base, x, ids, b.available, quick, flags, g);
+    let a = all_owned(s, recs, base, x, ids, b.available, quick, flags, g);
     pending_verdict(a, f)
 }
 
@@ -238,11 +238,10 @@ pub fn verdict_of(t: &[u8], c: u64) -> Verdict
     Verdict { what: what, at: 0 }
 }
 
-// The verdicts on the n records at `at`, to the front of vs; quickly where there are flags of all wanted ids.
+// The verdicts on the records, to the front of vs; quickly where there are flags of all wanted ids.
 pub fn judge_all(
     s: &[u8],
-    at: usize,
-    n: u64,
+    recs: Records,
     t: &[u8],
     b: Block,
     ids: &[u8],
@@ -250,17 +249,17 @@ pub fn judge_all(
     flags: &[u64],
     vs: &mut [u64],
 )
-    requires { ⌜ (at ≤ length (now s)) × (whole (formC false recC) n (now s) at ≡ true) × EntriesRise (now t) (b .entries) × IdsRise (now ids) (b .available) × (n ≤ length (now vs)) × (n < 4294967296) × (quick ≡ true → FlagsAre (λ z. among? z (ownIds (idsAt (now ids) (b .available)) (listAt (formC false recC) n (now s) at))) (wantedOf (listAt (formC false recC) n (now s) at)) (bitsIn (now flags))) ⌝ }
-    ensures { λ _. ⌜ JudgedAt (now (s .entry)) at n b (now (t .entry)) (now (ids .entry)) (take n (now (vs .exit))) ⌝ }
+    requires { ⌜ RecordsIn (formC false recC) (now s) recs × EntriesRise (now t) (b .entries) × IdsRise (now ids) (b .available) × (recs .count ≤ length (now vs)) × (recs .count < 4294967296) × (quick ≡ true → FlagsAre (λ z. among? z (ownIds (idsAt (now ids) (b .available)) (recsAt (formC false recC) (now s) recs))) (wantedOf (recsAt (formC false recC) (now s) recs)) (bitsIn (now flags))) ⌝ }
+    ensures { λ _. ⌜ JudgedAt (now (s .entry)) recs b (now (t .entry)) (now (ids .entry)) (take (recs .count) (now (vs .exit))) ⌝ }
 {
-    let mut i = at;
-    let mut left = n;
+    let mut i = recs.start;
+    let mut left = recs.count;
     let mut j: usize = 0;
     let mut g: usize = 0;
     while 0 < left {
         let x = rec_at(s, i);
         let f = x.facts;
-        let c = touched(s, at, n, i, x, t, b, ids, quick, flags, g);
+        let c = touched(s, recs, i, x, t, b, ids, quick, flags, g);
         vs[j] = c;
         g = g + (f.ins + f.reads) as usize;
         i = after_in(s, false, i, x.size);

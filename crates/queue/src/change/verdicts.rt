@@ -5,13 +5,14 @@ use crate::change::own::count_wanted;
 use crate::change::own::note_flags;
 use crate::change::own::own_flags;
 use crate::change::touch::judge_all;
+use crate::layout::records::Records;
 ghost use mathlib.Core.Path.{_≡_};
 ghost use mathlib.Core.Bool.{true, false};
 ghost use Prim.Native.Nat.{_≤_, _<_};
 ghost use lib.ListN.{length, take};
 ghost use Rattle.queue.specs.layout.FrameCodec.{recC};
 ghost use Rattle.queue.specs.layout.FormsCodec.{formC};
-ghost use Rattle.queue.specs.bytes.ReaderAs.{whole, listAt};
+ghost use Rattle.queue.specs.layout.RecordsAs.{RecordsIn, recsAt};
 ghost use Rattle.queue.specs.change.ReopenAs.{IdsRise};
 ghost use Rattle.queue.specs.change.OwnAs.{wantedOf};
 ghost use Rattle.queue.specs.change.TouchAs.{EntriesRise, JudgedAt};
@@ -20,8 +21,7 @@ ghost use Rattle.queue.specs.change.TouchAs.{EntriesRise, JudgedAt};
 // only cost time.
 fn judge_few(
     s: &[u8],
-    at: usize,
-    n: u64,
+    recs: Records,
     t: &[u8],
     b: Block,
     ids: &[u8],
@@ -29,16 +29,15 @@ fn judge_few(
     total: u64,
     vs: &mut [u64],
 )
-    requires { ⌜ (at ≤ length (now s)) × (whole (formC false recC) n (now s) at ≡ true) × EntriesRise (now t) (b .entries) × IdsRise (now ids) (b .available) × (n ≤ length (now vs)) × (n < 4294967296) × (go ≡ true → length (now s) < 4294967296) × (go ≡ true → total ≡ length (wantedOf (listAt (formC false recC) n (now s) at))) × (total ≤ 524288) ⌝ }
-    ensures { λ _. ⌜ JudgedAt (now (s .entry)) at n b (now (t .entry)) (now (ids .entry)) (take n (now (vs .exit))) ⌝ }
+    requires { ⌜ RecordsIn (formC false recC) (now s) recs × EntriesRise (now t) (b .entries) × IdsRise (now ids) (b .available) × (recs .count ≤ length (now vs)) × (recs .count < 4294967296) × (go ≡ true → length (now s) < 4294967296) × (go ≡ true → total ≡ length (wantedOf (recsAt (formC false recC) (now s) recs))) × (total ≤ 524288) ⌝ }
+    ensures { λ _. ⌜ JudgedAt (now (s .entry)) recs b (now (t .entry)) (now (ids .entry)) (take (recs .count) (now (vs .exit))) ⌝ }
 {
     let mut rows = [0u64; 2048];
     let mut flags = [0u64; 128];
     let mut filter = [0u64; 512];
     let noted = note_flags(
         s,
-        at,
-        n,
+        recs,
         ids,
         b.available,
         go,
@@ -47,18 +46,17 @@ fn judge_few(
         &mut filter,
     );
     if !noted {
-        judge_all(s, at, n, t, b, ids, false, &flags, vs);
+        judge_all(s, recs, t, b, ids, false, &flags, vs);
         return;
     }
-    let quick = own_flags(s, at, n, total, &mut rows, &mut flags, &filter);
-    judge_all(s, at, n, t, b, ids, quick, &flags, vs);
+    let quick = own_flags(s, recs, total, &mut rows, &mut flags, &filter);
+    judge_all(s, recs, t, b, ids, quick, &flags, vs);
 }
 
 // The same with room for many.
 fn judge_many(
     s: &[u8],
-    at: usize,
-    n: u64,
+    recs: Records,
     t: &[u8],
     b: Block,
     ids: &[u8],
@@ -66,16 +64,15 @@ fn judge_many(
     total: u64,
     vs: &mut [u64],
 )
-    requires { ⌜ (at ≤ length (now s)) × (whole (formC false recC) n (now s) at ≡ true) × EntriesRise (now t) (b .entries) × IdsRise (now ids) (b .available) × (n ≤ length (now vs)) × (n < 4294967296) × (go ≡ true → length (now s) < 4294967296) × (go ≡ true → total ≡ length (wantedOf (listAt (formC false recC) n (now s) at))) × (total ≤ 524288) ⌝ }
-    ensures { λ _. ⌜ JudgedAt (now (s .entry)) at n b (now (t .entry)) (now (ids .entry)) (take n (now (vs .exit))) ⌝ }
+    requires { ⌜ RecordsIn (formC false recC) (now s) recs × EntriesRise (now t) (b .entries) × IdsRise (now ids) (b .available) × (recs .count ≤ length (now vs)) × (recs .count < 4294967296) × (go ≡ true → length (now s) < 4294967296) × (go ≡ true → total ≡ length (wantedOf (recsAt (formC false recC) (now s) recs))) × (total ≤ 524288) ⌝ }
+    ensures { λ _. ⌜ JudgedAt (now (s .entry)) recs b (now (t .entry)) (now (ids .entry)) (take (recs .count) (now (vs .exit))) ⌝ }
 {
     let mut rows = [0u64; 65536];
     let mut flags = [0u64; 8192];
     let mut filter = [0u64; 16384];
     let noted = note_flags(
         s,
-        at,
-        n,
+        recs,
         ids,
         b.available,
         go,
@@ -84,31 +81,31 @@ fn judge_many(
         &mut filter,
     );
     if !noted {
-        judge_all(s, at, n, t, b, ids, false, &flags, vs);
+        judge_all(s, recs, t, b, ids, false, &flags, vs);
         return;
     }
-    let quick = own_flags(s, at, n, total, &mut rows, &mut flags, &filter);
-    judge_all(s, at, n, t, b, ids, quick, &flags, vs);
+    let quick = own_flags(s, recs, total, &mut rows, &mut flags, &filter);
+    judge_all(s, recs, t, b, ids, quick, &flags, vs);
 }
 
-// The verdicts on the n records at `at`, to the front of vs. Each function with tables is called at two places that differ in two
+// The verdicts on the records, to the front of vs. Each function with tables is called at two places that differ in two
 // values: the compiler then makes no single call of them, which it would take in here together with the tables.
-pub fn judge(s: &[u8], at: usize, n: u64, t: &[u8], b: Block, ids: &[u8], vs: &mut [u64])
-    requires { ⌜ (at ≤ length (now s)) × (whole (formC false recC) n (now s) at ≡ true) × EntriesRise (now t) (b .entries) × IdsRise (now ids) (b .available) × (n ≤ length (now vs)) × (n < 4294967296) ⌝ }
-    ensures { λ _. ⌜ JudgedAt (now (s .entry)) at n b (now (t .entry)) (now (ids .entry)) (take n (now (vs .exit))) ⌝ }
+pub fn judge(s: &[u8], recs: Records, t: &[u8], b: Block, ids: &[u8], vs: &mut [u64])
+    requires { ⌜ RecordsIn (formC false recC) (now s) recs × EntriesRise (now t) (b .entries) × IdsRise (now ids) (b .available) × (recs .count ≤ length (now vs)) × (recs .count < 4294967296) ⌝ }
+    ensures { λ _. ⌜ JudgedAt (now (s .entry)) recs b (now (t .entry)) (now (ids .entry)) (take (recs .count) (now (vs .exit))) ⌝ }
 {
-    let total = count_wanted(s, at, n);
+    let total = count_wanted(s, recs);
     if !both(b.caught, s.len() < 4294967296) {
-        judge_few(s, at, n, t, b, ids, false, 0, vs);
+        judge_few(s, recs, t, b, ids, false, 0, vs);
         return;
     }
     if total <= 8192 {
-        judge_few(s, at, n, t, b, ids, true, total, vs);
+        judge_few(s, recs, t, b, ids, true, total, vs);
         return;
     }
     if total <= 524288 {
-        judge_many(s, at, n, t, b, ids, true, total, vs);
+        judge_many(s, recs, t, b, ids, true, total, vs);
         return;
     }
-    judge_many(s, at, n, t, b, ids, false, 0, vs);
+    judge_many(s, recs, t, b, ids, false, 0, vs);
 }

@@ -30,9 +30,10 @@ use crate::layout::head::Marks;
 use crate::layout::head::put_front;
 use crate::layout::head::tip_len;
 use crate::layout::reason;
+use crate::layout::records::Records;
 use crate::layout::state;
 ghost use mathlib.Core.Path.{_≡_};
-ghost use mathlib.Core.Bool.{true, false};
+ghost use mathlib.Core.Bool.{false};
 ghost use mathlib.Core.List.{[]};
 ghost use mathlib.Core.Logic.{_⊎_};
 ghost use Prim.Native.Nat.{ℕ, _+_, _*_, _/_, _≤_, _<_};
@@ -43,8 +44,7 @@ ghost use Rattle.queue.specs.theorems.Arguments.{Small};
 ghost use Rattle.queue.specs.layout.FrameAs.{termsAt};
 ghost use Rattle.queue.specs.bytes.PutAs.{Put};
 ghost use Rattle.queue.specs.layout.FrameCodec.{recC};
-ghost use Rattle.queue.specs.bytes.ReaderAs.{listAt};
-ghost use Rattle.queue.specs.layout.FormsCodec.{formC};
+ghost use Rattle.queue.specs.read.FindAs.{recsIn};
 ghost use Rattle.queue.specs.check.RulesAs.{sum};
 ghost use Rattle.queue.specs.change.CallsAs.{AreaIn};
 ghost use Rattle.queue.specs.change.FinishAs.{above};
@@ -396,7 +396,7 @@ pub fn put_moved(
 // The floor where m more records are finished; what the check counted says whether any is forgotten.
 fn floor_of(s: &[u8], a: Area, m: u64) -> Finish
     requires { ⌜ AreaIn (now s) a × (m ≤ a .open .head .count) × (a .open .head .counter .0 + m < 18446744073709551616) ⌝ }
-    ensures { λ r. ⌜ ((sum Query.Tombstones (listAt (formC false recC) (a .open .head .count) (now (s .entry)) (a .open .start)) + m ≤ a .open .head .limits .t) × (r .0 ≡ 0)) ⊎ ((x : ℕ) → ltb (above (a .open .head .counter .0) m (listAt (formC false recC) (a .open .head .count) (now (s .entry)) (a .open .start)) x) (a .open .head .limits .t) ≡ leb (r .0) x) ⌝ }
+    ensures { λ r. ⌜ ((sum Query.Tombstones (recsIn (now (s .entry)) a) + m ≤ a .open .head .limits .t) × (r .0 ≡ 0)) ⊎ ((x : ℕ) → ltb (above (a .open .head .counter .0) m (recsIn (now (s .entry)) a) x) (a .open .head .limits .t) ≡ leb (r .0) x) ⌝ }
 {
     let x = a.open;
     let h = x.head;
@@ -406,7 +406,11 @@ fn floor_of(s: &[u8], a: Area, m: u64) -> Finish
     if h.count - u.holders + m <= l.t {
         return Finish(0);
     }
-    floor(s, x.start, h.count, n, m, l.t)
+    let recs = Records {
+        start: x.start,
+        count: h.count,
+    };
+    floor(s, recs, n, m, l.t)
 }
 
 // The front of a queue that is committed with m records finished and so many kept, under the cursor that it has.

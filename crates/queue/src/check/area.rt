@@ -17,17 +17,19 @@ use crate::layout::frame::Height;
 use crate::layout::frame::head_at;
 use crate::layout::frame::num;
 use crate::layout::limits::Limits;
+use crate::layout::records::Records;
 ghost use mathlib.Core.Path.{_≡_};
-ghost use mathlib.Core.Bool.{true, false, _&&_};
+ghost use mathlib.Core.Bool.{false, _&&_};
 ghost use Prim.Native.Nat.{_+_, _-_, _*_, _≤_, _<_};
 ghost use lib.Dec.{leb};
 ghost use lib.ListN.{length};
 ghost use Rattle.queue.specs.layout.FrameCodec.{recC};
 ghost use Rattle.queue.specs.layout.FormsCodec.{formC, recIn, storeIn};
-ghost use Rattle.queue.specs.bytes.ReaderAs.{Reads, whole, listAt};
+ghost use Rattle.queue.specs.bytes.ReaderAs.{Reads};
+ghost use Rattle.queue.specs.layout.RecordsAs.{RecordsIn, recsAt};
 ghost use Rattle.queue.specs.check.ScanAs.{SumsAs, countsN};
 ghost use Rattle.queue.specs.layout.FrameAs.{limitsIn};
-ghost use Rattle.queue.specs.check.AreaAs.{StoreAs, soundL, FilledAs, AreaIs};
+ghost use Rattle.queue.specs.check.AreaAs.{recordsOf, StoreAs, soundL, FilledAs, AreaIs};
 
 // A queue without its persisted height: its header, where its records start and end, and what they come to.
 pub struct Open {
@@ -96,7 +98,11 @@ pub fn store_at(s: &[u8], form: Form, base: usize) -> Open
     let start = after_in(s, hex, base, h.size);
     let c = h.counter;
     let l = h.limits;
-    let p = frames(s, form, start, h.count, l.k, c);
+    let recs = Records {
+        start: start,
+        count: h.count,
+    };
+    let p = frames(s, form, recs, l.k, c);
     let a = p.sums;
     Open {
         ok: p.ok,
@@ -119,8 +125,8 @@ fn counts_ok(n: u64, p: u64, b: u64, t: u64, a: Sums) -> bool
 // The rules of a sound queue. Once the counts are right the tables of the last two are large enough; where the one pass could tell by
 // its filter, they need no look.
 pub fn sound_at(s: &[u8], form: Form, x: Open) -> bool
-    requires { ⌜ (x .start ≤ length (now s)) × (length (x .head .limits .shares) ≡ 64) × (whole (recIn form) (x .head .count) (now s) (x .start) ≡ true) × SumsAs (x .head .limits .k) (x .head .counter) (x .sums) (listAt (recIn form) (x .head .count) (now s) (x .start)) ⌝ }
-    ensures { λ r. ⌜ r ≡ soundL (limitsIn (x .head .limits)) (x .head .counter .0) (listAt (recIn form) (x .head .count) (now (s .entry)) (x .start)) ⌝ }
+    requires { ⌜ RecordsIn (recIn form) (now s) (recordsOf x) × (length (x .head .limits .shares) ≡ 64) × SumsAs (x .head .limits .k) (x .head .counter) (x .sums) (recsAt (recIn form) (now s) (recordsOf x)) ⌝ }
+    ensures { λ r. ⌜ r ≡ soundL (limitsIn (x .head .limits)) (x .head .counter .0) (recsAt (recIn form) (now (s .entry)) (recordsOf x)) ⌝ }
 {
     let h = x.head;
     let a = x.sums;
@@ -137,8 +143,12 @@ pub fn sound_at(s: &[u8], form: Form, x: Open) -> bool
     if both(a.clear, a.unread) {
         return true;
     }
-    let d = distinct(s, form, x.start, h.count, h.count - a.holders);
-    let o = apart(s, form, x.start, h.count, a.unread, a.inputs <= 8192);
+    let recs = Records {
+        start: x.start,
+        count: h.count,
+    };
+    let d = distinct(s, form, recs, h.count - a.holders);
+    let o = apart(s, form, recs, a.unread, a.inputs <= 8192);
     both(d, o)
 }
 
@@ -152,7 +162,7 @@ pub struct Area {
 
 // The rules, and zeros behind the records up to what the limits need.
 fn filled(s: &[u8], x: Open) -> Span
-    requires { ⌜ (x .start ≤ length (now s)) × (length (x .head .limits .shares) ≡ 64) × (whole (formC false recC) (x .head .count) (now s) (x .start) ≡ true) × SumsAs (x .head .limits .k) (x .head .counter) (x .sums) (listAt (formC false recC) (x .head .count) (now s) (x .start)) × (x .next ≤ length (now s)) ⌝ }
+    requires { ⌜ RecordsIn (formC false recC) (now s) (recordsOf x) × (length (x .head .limits .shares) ≡ 64) × SumsAs (x .head .limits .k) (x .head .counter) (x .sums) (recsAt (formC false recC) (now s) (recordsOf x)) × (x .next ≤ length (now s)) ⌝ }
     ensures { λ r. ⌜ FilledAs (now (s .entry)) x r ⌝ }
 {
     let h = x.head;

@@ -8,6 +8,7 @@ use crate::layout::forms::after_in;
 use crate::layout::frame::Facts;
 use crate::layout::frame::Form;
 use crate::layout::frame::rec_in;
+use crate::layout::records::Records;
 ghost use mathlib.Core.Path.{_≡_};
 ghost use mathlib.Core.Bool.{true, false};
 ghost use mathlib.Core.List.{_++_};
@@ -16,7 +17,7 @@ ghost use lib.Dec.{ltb, leb, eqb};
 ghost use lib.ListN.{length, take};
 ghost use Rattle.queue.specs.Codec.{All};
 ghost use Rattle.queue.specs.layout.FormsCodec.{recIn};
-ghost use Rattle.queue.specs.bytes.ReaderAs.{whole, listAt};
+ghost use Rattle.queue.specs.layout.RecordsAs.{RecordsIn, recsAt};
 ghost use Rattle.queue.specs.check.NumbersAs.{numberF, numbersOf, timesIn, overIn, Differ, Steps, newAbove};
 ghost use Rattle.queue.specs.paper.Sound.{tombstones, distinct?};
 
@@ -33,13 +34,13 @@ fn add_number(f: Facts, v: &mut [u64], k: usize) -> usize
     k + 1
 }
 
-// The numbers of the tombstones among n records at `at`, and how many there are.
-pub fn gather(s: &[u8], form: Form, at: usize, n: u64, v: &mut [u64]) -> usize
-    requires { ⌜ (at ≤ length (now s)) × (whole (recIn form) n (now s) at ≡ true) × (tombstones (listAt (recIn form) n (now s) at) ≤ length (now v)) ⌝ }
-    ensures { λ r. ⌜ (take r (now (v .exit)) ≡ numbersOf (listAt (recIn form) n (now (s .entry)) at)) × (r ≤ length (now (v .entry))) × (length (now (v .exit)) ≡ length (now (v .entry))) ⌝ }
+// The numbers of the tombstones among the records, and how many there are.
+pub fn gather(s: &[u8], form: Form, recs: Records, v: &mut [u64]) -> usize
+    requires { ⌜ RecordsIn (recIn form) (now s) recs × (tombstones (recsAt (recIn form) (now s) recs) ≤ length (now v)) ⌝ }
+    ensures { λ r. ⌜ (take r (now (v .exit)) ≡ numbersOf (recsAt (recIn form) (now (s .entry)) recs)) × (r ≤ length (now (v .entry))) × (length (now (v .exit)) ≡ length (now (v .entry))) ⌝ }
 {
-    let mut i = at;
-    let mut left = n;
+    let mut i = recs.start;
+    let mut left = recs.count;
     let mut k: usize = 0;
     while 0 < left {
         let x = rec_in(s, form, i);
@@ -147,16 +148,16 @@ fn differ(v: &mut [u64]) -> bool
     differ_all(v)
 }
 
-// Are the finish numbers of the m tombstones among n records at `at` distinct?
-pub fn distinct(s: &[u8], form: Form, at: usize, n: u64, m: u64) -> bool
-    requires { ⌜ (at ≤ length (now s)) × (whole (recIn form) n (now s) at ≡ true) × (tombstones (listAt (recIn form) n (now s) at) ≡ m) × (m ≤ 1024) ⌝ }
-    ensures { λ r. ⌜ r ≡ distinct? (listAt (recIn form) n (now (s .entry)) at) ⌝ }
+// Are the finish numbers of the m tombstones among the records distinct?
+pub fn distinct(s: &[u8], form: Form, recs: Records, m: u64) -> bool
+    requires { ⌜ RecordsIn (recIn form) (now s) recs × (tombstones (recsAt (recIn form) (now s) recs) ≡ m) × (m ≤ 1024) ⌝ }
+    ensures { λ r. ⌜ r ≡ distinct? (recsAt (recIn form) (now (s .entry)) recs) ⌝ }
 {
     if m == 0 {
         return true;
     }
     let mut v = [0u64; 1024];
-    let k = gather(s, form, at, n, &mut v);
+    let k = gather(s, form, recs, &mut v);
     differ(&mut v[..k])
 }
 

@@ -13,6 +13,7 @@ use crate::layout::frame::Form;
 use crate::layout::frame::Seen;
 use crate::layout::frame::id_read;
 use crate::layout::frame::rec_in;
+use crate::layout::records::Records;
 ghost use mathlib.Core.Path.{_≡_};
 ghost use mathlib.Core.Bool.{true, false, not, _&&_};
 ghost use mathlib.Core.List.{[], _∷_};
@@ -23,6 +24,7 @@ ghost use Rattle.queue.specs.layout.FrameCodec.{idC};
 ghost use Rattle.queue.specs.layout.FormsCodec.{recIn};
 ghost use Rattle.queue.specs.bytes.ViewAs.{view};
 ghost use Rattle.queue.specs.bytes.ReaderAs.{whole, listAt};
+ghost use Rattle.queue.specs.layout.RecordsAs.{RecordsIn, recsAt};
 ghost use Rattle.queue.specs.check.FilterAs.{hashL, marked};
 ghost use Rattle.queue.specs.check.SuspectsAs.{Said, AllMarked};
 ghost use Rattle.queue.specs.check.ReadsAs.{strange?, Foreign, Asked};
@@ -48,8 +50,7 @@ fn suspect(s: &[u8], hex: bool, base: usize, ins: usize, k: u64, id: [u8; 32], t
 fn note_read(
     s: &[u8],
     form: Form,
-    at: usize,
-    n: u64,
+    recs: Records,
     base: usize,
     x: Seen,
     i: usize,
@@ -59,13 +60,13 @@ fn note_read(
     last: bool,
     m: usize,
 ) -> Rows
-    requires { ⌜ (at ≤ length (now s)) × (whole (recIn form) n (now s) at ≡ true) × (length (now s) < 4294967296) × (n < 4294967296) × (m ≤ length (now v)) × (0 < length (now v)) × (0 < length (now t)) × (x .at ≤ length (view (form .hex) (now s) base)) × (whole idC (x .facts .ins) (view (form .hex) (now s) base) (x .at) ≡ true) × (i + 32 ≤ length (view (form .hex) (now s) base)) × (part 32 (view (form .hex) (now s) base) i ≡ id) × (all? (strange? (form .hex) (now s) (listAt (recIn form) n (now s) at)) (take m (now v)) ≡ true) × AllMarked (listAt (recIn form) n (now s) at) (now t) × Foreign (listAt (recIn form) n (now s) at) (id ∷ []) (listAt idC (x .facts .ins) (view (form .hex) (now s) base) (x .at)) ⌝ }
-    ensures { λ r. ⌜ Asked last (form .hex) (now (s .entry)) (listAt (recIn form) n (now (s .entry)) at) (id ∷ []) (listAt idC (x .facts .ins) (view (form .hex) (now (s .entry)) base) (x .at)) (take m (now (v .entry))) (r .ok) (take (r .len) (now (v .exit))) × (r .len ≤ length (now (v .entry))) ⌝ }
+    requires { ⌜ RecordsIn (recIn form) (now s) recs × (length (now s) < 4294967296) × (recs .count < 4294967296) × (m ≤ length (now v)) × (0 < length (now v)) × (0 < length (now t)) × (x .at ≤ length (view (form .hex) (now s) base)) × (whole idC (x .facts .ins) (view (form .hex) (now s) base) (x .at) ≡ true) × (i + 32 ≤ length (view (form .hex) (now s) base)) × (part 32 (view (form .hex) (now s) base) i ≡ id) × (all? (strange? (form .hex) (now s) (recsAt (recIn form) (now s) recs)) (take m (now v)) ≡ true) × AllMarked (recsAt (recIn form) (now s) recs) (now t) × Foreign (recsAt (recIn form) (now s) recs) (id ∷ []) (listAt idC (x .facts .ins) (view (form .hex) (now s) base) (x .at)) ⌝ }
+    ensures { λ r. ⌜ Asked last (form .hex) (now (s .entry)) (recsAt (recIn form) (now (s .entry)) recs) (id ∷ []) (listAt idC (x .facts .ins) (view (form .hex) (now (s .entry)) base) (x .at)) (take m (now (v .entry))) (r .ok) (take (r .len) (now (v .exit))) × (r .len ≤ length (now (v .entry))) ⌝ }
 {
     let f = x.facts;
     if suspect(s, form.hex, base, x.at, f.ins, id, t) {
         let w = row_at(s, form.hex, base, i, LAST);
-        return add(s, form, at, n, v, last, m, w);
+        return add(s, form, recs, v, last, m, w);
     }
     Rows { ok: true, len: m }
 }
@@ -74,8 +75,7 @@ fn note_read(
 fn note_reads(
     s: &[u8],
     form: Form,
-    at: usize,
-    n: u64,
+    recs: Records,
     base: usize,
     x: Seen,
     t: &[u64],
@@ -83,8 +83,8 @@ fn note_reads(
     last: bool,
     m: usize,
 ) -> Rows
-    requires { ⌜ (at ≤ length (now s)) × (whole (recIn form) n (now s) at ≡ true) × (length (now s) < 4294967296) × (n < 4294967296) × (m ≤ length (now v)) × (0 < length (now v)) × (0 < length (now t)) × (x .at ≤ length (view (form .hex) (now s) base)) × (whole idC (x .facts .ins) (view (form .hex) (now s) base) (x .at) ≡ true) × (x .reads ≤ length (view (form .hex) (now s) base)) × (whole idC (x .facts .reads) (view (form .hex) (now s) base) (x .reads) ≡ true) × (all? (strange? (form .hex) (now s) (listAt (recIn form) n (now s) at)) (take m (now v)) ≡ true) × AllMarked (listAt (recIn form) n (now s) at) (now t) × Foreign (listAt (recIn form) n (now s) at) (listAt idC (x .facts .reads) (view (form .hex) (now s) base) (x .reads)) (listAt idC (x .facts .ins) (view (form .hex) (now s) base) (x .at)) ⌝ }
-    ensures { λ r. ⌜ Asked last (form .hex) (now (s .entry)) (listAt (recIn form) n (now (s .entry)) at) (listAt idC (x .facts .reads) (view (form .hex) (now (s .entry)) base) (x .reads)) (listAt idC (x .facts .ins) (view (form .hex) (now (s .entry)) base) (x .at)) (take m (now (v .entry))) (r .ok) (take (r .len) (now (v .exit))) × (r .len ≤ length (now (v .entry))) ⌝ }
+    requires { ⌜ RecordsIn (recIn form) (now s) recs × (length (now s) < 4294967296) × (recs .count < 4294967296) × (m ≤ length (now v)) × (0 < length (now v)) × (0 < length (now t)) × (x .at ≤ length (view (form .hex) (now s) base)) × (whole idC (x .facts .ins) (view (form .hex) (now s) base) (x .at) ≡ true) × (x .reads ≤ length (view (form .hex) (now s) base)) × (whole idC (x .facts .reads) (view (form .hex) (now s) base) (x .reads) ≡ true) × (all? (strange? (form .hex) (now s) (recsAt (recIn form) (now s) recs)) (take m (now v)) ≡ true) × AllMarked (recsAt (recIn form) (now s) recs) (now t) × Foreign (recsAt (recIn form) (now s) recs) (listAt idC (x .facts .reads) (view (form .hex) (now s) base) (x .reads)) (listAt idC (x .facts .ins) (view (form .hex) (now s) base) (x .at)) ⌝ }
+    ensures { λ r. ⌜ Asked last (form .hex) (now (s .entry)) (recsAt (recIn form) (now (s .entry)) recs) (listAt idC (x .facts .reads) (view (form .hex) (now (s .entry)) base) (x .reads)) (listAt idC (x .facts .ins) (view (form .hex) (now (s .entry)) base) (x .at)) (take m (now (v .entry))) (r .ok) (take (r .len) (now (v .exit))) × (r .len ≤ length (now (v .entry))) ⌝ }
 {
     let f = x.facts;
     let mut i = x.reads;
@@ -93,7 +93,7 @@ fn note_reads(
     while 0 < left {
         let y = id_read(s, form.hex, base, i);
         let id = y.id;
-        let r = note_read(s, form, at, n, base, x, i, id, t, v, last, len);
+        let r = note_read(s, form, recs, base, x, i, id, t, v, last, len);
         if !r.ok {
             return r;
         }
@@ -105,16 +105,16 @@ fn note_reads(
 }
 
 // 1: no record spends what another reads; 0: one does; 2: not known, the table is full and not the last one.
-pub fn reads_by(s: &[u8], form: Form, at: usize, n: u64, t: &[u64], v: &mut [u64], last: bool) -> u8
-    requires { ⌜ (at ≤ length (now s)) × (whole (recIn form) n (now s) at ≡ true) × (length (now s) < 4294967296) × (n < 4294967296) × (0 < length (now v)) × (0 < length (now t)) × (apart? (listAt (recIn form) n (now s) at) ≡ true) × AllMarked (listAt (recIn form) n (now s) at) (now t) ⌝ }
-    ensures { λ r. ⌜ Said last (readApart? (listAt (recIn form) n (now (s .entry)) at)) r ⌝ }
+pub fn reads_by(s: &[u8], form: Form, recs: Records, t: &[u64], v: &mut [u64], last: bool) -> u8
+    requires { ⌜ RecordsIn (recIn form) (now s) recs × (length (now s) < 4294967296) × (recs .count < 4294967296) × (0 < length (now v)) × (0 < length (now t)) × (apart? (recsAt (recIn form) (now s) recs) ≡ true) × AllMarked (recsAt (recIn form) (now s) recs) (now t) ⌝ }
+    ensures { λ r. ⌜ Said last (readApart? (recsAt (recIn form) (now (s .entry)) recs)) r ⌝ }
 {
-    let mut i = at;
-    let mut left = n;
+    let mut i = recs.start;
+    let mut left = recs.count;
     let mut m: usize = 0;
     while 0 < left {
         let x = rec_in(s, form, i);
-        let r = note_reads(s, form, at, n, i, x, t, v, last, m);
+        let r = note_reads(s, form, recs, i, x, t, v, last, m);
         if !r.ok {
             if last {
                 return 0;
@@ -125,28 +125,28 @@ pub fn reads_by(s: &[u8], form: Form, at: usize, n: u64, t: &[u64], v: &mut [u64
         i = after_in(s, form.hex, i, x.size);
         left = left - 1;
     }
-    if crossed(s, form, at, n, &mut v[..m]) {
+    if crossed(s, form, recs, &mut v[..m]) {
         return 0;
     }
     1
 }
 
 // Is the read id of the record that was read as x from the frame at base one of its own inputs, or nobody's? A pass over the records.
-fn pass_read(s: &[u8], form: Form, at: usize, n: u64, base: usize, x: Seen, id: [u8; 32]) -> bool
-    requires { ⌜ (at ≤ length (now s)) × (whole (recIn form) n (now s) at ≡ true) × (x .at ≤ length (view (form .hex) (now s) base)) × (whole idC (x .facts .ins) (view (form .hex) (now s) base) (x .at) ≡ true) × Foreign (listAt (recIn form) n (now s) at) (id ∷ []) (listAt idC (x .facts .ins) (view (form .hex) (now s) base) (x .at)) ⌝ }
-    ensures { λ r. ⌜ Asked true (form .hex) (now (s .entry)) (listAt (recIn form) n (now (s .entry)) at) (id ∷ []) (listAt idC (x .facts .ins) (view (form .hex) (now (s .entry)) base) (x .at)) [] r [] ⌝ }
+fn pass_read(s: &[u8], form: Form, recs: Records, base: usize, x: Seen, id: [u8; 32]) -> bool
+    requires { ⌜ RecordsIn (recIn form) (now s) recs × (x .at ≤ length (view (form .hex) (now s) base)) × (whole idC (x .facts .ins) (view (form .hex) (now s) base) (x .at) ≡ true) × Foreign (recsAt (recIn form) (now s) recs) (id ∷ []) (listAt idC (x .facts .ins) (view (form .hex) (now s) base) (x .at)) ⌝ }
+    ensures { λ r. ⌜ Asked true (form .hex) (now (s .entry)) (recsAt (recIn form) (now (s .entry)) recs) (id ∷ []) (listAt idC (x .facts .ins) (view (form .hex) (now (s .entry)) base) (x .at)) [] r [] ⌝ }
 {
     let f = x.facts;
     if has_id(s, form.hex, base, x.at, f.ins, id) {
         return true;
     }
-    held_by(s, form, at, n, id) == 0
+    held_by(s, form, recs, id) == 0
 }
 
 // Is each read id of the record that was read as x from the frame at base one of its own inputs, or nobody's?
-fn pass_reads(s: &[u8], form: Form, at: usize, n: u64, base: usize, x: Seen) -> bool
-    requires { ⌜ (at ≤ length (now s)) × (whole (recIn form) n (now s) at ≡ true) × (x .at ≤ length (view (form .hex) (now s) base)) × (whole idC (x .facts .ins) (view (form .hex) (now s) base) (x .at) ≡ true) × (x .reads ≤ length (view (form .hex) (now s) base)) × (whole idC (x .facts .reads) (view (form .hex) (now s) base) (x .reads) ≡ true) × Foreign (listAt (recIn form) n (now s) at) (listAt idC (x .facts .reads) (view (form .hex) (now s) base) (x .reads)) (listAt idC (x .facts .ins) (view (form .hex) (now s) base) (x .at)) ⌝ }
-    ensures { λ r. ⌜ Asked true (form .hex) (now (s .entry)) (listAt (recIn form) n (now (s .entry)) at) (listAt idC (x .facts .reads) (view (form .hex) (now (s .entry)) base) (x .reads)) (listAt idC (x .facts .ins) (view (form .hex) (now (s .entry)) base) (x .at)) [] r [] ⌝ }
+fn pass_reads(s: &[u8], form: Form, recs: Records, base: usize, x: Seen) -> bool
+    requires { ⌜ RecordsIn (recIn form) (now s) recs × (x .at ≤ length (view (form .hex) (now s) base)) × (whole idC (x .facts .ins) (view (form .hex) (now s) base) (x .at) ≡ true) × (x .reads ≤ length (view (form .hex) (now s) base)) × (whole idC (x .facts .reads) (view (form .hex) (now s) base) (x .reads) ≡ true) × Foreign (recsAt (recIn form) (now s) recs) (listAt idC (x .facts .reads) (view (form .hex) (now s) base) (x .reads)) (listAt idC (x .facts .ins) (view (form .hex) (now s) base) (x .at)) ⌝ }
+    ensures { λ r. ⌜ Asked true (form .hex) (now (s .entry)) (recsAt (recIn form) (now (s .entry)) recs) (listAt idC (x .facts .reads) (view (form .hex) (now (s .entry)) base) (x .reads)) (listAt idC (x .facts .ins) (view (form .hex) (now (s .entry)) base) (x .at)) [] r [] ⌝ }
 {
     let f = x.facts;
     let mut i = x.reads;
@@ -154,7 +154,7 @@ fn pass_reads(s: &[u8], form: Form, at: usize, n: u64, base: usize, x: Seen) -> 
     while 0 < left {
         let y = id_read(s, form.hex, base, i);
         let id = y.id;
-        if !pass_read(s, form, at, n, base, x, id) {
+        if !pass_read(s, form, recs, base, x, id) {
             return false;
         }
         i = y.next;
@@ -164,15 +164,15 @@ fn pass_reads(s: &[u8], form: Form, at: usize, n: u64, base: usize, x: Seen) -> 
 }
 
 // Does no record spend what another reads? Slow, but for an area of any size.
-pub fn reads_passes(s: &[u8], form: Form, at: usize, n: u64) -> bool
-    requires { ⌜ (at ≤ length (now s)) × (whole (recIn form) n (now s) at ≡ true) × (apart? (listAt (recIn form) n (now s) at) ≡ true) ⌝ }
-    ensures { λ r. ⌜ r ≡ readApart? (listAt (recIn form) n (now (s .entry)) at) ⌝ }
+pub fn reads_passes(s: &[u8], form: Form, recs: Records) -> bool
+    requires { ⌜ RecordsIn (recIn form) (now s) recs × (apart? (recsAt (recIn form) (now s) recs) ≡ true) ⌝ }
+    ensures { λ r. ⌜ r ≡ readApart? (recsAt (recIn form) (now (s .entry)) recs) ⌝ }
 {
-    let mut i = at;
-    let mut left = n;
+    let mut i = recs.start;
+    let mut left = recs.count;
     while 0 < left {
         let x = rec_in(s, form, i);
-        if !pass_reads(s, form, at, n, i, x) {
+        if !pass_reads(s, form, recs, i, x) {
             return false;
         }
         i = after_in(s, form.hex, i, x.size);

@@ -1,4 +1,4 @@
-// Loops over the records of a queue, as bytes or as lines of text; `at` is where the first of n records stands.
+// Loops over the records of a queue, as bytes or as lines of text.
 use crate::bytes::logic::both;
 use crate::bytes::logic::either;
 use crate::bytes::logic::one_if;
@@ -23,6 +23,7 @@ use crate::layout::frame::Seen;
 use crate::layout::frame::id_read;
 use crate::layout::frame::rec_at;
 use crate::layout::frame::rec_in;
+use crate::layout::records::Records;
 ghost use mathlib.Core.Path.{_≡_};
 ghost use mathlib.Core.Bool.{true, false, _&&_};
 ghost use Prim.Native.Nat.{_+_, _-_, _*_, _≤_, _<_};
@@ -32,6 +33,7 @@ ghost use Rattle.queue.specs.layout.FrameCodec.{recC, idC};
 ghost use Rattle.queue.specs.layout.FormsCodec.{formC, recIn};
 ghost use Rattle.queue.specs.bytes.ViewAs.{view};
 ghost use Rattle.queue.specs.bytes.ReaderAs.{whole, listAt};
+ghost use Rattle.queue.specs.layout.RecordsAs.{RecordsIn, recsAt};
 ghost use Rattle.queue.specs.check.RulesAs.{sum};
 ghost use Rattle.queue.specs.check.ScanAs.{noSums, Under, SumsAdded, unread?, Checked};
 ghost use Rattle.queue.specs.check.FilterAs.{hashL, hashN, heldBy, Passed, New, NewSeen};
@@ -46,12 +48,12 @@ pub struct Span {
 }
 
 // What the records count for, for one question.
-pub fn tally(s: &[u8], at: usize, n: u64, q: Query) -> u64
-    requires { ⌜ (at ≤ length (now s)) × (whole (formC false recC) n (now s) at ≡ true) × (n < 4294967296) ⌝ }
-    ensures { λ r. ⌜ (r ≡ sum q (listAt (formC false recC) n (now (s .entry)) at)) × (r ≤ n * 4294967295) ⌝ }
+pub fn tally(s: &[u8], recs: Records, q: Query) -> u64
+    requires { ⌜ RecordsIn (formC false recC) (now s) recs × (recs .count < 4294967296) ⌝ }
+    ensures { λ r. ⌜ (r ≡ sum q (recsAt (formC false recC) (now (s .entry)) recs)) × (r ≤ recs .count * 4294967295) ⌝ }
 {
-    let mut i = at;
-    let mut left = n;
+    let mut i = recs.start;
+    let mut left = recs.count;
     let mut total: u64 = 0;
     while 0 < left {
         let x = rec_at(s, i);
@@ -182,14 +184,14 @@ pub struct Read {
     pub sums: Sums,
 }
 
-// The one pass of the check over n records at `at`, with a filter.
+// The one pass of the check over the records, if they stand there, with a filter.
 // Whatever t holds: what it holds too much only costs time.
-fn frames_by(s: &[u8], form: Form, at: usize, n: u64, k: u64, c: Finish, t: &mut [u64]) -> Read
-    requires { ⌜ (at ≤ length (now s)) × (n < 4294967296) × (0 < length (now t)) ⌝ }
-    ensures { λ r. ⌜ Checked form (now (s .entry)) at n k c r ⌝ }
+fn frames_by(s: &[u8], form: Form, recs: Records, k: u64, c: Finish, t: &mut [u64]) -> Read
+    requires { ⌜ (recs .start ≤ length (now s)) × (recs .count < 4294967296) × (0 < length (now t)) ⌝ }
+    ensures { λ r. ⌜ Checked form (now (s .entry)) recs k c r ⌝ }
 {
-    let mut i = at;
-    let mut left = n;
+    let mut i = recs.start;
+    let mut left = recs.count;
     let mut a = no_sums();
     let mut prev = no_id();
     let mut first = true;
@@ -226,12 +228,12 @@ fn frames_by(s: &[u8], form: Form, at: usize, n: u64, k: u64, c: Finish, t: &mut
     }
 }
 
-pub fn frames(s: &[u8], form: Form, at: usize, n: u64, k: u64, c: Finish) -> Read
-    requires { ⌜ (at ≤ length (now s)) × (n < 4294967296) ⌝ }
-    ensures { λ r. ⌜ Checked form (now (s .entry)) at n k c r ⌝ }
+pub fn frames(s: &[u8], form: Form, recs: Records, k: u64, c: Finish) -> Read
+    requires { ⌜ (recs .start ≤ length (now s)) × (recs .count < 4294967296) ⌝ }
+    ensures { λ r. ⌜ Checked form (now (s .entry)) recs k c r ⌝ }
 {
     let mut t = [0u64; 4096];
-    frames_by(s, form, at, n, k, c, &mut t)
+    frames_by(s, form, recs, k, c, &mut t)
 }
 
 // Is the id one of the n ids at offset `at` of the frame at base?
@@ -253,13 +255,13 @@ pub fn has_id(s: &[u8], hex: bool, base: usize, at: usize, n: u64, id: [u8; 32])
     false
 }
 
-// How many of the n records at `at` have the input id?
-pub fn held_by(s: &[u8], form: Form, at: usize, n: u64, id: [u8; 32]) -> u64
-    requires { ⌜ (at ≤ length (now s)) × (whole (recIn form) n (now s) at ≡ true) ⌝ }
-    ensures { λ r. ⌜ r ≡ heldBy (listAt (recIn form) n (now (s .entry)) at) id ⌝ }
+// How many of the records have the input id?
+pub fn held_by(s: &[u8], form: Form, recs: Records, id: [u8; 32]) -> u64
+    requires { ⌜ RecordsIn (recIn form) (now s) recs ⌝ }
+    ensures { λ r. ⌜ r ≡ heldBy (recsAt (recIn form) (now (s .entry)) recs) id ⌝ }
 {
-    let mut i = at;
-    let mut left = n;
+    let mut i = recs.start;
+    let mut left = recs.count;
     let mut total: u64 = 0;
     while 0 < left {
         let x = rec_in(s, form, i);
@@ -273,13 +275,13 @@ pub fn held_by(s: &[u8], form: Form, at: usize, n: u64, id: [u8; 32]) -> u64
 }
 
 // Is the id in two or more records? Only an id that the filter has is looked for; another is marked.
-fn shared(s: &[u8], form: Form, at: usize, n: u64, id: [u8; 32], t: &mut [u64]) -> bool
-    requires { ⌜ (at ≤ length (now s)) × (whole (recIn form) n (now s) at ≡ true) × (0 < length (now t)) ⌝ }
-    ensures { λ r. ⌜ Passed (same? id) hashL (heldBy (listAt (recIn form) n (now (s .entry)) at)) (now (t .entry)) r (now (t .exit)) ⌝ }
+fn shared(s: &[u8], form: Form, recs: Records, id: [u8; 32], t: &mut [u64]) -> bool
+    requires { ⌜ RecordsIn (recIn form) (now s) recs × (0 < length (now t)) ⌝ }
+    ensures { λ r. ⌜ Passed (same? id) hashL (heldBy (recsAt (recIn form) (now (s .entry)) recs)) (now (t .entry)) r (now (t .exit)) ⌝ }
 {
     let h = hash(id);
     if seen(t, h) {
-        let c = held_by(s, form, at, n, id);
+        let c = held_by(s, form, recs, id);
         return 1 < c;
     }
     mark(t, h);
@@ -290,22 +292,21 @@ fn shared(s: &[u8], form: Form, at: usize, n: u64, id: [u8; 32], t: &mut [u64]) 
 fn any_shared(
     s: &[u8],
     form: Form,
-    at: usize,
-    n: u64,
+    recs: Records,
     base: usize,
     ids: usize,
     m: u64,
     t: &mut [u64],
 ) -> bool
-    requires { ⌜ (at ≤ length (now s)) × (whole (recIn form) n (now s) at ≡ true) × (ids ≤ length (view (form .hex) (now s) base)) × (whole idC m (view (form .hex) (now s) base) ids ≡ true) × (0 < length (now t)) ⌝ }
-    ensures { λ r. ⌜ Passed (λ z. among? z (listAt idC m (view (form .hex) (now (s .entry)) base) ids)) hashL (heldBy (listAt (recIn form) n (now (s .entry)) at)) (now (t .entry)) r (now (t .exit)) ⌝ }
+    requires { ⌜ RecordsIn (recIn form) (now s) recs × (ids ≤ length (view (form .hex) (now s) base)) × (whole idC m (view (form .hex) (now s) base) ids ≡ true) × (0 < length (now t)) ⌝ }
+    ensures { λ r. ⌜ Passed (λ z. among? z (listAt idC m (view (form .hex) (now (s .entry)) base) ids)) hashL (heldBy (recsAt (recIn form) (now (s .entry)) recs)) (now (t .entry)) r (now (t .exit)) ⌝ }
 {
     let mut i = ids;
     let mut left = m;
     while 0 < left {
         let x = id_read(s, form.hex, base, i);
         let id = x.id;
-        if shared(s, form, at, n, id, t) {
+        if shared(s, form, recs, id, t) {
             return true;
         }
         i = x.next;
@@ -315,16 +316,16 @@ fn any_shared(
 }
 
 // Whatever t holds: what it holds too much only costs time.
-fn apart_by(s: &[u8], form: Form, at: usize, n: u64, t: &mut [u64]) -> bool
-    requires { ⌜ (at ≤ length (now s)) × (whole (recIn form) n (now s) at ≡ true) × (0 < length (now t)) ⌝ }
-    ensures { λ r. ⌜ r ≡ apart? (listAt (recIn form) n (now (s .entry)) at) ⌝ }
+fn apart_by(s: &[u8], form: Form, recs: Records, t: &mut [u64]) -> bool
+    requires { ⌜ RecordsIn (recIn form) (now s) recs × (0 < length (now t)) ⌝ }
+    ensures { λ r. ⌜ r ≡ apart? (recsAt (recIn form) (now (s .entry)) recs) ⌝ }
 {
-    let mut i = at;
-    let mut left = n;
+    let mut i = recs.start;
+    let mut left = recs.count;
     while 0 < left {
         let x = rec_in(s, form, i);
         let f = x.facts;
-        if any_shared(s, form, at, n, i, x.at, f.ins, t) {
+        if any_shared(s, form, recs, i, x.at, f.ins, t) {
             return false;
         }
         i = after_in(s, form.hex, i, x.size);
@@ -334,40 +335,40 @@ fn apart_by(s: &[u8], form: Form, at: usize, n: u64, t: &mut [u64]) -> bool
 }
 
 // A pass for each id that the filter has, and for each id that is only read: slow where these are many, but for an area of any size.
-fn apart_passes(s: &[u8], form: Form, at: usize, n: u64, unread: bool) -> bool
-    requires { ⌜ (at ≤ length (now s)) × (whole (recIn form) n (now s) at ≡ true) × (unread ≡ true → all? unread? (listAt (recIn form) n (now s) at) ≡ true) ⌝ }
-    ensures { λ r. ⌜ r ≡ (apart? (listAt (recIn form) n (now (s .entry)) at) && readApart? (listAt (recIn form) n (now (s .entry)) at)) ⌝ }
+fn apart_passes(s: &[u8], form: Form, recs: Records, unread: bool) -> bool
+    requires { ⌜ RecordsIn (recIn form) (now s) recs × (unread ≡ true → all? unread? (recsAt (recIn form) (now s) recs) ≡ true) ⌝ }
+    ensures { λ r. ⌜ r ≡ (apart? (recsAt (recIn form) (now (s .entry)) recs) && readApart? (recsAt (recIn form) (now (s .entry)) recs)) ⌝ }
 {
     let mut t = [0u64; 2048];
-    if !apart_by(s, form, at, n, &mut t) {
+    if !apart_by(s, form, recs, &mut t) {
         return false;
     }
     if unread {
         return true;
     }
-    reads_passes(s, form, at, n)
+    reads_passes(s, form, recs)
 }
 
 // Where room for few suspects is not enough: with `room` rows for them.
-fn apart_long(s: &[u8], form: Form, at: usize, n: u64, unread: bool, room: usize) -> bool
-    requires { ⌜ (at ≤ length (now s)) × (whole (recIn form) n (now s) at ≡ true) × (0 < room) × (room ≤ 65536) × (unread ≡ true → all? unread? (listAt (recIn form) n (now s) at) ≡ true) ⌝ }
-    ensures { λ r. ⌜ r ≡ (apart? (listAt (recIn form) n (now (s .entry)) at) && readApart? (listAt (recIn form) n (now (s .entry)) at)) ⌝ }
+fn apart_long(s: &[u8], form: Form, recs: Records, unread: bool, room: usize) -> bool
+    requires { ⌜ RecordsIn (recIn form) (now s) recs × (0 < room) × (room ≤ 65536) × (unread ≡ true → all? unread? (recsAt (recIn form) (now s) recs) ≡ true) ⌝ }
+    ensures { λ r. ⌜ r ≡ (apart? (recsAt (recIn form) (now (s .entry)) recs) && readApart? (recsAt (recIn form) (now (s .entry)) recs)) ⌝ }
 {
-    if both(s.len() < 4294967296, n < 4294967296) {
-        return apart_many(s, form, at, n, unread, room) == 1;
+    if both(s.len() < 4294967296, recs.count < 4294967296) {
+        return apart_many(s, form, recs, unread, room) == 1;
     }
-    apart_passes(s, form, at, n, unread)
+    apart_passes(s, form, recs, unread)
 }
 
 // Is no input in two records, and does no record spend what another reads? Few inputs are looked at with small tables, as often as
 // needed; `unread` says that no record reads an id.
 // The long way is called at two places that differ in two numbers: the compiler then makes no single call of them, which it
 // would take in here together with the large tables.
-pub fn apart(s: &[u8], form: Form, at: usize, n: u64, unread: bool, few: bool) -> bool
-    requires { ⌜ (at ≤ length (now s)) × (whole (recIn form) n (now s) at ≡ true) × (unread ≡ true → all? unread? (listAt (recIn form) n (now s) at) ≡ true) ⌝ }
-    ensures { λ r. ⌜ r ≡ (apart? (listAt (recIn form) n (now (s .entry)) at) && readApart? (listAt (recIn form) n (now (s .entry)) at)) ⌝ }
+pub fn apart(s: &[u8], form: Form, recs: Records, unread: bool, few: bool) -> bool
+    requires { ⌜ RecordsIn (recIn form) (now s) recs × (unread ≡ true → all? unread? (recsAt (recIn form) (now s) recs) ≡ true) ⌝ }
+    ensures { λ r. ⌜ r ≡ (apart? (recsAt (recIn form) (now (s .entry)) recs) && readApart? (recsAt (recIn form) (now (s .entry)) recs)) ⌝ }
 {
-    let r = apart_few(s, form, at, n, unread, few);
+    let r = apart_few(s, form, recs, unread, few);
     if r == 1 {
         return true;
     }
@@ -375,9 +376,9 @@ pub fn apart(s: &[u8], form: Form, at: usize, n: u64, unread: bool, few: bool) -
         return false;
     }
     if form.hex {
-        return apart_long(s, form, at, n, unread, 32768);
+        return apart_long(s, form, recs, unread, 32768);
     }
-    apart_long(s, form, at, n, unread, 65536)
+    apart_long(s, form, recs, unread, 65536)
 }
 
 // No early way out, so that the loop can be done many bytes at a time.

@@ -12,6 +12,7 @@ use crate::layout::forms::after_in;
 use crate::layout::frame::Form;
 use crate::layout::frame::id_read;
 use crate::layout::frame::rec_in;
+use crate::layout::records::Records;
 ghost use mathlib.Core.Path.{_≡_};
 ghost use mathlib.Core.Bool.{Bool, true, false, _&&_};
 ghost use Prim.Native.Nat.{_+_, _/_, _%_, _≤_, _<_};
@@ -21,6 +22,7 @@ ghost use Rattle.queue.specs.layout.FrameCodec.{idC};
 ghost use Rattle.queue.specs.layout.FormsCodec.{recIn};
 ghost use Rattle.queue.specs.bytes.ViewAs.{view};
 ghost use Rattle.queue.specs.bytes.ReaderAs.{whole, listAt};
+ghost use Rattle.queue.specs.layout.RecordsAs.{RecordsIn, recsAt};
 ghost use Rattle.queue.specs.check.ScanAs.{unread?};
 ghost use Rattle.queue.specs.check.SuspectsAs.{idR, noR, upTo, later, meets, crosses, held?, first?, Shuffled, InOrder, Cut, Grown, Noted, Said, AllMarked, Owned};
 ghost use Rattle.queue.specs.paper.Ids.{cmpL, same?};
@@ -249,12 +251,12 @@ fn pass_ids(
 }
 
 // Is an id of a record a row's of a later one?
-fn pass(s: &[u8], form: Form, at: usize, n: u64, v: &[u64], ordered: bool) -> bool
-    requires { ⌜ (at ≤ length (now s)) × (whole (recIn form) n (now s) at ≡ true) × (length (now s) < 4294967296) × (n < 4294967296) × (ordered ≡ true → InOrder (form .hex) (now s) (now v)) ⌝ }
-    ensures { λ r. ⌜ r ≡ crosses (form .hex) (now (s .entry)) (now (v .entry)) 0 (listAt (recIn form) n (now (s .entry)) at) ⌝ }
+fn pass(s: &[u8], form: Form, recs: Records, v: &[u64], ordered: bool) -> bool
+    requires { ⌜ RecordsIn (recIn form) (now s) recs × (length (now s) < 4294967296) × (recs .count < 4294967296) × (ordered ≡ true → InOrder (form .hex) (now s) (now v)) ⌝ }
+    ensures { λ r. ⌜ r ≡ crosses (form .hex) (now (s .entry)) (now (v .entry)) 0 (recsAt (recIn form) (now (s .entry)) recs) ⌝ }
 {
-    let mut i = at;
-    let mut left = n;
+    let mut i = recs.start;
+    let mut left = recs.count;
     let mut k: u64 = 0;
     while 0 < left {
         let x = rec_in(s, form, i);
@@ -270,16 +272,16 @@ fn pass(s: &[u8], form: Form, at: usize, n: u64, v: &[u64], ordered: bool) -> bo
 }
 
 // Is the id of a row in a record before its own? The rows are put in another order.
-pub fn crossed(s: &[u8], form: Form, at: usize, n: u64, v: &mut [u64]) -> bool
-    requires { ⌜ (at ≤ length (now s)) × (whole (recIn form) n (now s) at ≡ true) × (length (now s) < 4294967296) × (n < 4294967296) ⌝ }
-    ensures { λ r. ⌜ Shuffled (now (v .entry)) (now (v .exit)) × (r ≡ crosses (form .hex) (now (s .entry)) (now (v .entry)) 0 (listAt (recIn form) n (now (s .entry)) at)) ⌝ }
+pub fn crossed(s: &[u8], form: Form, recs: Records, v: &mut [u64]) -> bool
+    requires { ⌜ RecordsIn (recIn form) (now s) recs × (length (now s) < 4294967296) × (recs .count < 4294967296) ⌝ }
+    ensures { λ r. ⌜ Shuffled (now (v .entry)) (now (v .exit)) × (r ≡ crosses (form .hex) (now (s .entry)) (now (v .entry)) 0 (recsAt (recIn form) (now (s .entry)) recs)) ⌝ }
 {
     if v.len() == 0 {
         return false;
     }
     order_rows(s, Order::Ids(form.hex), v);
     let o = in_order(s, form.hex, v);
-    pass(s, form, at, n, v, o)
+    pass(s, form, recs, v, o)
 }
 
 // How many rows there are; not ok: a full table was looked through and a row's id is in a record before its own, or it was not the last
@@ -290,18 +292,9 @@ pub struct Rows {
 }
 
 // The row w behind m others. Full, the last table is looked through and begun anew.
-pub fn add(
-    s: &[u8],
-    form: Form,
-    at: usize,
-    n: u64,
-    v: &mut [u64],
-    last: bool,
-    m: usize,
-    w: u64,
-) -> Rows
-    requires { ⌜ (at ≤ length (now s)) × (whole (recIn form) n (now s) at ≡ true) × (length (now s) < 4294967296) × (n < 4294967296) × (m ≤ length (now v)) × (0 < length (now v)) ⌝ }
-    ensures { λ r. ⌜ Grown last (form .hex) (now (s .entry)) (listAt (recIn form) n (now (s .entry)) at) (take m (now (v .entry))) w (r .ok) (take (r .len) (now (v .exit))) × (r .len ≤ length (now (v .entry))) ⌝ }
+pub fn add(s: &[u8], form: Form, recs: Records, v: &mut [u64], last: bool, m: usize, w: u64) -> Rows
+    requires { ⌜ RecordsIn (recIn form) (now s) recs × (length (now s) < 4294967296) × (recs .count < 4294967296) × (m ≤ length (now v)) × (0 < length (now v)) ⌝ }
+    ensures { λ r. ⌜ Grown last (form .hex) (now (s .entry)) (recsAt (recIn form) (now (s .entry)) recs) (take m (now (v .entry))) w (r .ok) (take (r .len) (now (v .exit))) × (r .len ≤ length (now (v .entry))) ⌝ }
 {
     if m < v.len() {
         v[m] = w;
@@ -313,7 +306,7 @@ pub fn add(
     if !last {
         return Rows { ok: false, len: 0 };
     }
-    if crossed(s, form, at, n, v) {
+    if crossed(s, form, recs, v) {
         return Rows { ok: false, len: 0 };
     }
     v[0] = w;
@@ -324,8 +317,7 @@ pub fn add(
 fn note(
     s: &[u8],
     form: Form,
-    at: usize,
-    n: u64,
+    recs: Records,
     base: usize,
     i: usize,
     id: [u8; 32],
@@ -335,13 +327,13 @@ fn note(
     last: bool,
     m: usize,
 ) -> Rows
-    requires { ⌜ (at ≤ length (now s)) × (whole (recIn form) n (now s) at ≡ true) × (length (now s) < 4294967296) × (n < 4294967296) × (m ≤ length (now v)) × (0 < length (now v)) × (0 < length (now t)) × (k < 4294967296) × (i + 32 ≤ length (view (form .hex) (now s) base)) × (part 32 (view (form .hex) (now s) base) i ≡ id) × (all? (held? (form .hex) (now s) (listAt (recIn form) n (now s) at)) (take m (now v)) ≡ true) × Owned (listAt (recIn form) n (now s) at) k (same? id) ⌝ }
-    ensures { λ r. ⌜ Noted last (form .hex) (now (s .entry)) (listAt (recIn form) n (now (s .entry)) at) k (same? id) (now (t .entry)) (take m (now (v .entry))) (r .ok) (now (t .exit)) (take (r .len) (now (v .exit))) × (r .len ≤ length (now (v .entry))) ⌝ }
+    requires { ⌜ RecordsIn (recIn form) (now s) recs × (length (now s) < 4294967296) × (recs .count < 4294967296) × (m ≤ length (now v)) × (0 < length (now v)) × (0 < length (now t)) × (k < 4294967296) × (i + 32 ≤ length (view (form .hex) (now s) base)) × (part 32 (view (form .hex) (now s) base) i ≡ id) × (all? (held? (form .hex) (now s) (recsAt (recIn form) (now s) recs)) (take m (now v)) ≡ true) × Owned (recsAt (recIn form) (now s) recs) k (same? id) ⌝ }
+    ensures { λ r. ⌜ Noted last (form .hex) (now (s .entry)) (recsAt (recIn form) (now (s .entry)) recs) k (same? id) (now (t .entry)) (take m (now (v .entry))) (r .ok) (now (t .exit)) (take (r .len) (now (v .exit))) × (r .len ≤ length (now (v .entry))) ⌝ }
 {
     let h = hash(id);
     if seen(t, h) {
         let w = row_at(s, form.hex, base, i, k);
-        return add(s, form, at, n, v, last, m, w);
+        return add(s, form, recs, v, last, m, w);
     }
     mark(t, h);
     Rows { ok: true, len: m }
@@ -351,8 +343,7 @@ fn note(
 fn note_all(
     s: &[u8],
     form: Form,
-    at: usize,
-    n: u64,
+    recs: Records,
     base: usize,
     ids: usize,
     c: u64,
@@ -362,8 +353,8 @@ fn note_all(
     last: bool,
     m: usize,
 ) -> Rows
-    requires { ⌜ (at ≤ length (now s)) × (whole (recIn form) n (now s) at ≡ true) × (length (now s) < 4294967296) × (n < 4294967296) × (m ≤ length (now v)) × (0 < length (now v)) × (0 < length (now t)) × (k < 4294967296) × (ids ≤ length (view (form .hex) (now s) base)) × (whole idC c (view (form .hex) (now s) base) ids ≡ true) × (all? (held? (form .hex) (now s) (listAt (recIn form) n (now s) at)) (take m (now v)) ≡ true) × Owned (listAt (recIn form) n (now s) at) k (λ z. among? z (listAt idC c (view (form .hex) (now s) base) ids)) ⌝ }
-    ensures { λ r. ⌜ Noted last (form .hex) (now (s .entry)) (listAt (recIn form) n (now (s .entry)) at) k (λ z. among? z (listAt idC c (view (form .hex) (now (s .entry)) base) ids)) (now (t .entry)) (take m (now (v .entry))) (r .ok) (now (t .exit)) (take (r .len) (now (v .exit))) × (r .len ≤ length (now (v .entry))) ⌝ }
+    requires { ⌜ RecordsIn (recIn form) (now s) recs × (length (now s) < 4294967296) × (recs .count < 4294967296) × (m ≤ length (now v)) × (0 < length (now v)) × (0 < length (now t)) × (k < 4294967296) × (ids ≤ length (view (form .hex) (now s) base)) × (whole idC c (view (form .hex) (now s) base) ids ≡ true) × (all? (held? (form .hex) (now s) (recsAt (recIn form) (now s) recs)) (take m (now v)) ≡ true) × Owned (recsAt (recIn form) (now s) recs) k (λ z. among? z (listAt idC c (view (form .hex) (now s) base) ids)) ⌝ }
+    ensures { λ r. ⌜ Noted last (form .hex) (now (s .entry)) (recsAt (recIn form) (now (s .entry)) recs) k (λ z. among? z (listAt idC c (view (form .hex) (now (s .entry)) base) ids)) (now (t .entry)) (take m (now (v .entry))) (r .ok) (now (t .exit)) (take (r .len) (now (v .exit))) × (r .len ≤ length (now (v .entry))) ⌝ }
 {
     let mut i = ids;
     let mut left = c;
@@ -371,7 +362,7 @@ fn note_all(
     while 0 < left {
         let x = id_read(s, form.hex, base, i);
         let id = x.id;
-        let r = note(s, form, at, n, base, i, id, k, t, v, last, len);
+        let r = note(s, form, recs, base, i, id, k, t, v, last, len);
         if !r.ok {
             return r;
         }
@@ -384,18 +375,18 @@ fn note_all(
 
 // 1: the records are apart; 0: they are not; 2: not known, the table is full and not the last one.
 // Whatever t holds: what it holds too much only costs time. Where the answer is 1, t has every input then.
-fn apart_in(s: &[u8], form: Form, at: usize, n: u64, t: &mut [u64], v: &mut [u64], last: bool) -> u8
-    requires { ⌜ (at ≤ length (now s)) × (whole (recIn form) n (now s) at ≡ true) × (length (now s) < 4294967296) × (n < 4294967296) × (0 < length (now v)) × (0 < length (now t)) ⌝ }
-    ensures { λ r. ⌜ Said last (apart? (listAt (recIn form) n (now (s .entry)) at)) r × (r ≡ 1 → AllMarked (listAt (recIn form) n (now (s .entry)) at) (now (t .exit))) ⌝ }
+fn apart_in(s: &[u8], form: Form, recs: Records, t: &mut [u64], v: &mut [u64], last: bool) -> u8
+    requires { ⌜ RecordsIn (recIn form) (now s) recs × (length (now s) < 4294967296) × (recs .count < 4294967296) × (0 < length (now v)) × (0 < length (now t)) ⌝ }
+    ensures { λ r. ⌜ Said last (apart? (recsAt (recIn form) (now (s .entry)) recs)) r × (r ≡ 1 → AllMarked (recsAt (recIn form) (now (s .entry)) recs) (now (t .exit))) ⌝ }
 {
-    let mut i = at;
-    let mut left = n;
+    let mut i = recs.start;
+    let mut left = recs.count;
     let mut k: u64 = 0;
     let mut m: usize = 0;
     while 0 < left {
         let x = rec_in(s, form, i);
         let f = x.facts;
-        let r = note_all(s, form, at, n, i, x.at, f.ins, k, t, v, last, m);
+        let r = note_all(s, form, recs, i, x.at, f.ins, k, t, v, last, m);
         if !r.ok {
             if last {
                 return 0;
@@ -407,7 +398,7 @@ fn apart_in(s: &[u8], form: Form, at: usize, n: u64, t: &mut [u64], v: &mut [u64
         left = left - 1;
         k = k + 1;
     }
-    if crossed(s, form, at, n, &mut v[..m]) {
+    if crossed(s, form, recs, &mut v[..m]) {
         return 0;
     }
     1
@@ -418,45 +409,44 @@ fn apart_in(s: &[u8], form: Form, at: usize, n: u64, t: &mut [u64], v: &mut [u64
 fn clear_by(
     s: &[u8],
     form: Form,
-    at: usize,
-    n: u64,
+    recs: Records,
     unread: bool,
     t: &mut [u64],
     v: &mut [u64],
     last: bool,
 ) -> u8
-    requires { ⌜ (at ≤ length (now s)) × (whole (recIn form) n (now s) at ≡ true) × (length (now s) < 4294967296) × (n < 4294967296) × (0 < length (now v)) × (0 < length (now t)) × (unread ≡ true → all? unread? (listAt (recIn form) n (now s) at) ≡ true) ⌝ }
-    ensures { λ r. ⌜ Said last (apart? (listAt (recIn form) n (now (s .entry)) at) && readApart? (listAt (recIn form) n (now (s .entry)) at)) r ⌝ }
+    requires { ⌜ RecordsIn (recIn form) (now s) recs × (length (now s) < 4294967296) × (recs .count < 4294967296) × (0 < length (now v)) × (0 < length (now t)) × (unread ≡ true → all? unread? (recsAt (recIn form) (now s) recs) ≡ true) ⌝ }
+    ensures { λ r. ⌜ Said last (apart? (recsAt (recIn form) (now (s .entry)) recs) && readApart? (recsAt (recIn form) (now (s .entry)) recs)) r ⌝ }
 {
-    let r = apart_in(s, form, at, n, t, v, last);
+    let r = apart_in(s, form, recs, t, v, last);
     if r == 1 {
         if unread {
             return 1;
         }
-        return reads_by(s, form, at, n, t, v, last);
+        return reads_by(s, form, recs, t, v, last);
     }
     r
 }
 
 // With room for few suspects; as often as needed, where it is the last table.
-pub fn apart_few(s: &[u8], form: Form, at: usize, n: u64, unread: bool, last: bool) -> u8
-    requires { ⌜ (at ≤ length (now s)) × (whole (recIn form) n (now s) at ≡ true) × (unread ≡ true → all? unread? (listAt (recIn form) n (now s) at) ≡ true) ⌝ }
-    ensures { λ r. ⌜ Said false (apart? (listAt (recIn form) n (now (s .entry)) at) && readApart? (listAt (recIn form) n (now (s .entry)) at)) r ⌝ }
+pub fn apart_few(s: &[u8], form: Form, recs: Records, unread: bool, last: bool) -> u8
+    requires { ⌜ RecordsIn (recIn form) (now s) recs × (unread ≡ true → all? unread? (recsAt (recIn form) (now s) recs) ≡ true) ⌝ }
+    ensures { λ r. ⌜ Said false (apart? (recsAt (recIn form) (now (s .entry)) recs) && readApart? (recsAt (recIn form) (now (s .entry)) recs)) r ⌝ }
 {
-    if !both(s.len() < 4294967296, n < 4294967296) {
+    if !both(s.len() < 4294967296, recs.count < 4294967296) {
         return 2;
     }
     let mut t = [0u64; 2048];
     let mut v = [0u64; 2048];
-    clear_by(s, form, at, n, unread, &mut t, &mut v, last)
+    clear_by(s, form, recs, unread, &mut t, &mut v, last)
 }
 
 // With room for many, as often as needed.
-pub fn apart_many(s: &[u8], form: Form, at: usize, n: u64, unread: bool, room: usize) -> u8
-    requires { ⌜ (at ≤ length (now s)) × (whole (recIn form) n (now s) at ≡ true) × (length (now s) < 4294967296) × (n < 4294967296) × (0 < room) × (room ≤ 65536) × (unread ≡ true → all? unread? (listAt (recIn form) n (now s) at) ≡ true) ⌝ }
-    ensures { λ r. ⌜ Said true (apart? (listAt (recIn form) n (now (s .entry)) at) && readApart? (listAt (recIn form) n (now (s .entry)) at)) r ⌝ }
+pub fn apart_many(s: &[u8], form: Form, recs: Records, unread: bool, room: usize) -> u8
+    requires { ⌜ RecordsIn (recIn form) (now s) recs × (length (now s) < 4294967296) × (recs .count < 4294967296) × (0 < room) × (room ≤ 65536) × (unread ≡ true → all? unread? (recsAt (recIn form) (now s) recs) ≡ true) ⌝ }
+    ensures { λ r. ⌜ Said true (apart? (recsAt (recIn form) (now (s .entry)) recs) && readApart? (recsAt (recIn form) (now (s .entry)) recs)) r ⌝ }
 {
     let mut t = [0u64; 16384];
     let mut v = [0u64; 65536];
-    clear_by(s, form, at, n, unread, &mut t, &mut v[..room], true)
+    clear_by(s, form, recs, unread, &mut t, &mut v[..room], true)
 }

@@ -8,6 +8,7 @@ use crate::layout::frame::Height;
 use crate::layout::frame::Time;
 use crate::layout::frame::num;
 use crate::layout::frame::rec_at;
+use crate::layout::records::Records;
 use crate::read::select::add_place;
 use crate::read::select::gather;
 use crate::read::select::order;
@@ -21,7 +22,7 @@ ghost use lib.ListN.{length, take};
 ghost use Rattle.queue.specs.Codec.{All};
 ghost use Rattle.queue.specs.layout.FrameCodec.{recC};
 ghost use Rattle.queue.specs.layout.FormsCodec.{formC};
-ghost use Rattle.queue.specs.bytes.ReaderAs.{whole};
+ghost use Rattle.queue.specs.layout.RecordsAs.{RecordsIn};
 ghost use Rattle.queue.specs.Lists.{Pairwise};
 ghost use Rattle.queue.specs.theorems.SoundParts.{Before};
 ghost use Rattle.queue.specs.Checked.{written};
@@ -338,8 +339,7 @@ fn best_rows(
 
 fn best_select(
     s: &[u8],
-    at: usize,
-    n: u64,
+    recs: Records,
     time: Time,
     height: Height,
     limit: u64,
@@ -349,10 +349,10 @@ fn best_select(
     places: &mut [usize],
     out: &mut [u8],
 ) -> Answer
-    requires { ⌜ (at ≤ length (now s)) × (whole (formC false recC) n (now s) at ≡ true) × Even 2048 (now ranks) (now times) (now places) × (length (chosen (time .0) (height .0) (now s) n at) ≤ 2048) × Pairwise Before (chosen (time .0) (height .0) (now s) n at) × (0 < budget) × (budget ≤ 2097151) ⌝ }
-    ensures { λ r. ⌜ written r (now (out .exit)) ≡ searchOf (take 20 (sort first? (chosen (time .0) (height .0) (now (s .entry)) n at))) limit budget (now (out .entry)) ⌝ }
+    requires { ⌜ RecordsIn (formC false recC) (now s) recs × Even 2048 (now ranks) (now times) (now places) × (length (chosen (time .0) (height .0) (now s) recs) ≤ 2048) × Pairwise Before (chosen (time .0) (height .0) (now s) recs) × (0 < budget) × (budget ≤ 2097151) ⌝ }
+    ensures { λ r. ⌜ written r (now (out .exit)) ≡ searchOf (take 20 (sort first? (chosen (time .0) (height .0) (now (s .entry)) recs))) limit budget (now (out .entry)) ⌝ }
 {
-    let m = gather(s, at, n, time, height, ranks, times, places);
+    let m = gather(s, recs, time, height, ranks, times, places);
     best_rows(
         s,
         &mut ranks[..m],
@@ -390,10 +390,13 @@ pub fn best_fees(
     let mut ranks = [0u64; 2048];
     let mut times = [0u64; 2048];
     let mut places = [0usize; 2048];
+    let recs = Records {
+        start: o.start,
+        count: h.count,
+    };
     best_select(
         area,
-        o.start,
-        h.count,
+        recs,
         time,
         height,
         limit,

@@ -2,13 +2,11 @@
 use crate::bytes::view::cmp_id;
 use crate::layout::forms::after_in;
 use crate::layout::frame::rec_at;
-ghost use mathlib.Core.Path.{_≡_};
+use crate::layout::records::Records;
 ghost use mathlib.Core.Bool.{true, false};
-ghost use Prim.Native.Nat.{_≤_};
-ghost use lib.ListN.{length};
 ghost use Rattle.queue.specs.layout.FrameCodec.{recC};
 ghost use Rattle.queue.specs.layout.FormsCodec.{formC};
-ghost use Rattle.queue.specs.bytes.ReaderAs.{whole, listAt};
+ghost use Rattle.queue.specs.layout.RecordsAs.{RecordsIn, recsAt};
 ghost use Rattle.queue.specs.read.ReadingAs.{FoundAs, FoundEnd};
 ghost use Rattle.queue.specs.paper.Lists.{find};
 ghost use Rattle.queue.specs.paper.Changing.{named?};
@@ -19,13 +17,13 @@ pub struct Found {
     pub at: usize,
 }
 
-// The record with this id, of the n records at `at` of an area.
-pub fn find_id(s: &[u8], at: usize, n: u64, id: [u8; 32]) -> Found
-    requires { ⌜ (at ≤ length (now s)) × (whole (formC false recC) n (now s) at ≡ true) ⌝ }
-    ensures { λ r. ⌜ FoundAs (now (s .entry)) r (find (named? id) (listAt (formC false recC) n (now (s .entry)) at)) × FoundEnd id at (listAt (formC false recC) n (now (s .entry)) at) r ⌝ }
+// The record with this id among the records of an area.
+pub fn find_id(s: &[u8], recs: Records, id: [u8; 32]) -> Found
+    requires { ⌜ RecordsIn (formC false recC) (now s) recs ⌝ }
+    ensures { λ r. ⌜ FoundAs (now (s .entry)) r (find (named? id) (recsAt (formC false recC) (now (s .entry)) recs)) × FoundEnd id (recs .start) (recsAt (formC false recC) (now (s .entry)) recs) r ⌝ }
 {
-    let mut i = at;
-    let mut left = n;
+    let mut i = recs.start;
+    let mut left = recs.count;
     while 0 < left {
         let x = rec_at(s, i);
         let y = x.id;
@@ -48,13 +46,13 @@ pub struct Spot {
     pub next: usize,
 }
 
-// The spot of this id among the n records at `at` of an area, whose ids rise.
-pub fn find_spot(s: &[u8], at: usize, n: u64, id: [u8; 32]) -> Spot
-    requires { ⌜ (at ≤ length (now s)) × (whole (formC false recC) n (now s) at ≡ true) ⌝ }
-    ensures { λ r. ⌜ SpotAs (now (s .entry)) id at (listAt (formC false recC) n (now (s .entry)) at) r ⌝ }
+// The spot of this id among the records of an area, whose ids rise.
+pub fn find_spot(s: &[u8], recs: Records, id: [u8; 32]) -> Spot
+    requires { ⌜ RecordsIn (formC false recC) (now s) recs ⌝ }
+    ensures { λ r. ⌜ SpotAs (now (s .entry)) id (recs .start) (recsAt (formC false recC) (now (s .entry)) recs) r ⌝ }
 {
-    let mut i = at;
-    let mut left = n;
+    let mut i = recs.start;
+    let mut left = recs.count;
     while 0 < left {
         let x = rec_at(s, i);
         let y = x.id;

@@ -8,19 +8,20 @@ use crate::bytes::put::put_be;
 use crate::check::area::area_at;
 use crate::layout::frame::Height;
 use crate::layout::frame::Time;
+use crate::layout::records::Records;
 use crate::read::links::links;
 use crate::read::select::gather;
 use crate::read::select::order;
 use crate::read::select::put_ids;
 use crate::refusal;
 ghost use mathlib.Core.Path.{_≡_};
-ghost use mathlib.Core.Bool.{true, false, cond};
+ghost use mathlib.Core.Bool.{false, cond};
 ghost use Prim.Native.Nat.{_+_, _-_, _*_, _≤_, _<_};
 ghost use lib.ListN.{length, take, getD, set, replicate};
 ghost use Rattle.queue.specs.Codec.{All};
 ghost use Rattle.queue.specs.layout.FrameCodec.{recC};
 ghost use Rattle.queue.specs.layout.FormsCodec.{formC};
-ghost use Rattle.queue.specs.bytes.ReaderAs.{whole};
+ghost use Rattle.queue.specs.layout.RecordsAs.{RecordsIn};
 ghost use Rattle.queue.specs.Lists.{Pairwise};
 ghost use Rattle.queue.specs.theorems.SoundParts.{Before};
 ghost use Rattle.queue.specs.Checked.{written};
@@ -303,8 +304,7 @@ fn parents_rows(
 
 fn parents_select(
     s: &[u8],
-    at: usize,
-    n: u64,
+    recs: Records,
     time: Time,
     height: Height,
     ranks: &mut [u64],
@@ -312,10 +312,10 @@ fn parents_select(
     places: &mut [usize],
     out: &mut [u8],
 ) -> Answer
-    requires { ⌜ (at ≤ length (now s)) × (whole (formC false recC) n (now s) at ≡ true) × Even 2048 (now ranks) (now times) (now places) × (length (chosen (time .0) (height .0) (now s) n at) ≤ 2048) × Pairwise Before (chosen (time .0) (height .0) (now s) n at) × All Modest (chosen (time .0) (height .0) (now s) n at) × (length (now s) < 4294967296) ⌝ }
-    ensures { λ r. ⌜ written r (now (out .exit)) ≡ toldOut (idsBytes (map (λ r. r .id) (parentsFirst waitsFor? (sort first? (chosen (time .0) (height .0) (now (s .entry)) n at))))) (now (out .entry)) ⌝ }
+    requires { ⌜ RecordsIn (formC false recC) (now s) recs × Even 2048 (now ranks) (now times) (now places) × (length (chosen (time .0) (height .0) (now s) recs) ≤ 2048) × Pairwise Before (chosen (time .0) (height .0) (now s) recs) × All Modest (chosen (time .0) (height .0) (now s) recs) × (length (now s) < 4294967296) ⌝ }
+    ensures { λ r. ⌜ written r (now (out .exit)) ≡ toldOut (idsBytes (map (λ r. r .id) (parentsFirst waitsFor? (sort first? (chosen (time .0) (height .0) (now (s .entry)) recs))))) (now (out .entry)) ⌝ }
 {
-    let m = gather(s, at, n, time, height, ranks, times, places);
+    let m = gather(s, recs, time, height, ranks, times, places);
     parents_rows(s, &mut ranks[..m], &mut times[..m], &mut places[..m], out)
 }
 
@@ -333,10 +333,13 @@ fn parents_in(area: &[u8], time: Time, height: Height, out: &mut [u8]) -> Answer
     let mut ranks = [0u64; 2048];
     let mut times = [0u64; 2048];
     let mut places = [0usize; 2048];
+    let recs = Records {
+        start: o.start,
+        count: h.count,
+    };
     parents_select(
         area,
-        o.start,
-        h.count,
+        recs,
         time,
         height,
         &mut ranks,

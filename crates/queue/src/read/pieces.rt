@@ -13,6 +13,7 @@ use crate::layout::frame::Height;
 use crate::layout::frame::Seen;
 use crate::layout::frame::Time;
 use crate::layout::frame::rec_at;
+use crate::layout::records::Records;
 use crate::layout::state;
 use crate::read::entry::entry_len;
 use crate::read::entry::put_entry;
@@ -24,7 +25,7 @@ ghost use Prim.Native.Nat.{_+_, _≤_, _<_};
 ghost use lib.ListN.{length};
 ghost use Rattle.queue.specs.layout.FrameCodec.{recC};
 ghost use Rattle.queue.specs.layout.FormsCodec.{formC};
-ghost use Rattle.queue.specs.bytes.ReaderAs.{whole, listAt};
+ghost use Rattle.queue.specs.layout.RecordsAs.{RecordsIn, recsAt};
 ghost use Rattle.queue.specs.bytes.PutAs.{Put};
 ghost use Rattle.queue.specs.read.PiecesAs.{dueAt, passesF, pieceAt, pieceLen, PieceIn, piecesOf, toldPieces, MeasureAs};
 ghost use Rattle.queue.specs.Checked.{written};
@@ -122,13 +123,13 @@ fn size_if(a: bool, n: usize) -> usize
     if a { n } else { 0 }
 }
 
-// How many of the n records at `at` pass, and how long their pieces are.
-pub fn measure(s: &[u8], at: usize, n: u64, w: What) -> Sizes
-    requires { ⌜ (at ≤ length (now s)) × (whole (formC false recC) n (now s) at ≡ true) × (n < 4294967296) ⌝ }
-    ensures { λ r. ⌜ MeasureAs w (listAt (formC false recC) n (now (s .entry)) at) n r ⌝ }
+// How many of the records pass, and how long their pieces are.
+pub fn measure(s: &[u8], recs: Records, w: What) -> Sizes
+    requires { ⌜ RecordsIn (formC false recC) (now s) recs × (recs .count < 4294967296) ⌝ }
+    ensures { λ r. ⌜ MeasureAs w (recsAt (formC false recC) (now (s .entry)) recs) (recs .count) r ⌝ }
 {
-    let mut i = at;
-    let mut left = n;
+    let mut i = recs.start;
+    let mut left = recs.count;
     let mut count: u64 = 0;
     let mut size: usize = 0;
     while 0 < left {
@@ -146,12 +147,12 @@ pub fn measure(s: &[u8], at: usize, n: u64, w: What) -> Sizes
     }
 }
 
-pub fn put_pieces(s: &[u8], from: usize, n: u64, w: What, dst: &mut [u8], at: usize) -> usize
-    requires { ⌜ (from ≤ length (now s)) × (whole (formC false recC) n (now s) from ≡ true) × (at + length (piecesOf w (listAt (formC false recC) n (now s) from)) ≤ length (now dst)) ⌝ }
-    ensures { λ r. ⌜ Put (now (dst .entry)) at (piecesOf w (listAt (formC false recC) n (now (s .entry)) from)) (length (piecesOf w (listAt (formC false recC) n (now (s .entry)) from))) r (now (dst .exit)) ⌝ }
+pub fn put_pieces(s: &[u8], recs: Records, w: What, dst: &mut [u8], at: usize) -> usize
+    requires { ⌜ RecordsIn (formC false recC) (now s) recs × (at + length (piecesOf w (recsAt (formC false recC) (now s) recs)) ≤ length (now dst)) ⌝ }
+    ensures { λ r. ⌜ Put (now (dst .entry)) at (piecesOf w (recsAt (formC false recC) (now (s .entry)) recs)) (length (piecesOf w (recsAt (formC false recC) (now (s .entry)) recs))) r (now (dst .exit)) ⌝ }
 {
-    let mut i = from;
-    let mut left = n;
+    let mut i = recs.start;
+    let mut left = recs.count;
     let mut o = at;
     while 0 < left {
         let x = rec_at(s, i);
@@ -172,12 +173,16 @@ fn told(area: &[u8], w: What, out: &mut [u8]) -> Answer
     }
     let o = a.open;
     let h = o.head;
-    let m = measure(area, o.start, h.count, w);
+    let recs = Records {
+        start: o.start,
+        count: h.count,
+    };
+    let m = measure(area, recs, w);
     if out.len() < 4 + m.size {
         return Answer::Refused(refusal::OUTPUT_TOO_SHORT);
     }
     let p = put_be(out, 0, 4, m.count);
-    put_pieces(area, o.start, h.count, w, out, p);
+    put_pieces(area, recs, w, out, p);
     Answer::Done(Kind::Nothing)
 }
 

@@ -10,6 +10,7 @@ use crate::check::scan::tally;
 use crate::layout::frame::Height;
 use crate::layout::frame::Time;
 use crate::layout::frame::rec_at;
+use crate::layout::records::Records;
 use crate::read::entry::entry_len;
 use crate::read::entry::put_entry;
 use crate::read::find::find_id;
@@ -41,7 +42,11 @@ pub fn look(area: &[u8], id: &[u8]) -> Looked
     let k = id_at(id, false, 0, 0);
     let o = a.open;
     let h = o.head;
-    let f = find_id(area, o.start, h.count, k);
+    let recs = Records {
+        start: o.start,
+        count: h.count,
+    };
+    let f = find_id(area, recs, k);
     if !f.found {
         return Looked { refusal: 13, at: 0 };
     }
@@ -164,7 +169,11 @@ pub fn deadline_due(area: &[u8], time: Time, height: Height, value: &mut u64) ->
     }
     let o = a.open;
     let h = o.head;
-    let n = tally(area, o.start, h.count, Query::Due(time, height));
+    let recs = Records {
+        start: o.start,
+        count: h.count,
+    };
+    let n = tally(area, recs, Query::Due(time, height));
     *value = one_if(0 < n);
     Answer::Done(Kind::Nothing)
 }

@@ -14,7 +14,7 @@ use Rattle.queue.proofs.change.admit.tell_old.Reads as tell-old-reads
 use Rattle.queue.proofs.read.find.find_spot.Reads as find-spot-reads
 
 find-spot-requires : tie.Need-find-spot-requires
-find-spot-requires c κs = (tally-asks (c .before .before .before .before .before .before .before .before .before .before .before .before .pre .0) .0, tally-asks (c .before .before .before .before .before .before .before .before .before .before .before .before .pre .0) .1)
+find-spot-requires c κs = tally-asks (c .before .before .before .before .before .before .before .before .before .before .before .before .pre .0) .0
 
 holder-at-requires : tie.Need-holder-at-requires
 holder-at-requires c κs = search needs

@@ -12,7 +12,7 @@ returns : tie.Need-returns
 returns c = none-reads (c .before .before .before .before .before .before .pre .0) (c .before .before .before .before .before .before .args .inputs .now) (c .if1 .taken)
 
 ids-clash-requires : tie.Need-ids-clash-requires
-ids-clash-requires c κs = (ids-lent (c .before .before .before .before .before .before .pre .1) .0, tally-asks (c .before .before .before .before .before .before .pre .0) .0, tally-asks (c .before .before .before .before .before .before .pre .0) .1, c .before .before .before .before .before .before .pre .1 .few, ids-lent (c .before .before .before .before .before .before .pre .1) .1)
+ids-clash-requires c κs = (ids-lent (c .before .before .before .before .before .before .pre .1) .0, tally-asks (c .before .before .before .before .before .before .pre .0) .0, c .before .before .before .before .before .before .pre .1 .few, ids-lent (c .before .before .before .before .before .before .pre .1) .1)
 
 returns-2 : tie.Need-returns-2
 returns-2 c = reads-by (c .before .before .before .before .before .before .before .pre .0) (c .before .before .before .before .before .before .before .args .inputs .now) (c .before .before .before .before .before .before .before .pre .1) (c .ids-clash .ensures)

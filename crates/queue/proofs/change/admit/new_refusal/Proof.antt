@@ -17,7 +17,7 @@ returns : tie.Need-returns
 returns c = free-room (c .before .before .before .before .before .args .s .now) (c .before .before .before .before .before .args .inputs .now) (c .before .before .before .before .before .args .reads .now) (c .before .before .before .before .before .args .caller) (c .before .before .before .before .before .args .n) (c .before .room-for .ensures) (c .if1 .taken)
 
 ids-clash-requires : tie.Need-ids-clash-requires
-ids-clash-requires c κs = let l = c .before .before .before .before .before .before .before .pre .2 in (ids-lent l .0, tally-asks (c .before .before .before .before .before .before .before .pre .0) .0, tally-asks (c .before .before .before .before .before .before .before .pre .0) .1, l .few, ids-lent l .1)
+ids-clash-requires c κs = let l = c .before .before .before .before .before .before .before .pre .2 in (ids-lent l .0, tally-asks (c .before .before .before .before .before .before .before .pre .0) .0, l .few, ids-lent l .1)
 
 returns-2 : tie.Need-returns-2
 returns-2 c = free-12 (c .before .before .before .before .before .before .before .before .before .pre .0) (c .before .before .before .before .before .before .before .before .before .pre .2) (c .before .before .before .before .before .before .before .before .before .args .reads .now) (c .before .before .before .before .before .before .before .before .before .args .caller) (c .before .before .before .before .before .before .before .before .before .args .n) (c .before .before .before .before .before .room-for .ensures) (c .before .before .before .before .if1 .left) (c .before .ids-clash .ensures) (c .if2 .taken)

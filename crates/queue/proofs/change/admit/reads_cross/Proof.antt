@@ -19,7 +19,7 @@ returns-2 : tie.Need-returns-2
 returns-2 c = cross-none (c .before .before .before .before .before .before .before .before .args .s .now) (c .before .before .before .before .before .before .before .before .args .inputs .now) (c .before .before .before .before .before .before .before .before .args .reads .now) (c .before .before .inputs-read .ensures) (c .before .if1 .left) (c .if2 .taken)
 
 ids-clash-requires : tie.Need-ids-clash-requires
-ids-clash-requires c κs = (ids-lent (c .before .before .before .before .before .before .before .before .pre .2) .0, tally-asks (c .before .before .before .before .before .before .before .before .pre .0) .0, tally-asks (c .before .before .before .before .before .before .before .before .pre .0) .1, c .before .before .before .before .before .before .before .before .pre .2 .few, ids-lent (c .before .before .before .before .before .before .before .before .pre .2) .1)
+ids-clash-requires c κs = (ids-lent (c .before .before .before .before .before .before .before .before .pre .2) .0, tally-asks (c .before .before .before .before .before .before .before .before .pre .0) .0, c .before .before .before .before .before .before .before .before .pre .2 .few, ids-lent (c .before .before .before .before .before .before .before .before .pre .2) .1)
 
 returns-3 : tie.Need-returns-3
 returns-3 c = cross-by (c .before .before .before .before .before .before .before .before .before .args .s .now) (c .before .before .before .before .before .before .before .before .before .args .inputs .now) (c .before .before .before .before .before .before .before .before .before .args .reads .now) (c .before .before .before .inputs-read .ensures) (c .before .before .before .before .before .before .before .before .before .pre .0) (c .before .before .before .before .before .before .before .before .before .pre .2) (c .before .before .if1 .left) (c .ids-clash .ensures)

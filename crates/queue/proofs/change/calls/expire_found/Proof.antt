@@ -45,7 +45,7 @@ put-be-requires-2 : tie.Need-put-be-requires-2
 put-be-requires-2 c κs = omega (arith, c .before .before .before .before .before .before .if2 .left)
 
 put-picked-requires : tie.Need-put-picked-requires
-put-picked-requires c κs = let g = hits-asks (c .before .before .before .before .before .before .before .before .before .before .before .before .before .before .before .before .before .before .before .before .pre .0) in (g .0, g .1, due-ids (c .before .before .before .before .before .before .before .before .before .before .before .before .before .before .before .before .before .before .before .before .pre .0) (c .before .before .before .before .before .before .before .before .before .before .before .before .before .before .before .before .before .before .before .before .args .time) (c .before .before .before .before .before .before .before .before .before .before .before .before .before .before .before .before .before .before .before .before .args .height) _ (c .before .before .before .before .before .before .before .before .before .before .before .before .before .hits .ensures .0) (c .before .before .before .before .before .before .before .before .before .before .before .before .before .hits .ensures .1) (c .before .before .before .before .before .before .before .before .before .before .before .if1 .left) (c .before .before .before .before .before .before .before .before .before .before .before .before .before .before .before .before .before .before .before .before .args .out .now) (c .before .before .before .before .before .before .before .before .before .before .if2 .left) (c .before .before .before .put-be2 .ensures))
+put-picked-requires c κs = (hits-asks (c .before .before .before .before .before .before .before .before .before .before .before .before .before .before .before .before .before .before .before .before .pre .0), due-ids (c .before .before .before .before .before .before .before .before .before .before .before .before .before .before .before .before .before .before .before .before .pre .0) (c .before .before .before .before .before .before .before .before .before .before .before .before .before .before .before .before .before .before .before .before .args .time) (c .before .before .before .before .before .before .before .before .before .before .before .before .before .before .before .before .before .before .before .before .args .height) _ (c .before .before .before .before .before .before .before .before .before .before .before .before .before .hits .ensures .0) (c .before .before .before .before .before .before .before .before .before .before .before .before .before .hits .ensures .1) (c .before .before .before .before .before .before .before .before .before .before .before .if1 .left) (c .before .before .before .before .before .before .before .before .before .before .before .before .before .before .before .before .before .before .before .before .args .out .now) (c .before .before .before .before .before .before .before .before .before .before .if2 .left) (c .before .before .before .put-be2 .ensures))
 
 same-length-2 : tie.Need-same-length-2
 same-length-2 c = search needs

@@ -16,19 +16,19 @@ use Rattle.queue.proofs.layout.forms.after_in.Reads as after-in-reads
 use Rattle.queue.proofs.layout.frame.rec_at.Reads as rec-at-reads
 
 abbrev Inv-loop : tie.InvT-loop
-Inv-loop s at n read ids m v ordered i₀ left₀ i left = Scan (formC false recC) (meetF read (idsAt ids m)) s n at tt i left tt
+Inv-loop s read ids m v ordered i₀ left₀ i left = Scan (formC false recC) (meetF read (idsAt ids m)) s left₀ i₀ tt i left tt
 
 abbrev μ-loop : tie.MeasureT-loop
-μ-loop s at n read ids m v ordered i₀ left₀ i left = left
+μ-loop s read ids m v ordered i₀ left₀ i left = left
 
 loop-holds : tie.Need-loop-holds Inv-loop μ-loop
-loop-holds c = start (formC false recC) _ _ _ _ _ (c .before .before .before .pre .0) (c .before .before .before .pre .1)
+loop-holds c = start (formC false recC) _ _ _ _ _ (c .before .before .before .pre .0 .0) (c .before .before .before .pre .0 .1)
 
 rec-at-requires : tie.Need-rec-at-requires Inv-loop μ-loop
 rec-at-requires c κs = search needs
 
 meets-requires : tie.Need-meets-requires Inv-loop μ-loop
-meets-requires c κs = (meet-seen (c .before .before .before .before .before .before .args .read) _ (c .before .before .loop .inv) (c .before .loop-test .taken) (c .rec-at .ensures), c .before .before .before .before .before .before .pre .2, c .before .before .before .before .before .before .pre .3, c .before .before .before .before .before .before .pre .4)
+meets-requires c κs = (meet-seen (c .before .before .before .before .before .before .args .read) _ (c .before .before .loop .inv) (c .before .loop-test .taken) (c .rec-at .ensures), c .before .before .before .before .before .before .pre .1, c .before .before .before .before .before .before .pre .2, c .before .before .before .before .before .before .pre .3)
 
 returns : tie.Need-returns Inv-loop μ-loop
 returns c = meet-stop (c .before .before .before .before .before .before .before .before .args .read) _ (c .before .before .before .before .loop .inv) (c .before .before .before .loop-test .taken) (c .before .before .rec-at .ensures) (c .before .meets .ensures) (c .if1 .taken)

@@ -17,7 +17,7 @@ in-order-requires : tie.Need-in-order-requires
 in-order-requires c κs = search needs
 
 any-meets-requires : tie.Need-any-meets-requires
-any-meets-requires c κs = (c .before .before .before .before .before .before .before .before .before .before .pre .0, c .before .before .before .before .before .before .before .before .before .before .pre .1, c .before .before .before .before .before .before .before .before .before .before .pre .2, rows-moved (c .before .before .before .before .before .order-rows .ensures) (c .before .before .before .before .before .before .before .before .before .before .pre .3), c .before .in-order .ensures)
+any-meets-requires c κs = (c .before .before .before .before .before .before .before .before .before .before .pre .0, c .before .before .before .before .before .before .before .before .before .before .pre .1, rows-moved (c .before .before .before .before .before .order-rows .ensures) (c .before .before .before .before .before .before .before .before .before .before .pre .2), c .before .in-order .ensures)
 
 same-length : tie.Need-same-length
 same-length c = search needs

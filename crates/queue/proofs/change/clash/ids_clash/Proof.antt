@@ -14,7 +14,7 @@ slice-aggregate-place-rows : tie.Need-slice-aggregate-place-rows
 slice-aggregate-place-rows c = search needs
 
 place-rows-requires : tie.Need-place-rows-requires
-place-rows-requires c κs = (c .before .before .before .pre .0, c .before .before .before .pre .3, c .before .before .before .pre .4)
+place-rows-requires c κs = (c .before .before .before .pre .0, c .before .before .before .pre .2, c .before .before .before .pre .3)
 
 array-borrow-prefix-v : tie.Need-array-borrow-prefix-v
 array-borrow-prefix-v c = search needs
@@ -23,7 +23,7 @@ slice-aggregate-clash-by : tie.Need-slice-aggregate-clash-by
 slice-aggregate-clash-by c = sym (length-take-le _ _ (omega (arith, c .before .before .place-rows .ensures .1, c .before .before .place-rows .ensures .2)))
 
 clash-by-requires : tie.Need-clash-by-requires
-clash-by-requires c κs = (c .before .before .before .before .before .before .pre .1, c .before .before .before .before .before .before .pre .2, c .before .before .before .before .before .before .pre .0, c .before .before .place-rows .ensures .0)
+clash-by-requires c κs = (c .before .before .before .before .before .before .pre .1, c .before .before .before .before .before .before .pre .0, c .before .before .place-rows .ensures .0)
 
 returns : tie.Need-returns
 returns c = search needs

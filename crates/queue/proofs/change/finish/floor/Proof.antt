@@ -15,13 +15,13 @@ slice-aggregate-gather : tie.Need-slice-aggregate-gather
 slice-aggregate-gather c = search needs
 
 gather-requires : tie.Need-gather-requires
-gather-requires c κs = (c .before .before .pre .0, c .before .before .pre .1, c .before .before .pre .8)
+gather-requires c κs = (c .before .before .pre .0, c .before .before .pre .7)
 
 add-if1 : tie.Need-add-if1
 add-if1 c = search needs
 
 returns : tie.Need-returns
-returns c = floor-zero _ _ _ (c .before .before .gather .result) (c .before .before .gather .last .1 .1 .1 .1 .0) _ (omega (arith, c .before .before .gather .ensures .1, c .before .before .gather .ensures .2)) (c .before .before .gather .ensures .0) (c .if1 .taken) refl
+returns c = floor-zero _ _ _ (c .before .before .gather .result) (c .before .before .gather .last .1 .1 .1 .0) _ (omega (arith, c .before .before .gather .ensures .1, c .before .before .gather .ensures .2)) (c .before .before .gather .ensures .0) (c .if1 .taken) refl
 
 array-share-prefix-v : tie.Need-array-share-prefix-v
 array-share-prefix-v c = search needs
@@ -30,10 +30,10 @@ slice-aggregate-floor-in : tie.Need-slice-aggregate-floor-in
 slice-aggregate-floor-in c = sym (length-take-le _ _ (omega (arith, c .before .before .before .gather .ensures .1, c .before .before .before .gather .ensures .2)))
 
 floor-in-requires : tie.Need-floor-in-requires
-floor-in-requires c κs = (omega (arith, c .before .before .before .gather .ensures .1, length-take-le (c .before .before .before .gather .result) (c .before .before .before .gather .last .1 .1 .1 .1 .0) (omega (arith, c .before .before .before .gather .ensures .1, c .before .before .before .gather .ensures .2))), omega (arith, c .before .before .before .before .before .before .pre .2, c .before .before .before .before .before .before .pre .3), c .before .before .before .before .before .before .pre .4, c .before .before .before .before .before .before .pre .5, numbers-low (c .before .before .before .gather .result) (c .before .before .before .gather .last .1 .1 .1 .1 .0) _ _ (c .before .before .before .gather .ensures .0) (c .before .before .before .before .before .before .pre .7))
+floor-in-requires c κs = (omega (arith, c .before .before .before .gather .ensures .1, length-take-le (c .before .before .before .gather .result) (c .before .before .before .gather .last .1 .1 .1 .0) (omega (arith, c .before .before .before .gather .ensures .1, c .before .before .before .gather .ensures .2))), omega (arith, c .before .before .before .before .before .before .pre .1, c .before .before .before .before .before .before .pre .2), c .before .before .before .before .before .before .pre .3, c .before .before .before .before .before .before .pre .4, numbers-low (c .before .before .before .gather .result) (c .before .before .before .gather .last .1 .1 .1 .0) _ _ (c .before .before .before .gather .ensures .0) (c .before .before .before .before .before .before .pre .6))
 
 returns-2 : tie.Need-returns-2
-returns-2 c = floor-found _ _ _ (c .before .before .before .before .gather .result) (c .before .before .before .before .gather .last .1 .1 .1 .1 .0) _ (omega (arith, c .before .before .before .before .gather .ensures .1, c .before .before .before .before .gather .ensures .2)) (c .before .before .before .before .gather .ensures .0) (c .floor-in .ensures)
+returns-2 c = floor-found _ _ _ (c .before .before .before .before .gather .result) (c .before .before .before .before .gather .last .1 .1 .1 .0) _ (omega (arith, c .before .before .before .before .gather .ensures .1, c .before .before .before .before .gather .ensures .2)) (c .before .before .before .before .gather .ensures .0) (c .floor-in .ensures)
 
 pub floor-spec : {M : Type 1} → statement M
 floor-spec =

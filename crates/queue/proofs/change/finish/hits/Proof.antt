@@ -16,10 +16,10 @@ use Rattle.queue.proofs.change.finish.picks.Reads as picks-reads
 use Rattle.queue.proofs.layout.frame.rec_at.Reads as rec-at-reads
 
 abbrev Inv-loop : tie.InvT-loop
-Inv-loop s at n c id i₀ left₀ total₀ i left total = Scan (formC false recC) (hitsFrom c id) s n at 0 i left total × (total + left ≤ n)
+Inv-loop s c id i₀ left₀ total₀ i left total = Scan (formC false recC) (hitsFrom c id) s left₀ i₀ 0 i left total × (total + left ≤ left₀)
 
 abbrev μ-loop : tie.MeasureT-loop
-μ-loop s at n c id i₀ left₀ total₀ i left total = left
+μ-loop s c id i₀ left₀ total₀ i left total = left
 
 loop-holds : tie.Need-loop-holds Inv-loop μ-loop
 loop-holds c = (start (formC false recC) _ _ _ _ _ (c .before .pre .0) (c .before .pre .1), omega arith)

@@ -8,10 +8,10 @@ use Rattle.queue.proofs.change.own.add_outputs.Lts as lts
 use Rattle.queue.proofs.change.own.add_rows.Reads as add-rows-reads
 
 returns : tie.Need-returns
-returns c = (skipped _ _ _ _ _ (c .before .before .before .before .before .before .before .args .x) _ (c .if1 .taken), c .before .before .before .before .before .before .before .pre .4)
+returns c = (skipped _ _ _ _ _ (c .before .before .before .before .before .before .before .args .x) _ (c .if1 .taken), c .before .before .before .before .before .before .before .pre .3)
 
 add-rows-requires : tie.Need-add-rows-requires
-add-rows-requires c κs = (c .before .before .before .before .before .before .before .before .before .pre .0, c .before .before .before .before .before .before .before .before .before .pre .1, c .before .before .before .before .before .before .before .before .before .pre .2, c .before .before .before .before .before .before .before .before .before .pre .3, c .before .before .before .before .before .before .before .before .before .pre .4, c .before .before .before .before .before .before .before .before .before .pre .5, c .before .before .before .before .before .before .before .before .before .pre .6, c .before .before .before .before .before .before .before .before .before .pre .7, c .before .before .before .before .before .before .before .before .before .pre .8)
+add-rows-requires c κs = (c .before .before .before .before .before .before .before .before .before .pre .0, c .before .before .before .before .before .before .before .before .before .pre .1, c .before .before .before .before .before .before .before .before .before .pre .2, c .before .before .before .before .before .before .before .before .before .pre .3, c .before .before .before .before .before .before .before .before .before .pre .4, c .before .before .before .before .before .before .before .before .before .pre .5, c .before .before .before .before .before .before .before .before .before .pre .6, c .before .before .before .before .before .before .before .before .before .pre .7)
 
 same-length : tie.Need-same-length
 same-length c = search needs

@@ -2,10 +2,10 @@
 use Prim.Native.Nat.{_≤_}
 use Rattle.queue.proofs.change.OwnLaws.{Queuing, queue-end, queue-go, queuing}
 use Rattle.queue.proofs.layout.TurnLaws.{seen}
-use Rattle.queue.specs.bytes.ReaderAs.{listAt}
 use Rattle.queue.specs.change.OwnAs.{bitsIn, wantedOf}
 use Rattle.queue.specs.layout.FormsCodec.{formC}
 use Rattle.queue.specs.layout.FrameCodec.{recC}
+use Rattle.queue.specs.layout.RecordsAs.{recsAt}
 use borrow.Author.Needs.{needs}
 use lib.ListN.{length, take}
 use mathlib.Core.Bool.{false}
@@ -20,19 +20,19 @@ use Rattle.queue.proofs.layout.forms.after_in.Reads as after-in-reads
 use Rattle.queue.proofs.layout.frame.rec_at.Reads as rec-at-reads
 
 abbrev Inv-loop : tie.InvT-loop
-Inv-loop s at n v₀ flags₀ t i₀ left₀ k₀ v flags i left k = Queuing s (wantedOf (listAt (formC false recC) n s at)) t n at (bitsIn flags₀) (bitsIn flags) (take k v) i left × (k ≤ length v) × (length v ≡ length v₀) × (length flags ≡ length flags₀)
+Inv-loop s recs v₀ flags₀ t i₀ left₀ k₀ v flags i left k = Queuing s (wantedOf (recsAt (formC false recC) s recs)) t left₀ i₀ (bitsIn flags₀) (bitsIn flags) (take k v) i left × (k ≤ length v) × (length v ≡ length v₀) × (length flags ≡ length flags₀)
 
 abbrev μ-loop : tie.MeasureT-loop
-μ-loop s at n v₀ flags₀ t i₀ left₀ k₀ v flags i left k = left
+μ-loop s recs v₀ flags₀ t i₀ left₀ k₀ v flags i left k = left
 
 loop-holds : tie.Need-loop-holds Inv-loop μ-loop
-loop-holds c = (queuing _ _ _ _ _ _ (c .before .before .before .before .pre .0) (c .before .before .before .before .pre .1), omega arith, refl, refl)
+loop-holds c = (queuing _ _ _ _ _ _ (c .before .before .before .before .pre .0 .0) (c .before .before .before .before .pre .0 .1), omega arith, refl, refl)
 
 rec-at-requires : tie.Need-rec-at-requires Inv-loop μ-loop
 rec-at-requires c κs = search needs
 
 add-outputs-requires : tie.Need-add-outputs-requires Inv-loop μ-loop
-add-outputs-requires c κs = let t = seen false (c .before .before .before .before .loop .inv .0 .scan) (c .before .before .before .loop-test .taken) (c .before .before .rec-at .ensures) in (c .before .before .before .before .before .before .before .before .before .pre .0, c .before .before .before .before .before .before .before .before .before .pre .1, c .before .before .before .before .before .before .before .before .before .pre .2, (omega (arith, c .before .before .before .before .before .before .before .before .before .pre .3 .0, c .before .before .before .before .loop .inv .3), c .before .before .before .before .before .before .before .before .before .pre .3 .1), c .before .before .before .before .loop .inv .1, omega (arith, c .before .before .before .before .before .before .before .before .before .pre .4, c .before .before .before .before .loop .inv .2), c .before .before .before .before .before .before .before .before .before .pre .5, t .is .0 .outsIn, t .is .0 .outsAll)
+add-outputs-requires c κs = let t = seen false (c .before .before .before .before .loop .inv .0 .scan) (c .before .before .before .loop-test .taken) (c .before .before .rec-at .ensures) in (c .before .before .before .before .before .before .before .before .before .pre .0, c .before .before .before .before .before .before .before .before .before .pre .1, (omega (arith, c .before .before .before .before .before .before .before .before .before .pre .2 .0, c .before .before .before .before .loop .inv .3), c .before .before .before .before .before .before .before .before .before .pre .2 .1), c .before .before .before .before .loop .inv .1, omega (arith, c .before .before .before .before .before .before .before .before .before .pre .3, c .before .before .before .before .loop .inv .2), c .before .before .before .before .before .before .before .before .before .pre .4, t .is .0 .outsIn, t .is .0 .outsAll)
 
 after-in-requires : tie.Need-after-in-requires Inv-loop μ-loop
 after-in-requires c κs = seen false (c .before .before .before .before .before .before .before .before .before .loop .inv .0 .scan) (c .before .before .before .before .before .before .before .before .loop-test .taken) (c .before .before .before .before .before .before .before .rec-at .ensures) .is .1 .within

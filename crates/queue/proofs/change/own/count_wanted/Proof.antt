@@ -15,22 +15,22 @@ use Rattle.queue.proofs.layout.forms.after_in.Reads as after-in-reads
 use Rattle.queue.proofs.layout.frame.rec_at.Reads as rec-at-reads
 
 abbrev Inv-loop : tie.InvT-loop
-Inv-loop s at n i₀ left₀ total₀ i left total = Scan (formC false recC) wantedFrom s n at 0 i left total × (total + left * 131070 ≤ n * 131070)
+Inv-loop s i₀ left₀ total₀ i left total = Scan (formC false recC) wantedFrom s left₀ i₀ 0 i left total × (total + left * 131070 ≤ left₀ * 131070)
 
 abbrev μ-loop : tie.MeasureT-loop
-μ-loop s at n i₀ left₀ total₀ i left total = left
+μ-loop s i₀ left₀ total₀ i left total = left
 
 loop-holds : tie.Need-loop-holds Inv-loop μ-loop
-loop-holds c = (start (formC false recC) wantedFrom _ _ _ _ (c .before .pre .0) (c .before .pre .1), omega arith)
+loop-holds c = (start (formC false recC) wantedFrom _ _ _ _ (c .before .pre .0 .0) (c .before .pre .0 .1), omega arith)
 
 rec-at-requires : tie.Need-rec-at-requires Inv-loop μ-loop
 rec-at-requires c κs = search needs
 
 add-total : tie.Need-add-total Inv-loop μ-loop
-add-total c = omega (arith, c .before .before .before .before .loop .inv .1, seen false (c .before .before .before .before .loop .inv .0) (c .before .before .before .loop-test .taken) (c .before .before .rec-at .ensures) .is .0 .small .ins, seen false (c .before .before .before .before .loop .inv .0) (c .before .before .before .loop-test .taken) (c .before .before .rec-at .ensures) .is .0 .small .reads, c .before .before .before .before .before .before .pre .2)
+add-total c = omega (arith, c .before .before .before .before .loop .inv .1, seen false (c .before .before .before .before .loop .inv .0) (c .before .before .before .loop-test .taken) (c .before .before .rec-at .ensures) .is .0 .small .ins, seen false (c .before .before .before .before .loop .inv .0) (c .before .before .before .loop-test .taken) (c .before .before .rec-at .ensures) .is .0 .small .reads, c .before .before .before .before .before .before .pre .1)
 
 add-total-2 : tie.Need-add-total-2 Inv-loop μ-loop
-add-total-2 c = omega (arith, c .before .before .before .before .loop .inv .1, seen false (c .before .before .before .before .loop .inv .0) (c .before .before .before .loop-test .taken) (c .before .before .rec-at .ensures) .is .0 .small .ins, seen false (c .before .before .before .before .loop .inv .0) (c .before .before .before .loop-test .taken) (c .before .before .rec-at .ensures) .is .0 .small .reads, c .before .before .before .before .before .before .pre .2)
+add-total-2 c = omega (arith, c .before .before .before .before .loop .inv .1, seen false (c .before .before .before .before .loop .inv .0) (c .before .before .before .loop-test .taken) (c .before .before .rec-at .ensures) .is .0 .small .ins, seen false (c .before .before .before .before .loop .inv .0) (c .before .before .before .loop-test .taken) (c .before .before .rec-at .ensures) .is .0 .small .reads, c .before .before .before .before .before .before .pre .1)
 
 after-in-requires : tie.Need-after-in-requires Inv-loop μ-loop
 after-in-requires c κs = seen false (c .before .before .before .before .loop .inv .0) (c .before .before .before .loop-test .taken) (c .before .before .rec-at .ensures) .is .1 .within

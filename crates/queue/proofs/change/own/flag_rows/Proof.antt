@@ -16,7 +16,7 @@ in-order-requires : tie.Need-in-order-requires
 in-order-requires c κs = search needs
 
 mark-all-requires : tie.Need-mark-all-requires
-mark-all-requires c κs = (c .before .before .before .before .before .before .before .before .before .before .before .pre .0, c .before .before .before .before .before .before .before .before .before .before .before .pre .1, c .before .before .before .before .before .before .before .before .before .before .before .pre .2, c .before .before .in-order .ensures, c .before .before .before .before .before .before .before .before .before .before .before .pre .3)
+mark-all-requires c κs = (c .before .before .before .before .before .before .before .before .before .before .before .pre .0, c .before .before .before .before .before .before .before .before .before .before .before .pre .1, c .before .before .in-order .ensures, c .before .before .before .before .before .before .before .before .before .before .before .pre .2)
 
 same-length : tie.Need-same-length
 same-length c = search needs

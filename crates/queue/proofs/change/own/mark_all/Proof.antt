@@ -22,28 +22,28 @@ use Rattle.queue.proofs.layout.forms.after_in.Reads as after-in-reads
 use Rattle.queue.proofs.layout.frame.rec_at.Reads as rec-at-reads
 
 abbrev Inv-loop : tie.InvT-loop
-Inv-loop s at n v ordered flags₀ i₀ left₀ g₀ flags i left g = Scan (formC false recC) (markR (λ z. any? (later false s z 0) v)) s n at (bitsIn flags₀, 0) i left (bitsIn flags, g) × (length flags ≡ length flags₀) × (g + length (wantedOf (listAt (formC false recC) left s i)) ≡ length (wantedOf (listAt (formC false recC) n s at)))
+Inv-loop s v ordered flags₀ i₀ left₀ g₀ flags i left g = Scan (formC false recC) (markR (λ z. any? (later false s z 0) v)) s left₀ i₀ (bitsIn flags₀, 0) i left (bitsIn flags, g) × (length flags ≡ length flags₀) × (g + length (wantedOf (listAt (formC false recC) left s i)) ≡ length (wantedOf (listAt (formC false recC) left₀ s i₀)))
 
 abbrev μ-loop : tie.MeasureT-loop
-μ-loop s at n v ordered flags₀ i₀ left₀ g₀ flags i left g = left
+μ-loop s v ordered flags₀ i₀ left₀ g₀ flags i left g = left
 
 loop-holds : tie.Need-loop-holds Inv-loop μ-loop
-loop-holds c = (start (formC false recC) _ _ _ _ _ (c .before .before .before .pre .0) (c .before .before .before .pre .1), refl, omega arith)
+loop-holds c = (start (formC false recC) _ _ _ _ _ (c .before .before .before .pre .0 .0) (c .before .before .before .pre .0 .1), refl, omega arith)
 
 rec-at-requires : tie.Need-rec-at-requires Inv-loop μ-loop
 rec-at-requires c κs = search needs
 
 mark-ids-requires : tie.Need-mark-ids-requires Inv-loop μ-loop
-mark-ids-requires c κs = let t = seen false (c .before .before .before .before .loop .inv .0) (c .before .before .before .loop-test .taken) (c .before .before .rec-at .ensures) in (t .is .0 .insIn, t .is .0 .insAll, c .before .before .before .before .before .before .before .before .pre .2, c .before .before .before .before .before .before .before .before .pre .3, (omega (arith, c .before .before .before .before .loop .inv .1, c .before .before .before .before .loop .inv .2, c .before .before .before .before .before .before .before .before .pre .4 .0, marks-room (λ z. any? (later false (c .before .before .before .before .before .before .before .before .args .s .now) z 0) (c .before .before .before .before .before .before .before .before .args .v .now)) (c .before .before .before .before .loop .inv .0) (c .before .before .before .loop-test .taken) (c .before .before .rec-at .ensures) refl), omega (arith, c .before .before .before .before .loop .inv .2, c .before .before .before .before .before .before .before .before .pre .4 .1, marks-room (λ z. any? (later false (c .before .before .before .before .before .before .before .before .args .s .now) z 0) (c .before .before .before .before .before .before .before .before .args .v .now)) (c .before .before .before .before .loop .inv .0) (c .before .before .before .loop-test .taken) (c .before .before .rec-at .ensures) refl)))
+mark-ids-requires c κs = let t = seen false (c .before .before .before .before .loop .inv .0) (c .before .before .before .loop-test .taken) (c .before .before .rec-at .ensures) in (t .is .0 .insIn, t .is .0 .insAll, c .before .before .before .before .before .before .before .before .pre .1, c .before .before .before .before .before .before .before .before .pre .2, (omega (arith, c .before .before .before .before .loop .inv .1, c .before .before .before .before .loop .inv .2, c .before .before .before .before .before .before .before .before .pre .3 .0, marks-room (λ z. any? (later false (c .before .before .before .before .before .before .before .before .args .s .now) z 0) (c .before .before .before .before .before .before .before .before .args .v .now)) (c .before .before .before .before .loop .inv .0) (c .before .before .before .loop-test .taken) (c .before .before .rec-at .ensures) refl), omega (arith, c .before .before .before .before .loop .inv .2, c .before .before .before .before .before .before .before .before .pre .3 .1, marks-room (λ z. any? (later false (c .before .before .before .before .before .before .before .before .args .s .now) z 0) (c .before .before .before .before .before .before .before .before .args .v .now)) (c .before .before .before .before .loop .inv .0) (c .before .before .before .loop-test .taken) (c .before .before .rec-at .ensures) refl)))
 
 add-g : tie.Need-add-g Inv-loop μ-loop
-add-g c = omega (arith, c .before .before .before .before .before .before .before .loop .inv .2, c .before .before .before .before .before .before .before .before .before .before .before .pre .4 .1, marks-room (λ z. any? (later false (c .before .before .before .before .before .before .before .before .before .before .before .args .s .now) z 0) (c .before .before .before .before .before .before .before .before .before .before .before .args .v .now)) (c .before .before .before .before .before .before .before .loop .inv .0) (c .before .before .before .before .before .before .loop-test .taken) (c .before .before .before .before .before .rec-at .ensures) refl)
+add-g c = omega (arith, c .before .before .before .before .before .before .before .loop .inv .2, c .before .before .before .before .before .before .before .before .before .before .before .pre .3 .1, marks-room (λ z. any? (later false (c .before .before .before .before .before .before .before .before .before .before .before .args .s .now) z 0) (c .before .before .before .before .before .before .before .before .before .before .before .args .v .now)) (c .before .before .before .before .before .before .before .loop .inv .0) (c .before .before .before .before .before .before .loop-test .taken) (c .before .before .before .before .before .rec-at .ensures) refl)
 
 mark-ids-requires-2 : tie.Need-mark-ids-requires-2 Inv-loop μ-loop
-mark-ids-requires-2 c κs = let t = seen false (c .before .before .before .before .before .before .before .before .loop .inv .0) (c .before .before .before .before .before .before .before .loop-test .taken) (c .before .before .before .before .before .before .rec-at .ensures) in (t .is .0 .readsIn, t .is .0 .readsAll, c .before .before .before .before .before .before .before .before .before .before .before .before .pre .2, c .before .before .before .before .before .before .before .before .before .before .before .before .pre .3, (omega (arith, c .before .before .before .before .before .before .before .before .loop .inv .1, c .before .before .before .before .before .before .before .before .loop .inv .2, c .before .before .before .before .before .before .before .before .before .before .before .before .pre .4 .0, marks-room (λ z. any? (later false (c .before .before .before .before .before .before .before .before .before .before .before .before .args .s .now) z 0) (c .before .before .before .before .before .before .before .before .before .before .before .before .args .v .now)) (c .before .before .before .before .before .before .before .before .loop .inv .0) (c .before .before .before .before .before .before .before .loop-test .taken) (c .before .before .before .before .before .before .rec-at .ensures) refl), omega (arith, c .before .before .before .before .before .before .before .before .loop .inv .2, c .before .before .before .before .before .before .before .before .before .before .before .before .pre .4 .1, marks-room (λ z. any? (later false (c .before .before .before .before .before .before .before .before .before .before .before .before .args .s .now) z 0) (c .before .before .before .before .before .before .before .before .before .before .before .before .args .v .now)) (c .before .before .before .before .before .before .before .before .loop .inv .0) (c .before .before .before .before .before .before .before .loop-test .taken) (c .before .before .before .before .before .before .rec-at .ensures) refl)))
+mark-ids-requires-2 c κs = let t = seen false (c .before .before .before .before .before .before .before .before .loop .inv .0) (c .before .before .before .before .before .before .before .loop-test .taken) (c .before .before .before .before .before .before .rec-at .ensures) in (t .is .0 .readsIn, t .is .0 .readsAll, c .before .before .before .before .before .before .before .before .before .before .before .before .pre .1, c .before .before .before .before .before .before .before .before .before .before .before .before .pre .2, (omega (arith, c .before .before .before .before .before .before .before .before .loop .inv .1, c .before .before .before .before .before .before .before .before .loop .inv .2, c .before .before .before .before .before .before .before .before .before .before .before .before .pre .3 .0, marks-room (λ z. any? (later false (c .before .before .before .before .before .before .before .before .before .before .before .before .args .s .now) z 0) (c .before .before .before .before .before .before .before .before .before .before .before .before .args .v .now)) (c .before .before .before .before .before .before .before .before .loop .inv .0) (c .before .before .before .before .before .before .before .loop-test .taken) (c .before .before .before .before .before .before .rec-at .ensures) refl), omega (arith, c .before .before .before .before .before .before .before .before .loop .inv .2, c .before .before .before .before .before .before .before .before .before .before .before .before .pre .3 .1, marks-room (λ z. any? (later false (c .before .before .before .before .before .before .before .before .before .before .before .before .args .s .now) z 0) (c .before .before .before .before .before .before .before .before .before .before .before .before .args .v .now)) (c .before .before .before .before .before .before .before .before .loop .inv .0) (c .before .before .before .before .before .before .before .loop-test .taken) (c .before .before .before .before .before .before .rec-at .ensures) refl)))
 
 add-g-2 : tie.Need-add-g-2 Inv-loop μ-loop
-add-g-2 c = omega (arith, c .before .before .before .before .before .before .before .before .before .before .before .loop .inv .2, c .before .before .before .before .before .before .before .before .before .before .before .before .before .before .before .pre .4 .1, marks-room (λ z. any? (later false (c .before .before .before .before .before .before .before .before .before .before .before .before .before .before .before .args .s .now) z 0) (c .before .before .before .before .before .before .before .before .before .before .before .before .before .before .before .args .v .now)) (c .before .before .before .before .before .before .before .before .before .before .before .loop .inv .0) (c .before .before .before .before .before .before .before .before .before .before .loop-test .taken) (c .before .before .before .before .before .before .before .before .before .rec-at .ensures) refl)
+add-g-2 c = omega (arith, c .before .before .before .before .before .before .before .before .before .before .before .loop .inv .2, c .before .before .before .before .before .before .before .before .before .before .before .before .before .before .before .pre .3 .1, marks-room (λ z. any? (later false (c .before .before .before .before .before .before .before .before .before .before .before .before .before .before .before .args .s .now) z 0) (c .before .before .before .before .before .before .before .before .before .before .before .before .before .before .before .args .v .now)) (c .before .before .before .before .before .before .before .before .before .before .before .loop .inv .0) (c .before .before .before .before .before .before .before .before .before .before .loop-test .taken) (c .before .before .before .before .before .before .before .before .before .rec-at .ensures) refl)
 
 after-in-requires : tie.Need-after-in-requires Inv-loop μ-loop
 after-in-requires c κs = seen false (c .before .before .before .before .before .before .before .before .before .before .before .loop .inv .0) (c .before .before .before .before .before .before .before .before .before .before .loop-test .taken) (c .before .before .before .before .before .before .before .before .before .rec-at .ensures) .is .1 .within

@@ -22,28 +22,28 @@ use Rattle.queue.proofs.layout.forms.after_in.Reads as after-in-reads
 use Rattle.queue.proofs.layout.frame.rec_at.Reads as rec-at-reads
 
 abbrev Inv-loop : tie.InvT-loop
-Inv-loop s at n ids m flags₀ t₀ i₀ left₀ g₀ flags t i left g = Scan (formC false recC) (markR (λ z. among? z (idsAt ids m))) s n at (bitsIn flags₀, 0) i left (bitsIn flags, g) × Scan (formC false recC) (missR (λ z. among? z (idsAt ids m))) s n at t₀ i left t × (length flags ≡ length flags₀) × (length t ≡ length t₀) × (g + length (wantedOf (listAt (formC false recC) left s i)) ≡ length (wantedOf (listAt (formC false recC) n s at)))
+Inv-loop s ids m flags₀ t₀ i₀ left₀ g₀ flags t i left g = Scan (formC false recC) (markR (λ z. among? z (idsAt ids m))) s left₀ i₀ (bitsIn flags₀, 0) i left (bitsIn flags, g) × Scan (formC false recC) (missR (λ z. among? z (idsAt ids m))) s left₀ i₀ t₀ i left t × (length flags ≡ length flags₀) × (length t ≡ length t₀) × (g + length (wantedOf (listAt (formC false recC) left s i)) ≡ length (wantedOf (listAt (formC false recC) left₀ s i₀)))
 
 abbrev μ-loop : tie.MeasureT-loop
-μ-loop s at n ids m flags₀ t₀ i₀ left₀ g₀ flags t i left g = left
+μ-loop s ids m flags₀ t₀ i₀ left₀ g₀ flags t i left g = left
 
 loop-holds : tie.Need-loop-holds Inv-loop μ-loop
-loop-holds c = (start (formC false recC) _ _ _ _ _ (c .before .before .before .before .pre .0) (c .before .before .before .before .pre .1), start (formC false recC) _ _ _ _ _ (c .before .before .before .before .pre .0) (c .before .before .before .before .pre .1), refl, refl, omega arith)
+loop-holds c = (start (formC false recC) _ _ _ _ _ (c .before .before .before .before .pre .0 .0) (c .before .before .before .before .pre .0 .1), start (formC false recC) _ _ _ _ _ (c .before .before .before .before .pre .0 .0) (c .before .before .before .before .pre .0 .1), refl, refl, omega arith)
 
 rec-at-requires : tie.Need-rec-at-requires Inv-loop μ-loop
 rec-at-requires c κs = search needs
 
 note-ids-requires : tie.Need-note-ids-requires Inv-loop μ-loop
-note-ids-requires c κs = let t = seen false (c .before .before .before .before .before .loop .inv .0) (c .before .before .before .before .loop-test .taken) (c .before .before .before .rec-at .ensures) in (t .is .0 .insIn, t .is .0 .insAll, c .before .before .before .before .before .before .before .before .before .before .pre .2, (omega (arith, c .before .before .before .before .before .loop .inv .2, c .before .before .before .before .before .loop .inv .4, c .before .before .before .before .before .before .before .before .before .before .pre .3 .0, marks-room (λ z. among? z (idsAt (c .before .before .before .before .before .before .before .before .before .before .args .ids .now) (c .before .before .before .before .before .before .before .before .before .before .args .m))) (c .before .before .before .before .before .loop .inv .0) (c .before .before .before .before .loop-test .taken) (c .before .before .before .rec-at .ensures) refl), omega (arith, c .before .before .before .before .before .loop .inv .4, c .before .before .before .before .before .before .before .before .before .before .pre .3 .1, marks-room (λ z. among? z (idsAt (c .before .before .before .before .before .before .before .before .before .before .args .ids .now) (c .before .before .before .before .before .before .before .before .before .before .args .m))) (c .before .before .before .before .before .loop .inv .0) (c .before .before .before .before .loop-test .taken) (c .before .before .before .rec-at .ensures) refl)), omega (arith, c .before .before .before .before .before .loop .inv .3, c .before .before .before .before .before .before .before .before .before .before .pre .4))
+note-ids-requires c κs = let t = seen false (c .before .before .before .before .before .loop .inv .0) (c .before .before .before .before .loop-test .taken) (c .before .before .before .rec-at .ensures) in (t .is .0 .insIn, t .is .0 .insAll, c .before .before .before .before .before .before .before .before .before .before .pre .1, (omega (arith, c .before .before .before .before .before .loop .inv .2, c .before .before .before .before .before .loop .inv .4, c .before .before .before .before .before .before .before .before .before .before .pre .2 .0, marks-room (λ z. among? z (idsAt (c .before .before .before .before .before .before .before .before .before .before .args .ids .now) (c .before .before .before .before .before .before .before .before .before .before .args .m))) (c .before .before .before .before .before .loop .inv .0) (c .before .before .before .before .loop-test .taken) (c .before .before .before .rec-at .ensures) refl), omega (arith, c .before .before .before .before .before .loop .inv .4, c .before .before .before .before .before .before .before .before .before .before .pre .2 .1, marks-room (λ z. among? z (idsAt (c .before .before .before .before .before .before .before .before .before .before .args .ids .now) (c .before .before .before .before .before .before .before .before .before .before .args .m))) (c .before .before .before .before .before .loop .inv .0) (c .before .before .before .before .loop-test .taken) (c .before .before .before .rec-at .ensures) refl)), omega (arith, c .before .before .before .before .before .loop .inv .3, c .before .before .before .before .before .before .before .before .before .before .pre .3))
 
 add-g : tie.Need-add-g Inv-loop μ-loop
-add-g c = omega (arith, c .before .before .before .before .before .before .before .before .before .before .loop .inv .4, c .before .before .before .before .before .before .before .before .before .before .before .before .before .before .before .pre .3 .1, marks-room (λ z. among? z (idsAt (c .before .before .before .before .before .before .before .before .before .before .before .before .before .before .before .args .ids .now) (c .before .before .before .before .before .before .before .before .before .before .before .before .before .before .before .args .m))) (c .before .before .before .before .before .before .before .before .before .before .loop .inv .0) (c .before .before .before .before .before .before .before .before .before .loop-test .taken) (c .before .before .before .before .before .before .before .before .rec-at .ensures) refl)
+add-g c = omega (arith, c .before .before .before .before .before .before .before .before .before .before .loop .inv .4, c .before .before .before .before .before .before .before .before .before .before .before .before .before .before .before .pre .2 .1, marks-room (λ z. among? z (idsAt (c .before .before .before .before .before .before .before .before .before .before .before .before .before .before .before .args .ids .now) (c .before .before .before .before .before .before .before .before .before .before .before .before .before .before .before .args .m))) (c .before .before .before .before .before .before .before .before .before .before .loop .inv .0) (c .before .before .before .before .before .before .before .before .before .loop-test .taken) (c .before .before .before .before .before .before .before .before .rec-at .ensures) refl)
 
 note-ids-requires-2 : tie.Need-note-ids-requires-2 Inv-loop μ-loop
-note-ids-requires-2 c κs = let t = seen false (c .before .before .before .before .before .before .before .before .before .before .before .before .loop .inv .0) (c .before .before .before .before .before .before .before .before .before .before .before .loop-test .taken) (c .before .before .before .before .before .before .before .before .before .before .rec-at .ensures) in (t .is .0 .readsIn, t .is .0 .readsAll, c .before .before .before .before .before .before .before .before .before .before .before .before .before .before .before .before .before .pre .2, (omega (arith, c .before .before .before .before .before .before .before .before .before .before .before .before .loop .inv .2, c .before .before .before .before .before .before .before .before .before .before .before .before .loop .inv .4, c .before .before .before .before .before .before .before .before .before .before .before .before .before .before .before .before .before .pre .3 .0, marks-room (λ z. among? z (idsAt (c .before .before .before .before .before .before .before .before .before .before .before .before .before .before .before .before .before .args .ids .now) (c .before .before .before .before .before .before .before .before .before .before .before .before .before .before .before .before .before .args .m))) (c .before .before .before .before .before .before .before .before .before .before .before .before .loop .inv .0) (c .before .before .before .before .before .before .before .before .before .before .before .loop-test .taken) (c .before .before .before .before .before .before .before .before .before .before .rec-at .ensures) refl), omega (arith, c .before .before .before .before .before .before .before .before .before .before .before .before .loop .inv .4, c .before .before .before .before .before .before .before .before .before .before .before .before .before .before .before .before .before .pre .3 .1, marks-room (λ z. among? z (idsAt (c .before .before .before .before .before .before .before .before .before .before .before .before .before .before .before .before .before .args .ids .now) (c .before .before .before .before .before .before .before .before .before .before .before .before .before .before .before .before .before .args .m))) (c .before .before .before .before .before .before .before .before .before .before .before .before .loop .inv .0) (c .before .before .before .before .before .before .before .before .before .before .before .loop-test .taken) (c .before .before .before .before .before .before .before .before .before .before .rec-at .ensures) refl)), omega (arith, c .before .before .before .before .before .before .before .before .before .before .before .before .loop .inv .3, c .before .before .before .before .before .before .before .before .before .before .before .before .before .before .before .before .before .pre .4))
+note-ids-requires-2 c κs = let t = seen false (c .before .before .before .before .before .before .before .before .before .before .before .before .loop .inv .0) (c .before .before .before .before .before .before .before .before .before .before .before .loop-test .taken) (c .before .before .before .before .before .before .before .before .before .before .rec-at .ensures) in (t .is .0 .readsIn, t .is .0 .readsAll, c .before .before .before .before .before .before .before .before .before .before .before .before .before .before .before .before .before .pre .1, (omega (arith, c .before .before .before .before .before .before .before .before .before .before .before .before .loop .inv .2, c .before .before .before .before .before .before .before .before .before .before .before .before .loop .inv .4, c .before .before .before .before .before .before .before .before .before .before .before .before .before .before .before .before .before .pre .2 .0, marks-room (λ z. among? z (idsAt (c .before .before .before .before .before .before .before .before .before .before .before .before .before .before .before .before .before .args .ids .now) (c .before .before .before .before .before .before .before .before .before .before .before .before .before .before .before .before .before .args .m))) (c .before .before .before .before .before .before .before .before .before .before .before .before .loop .inv .0) (c .before .before .before .before .before .before .before .before .before .before .before .loop-test .taken) (c .before .before .before .before .before .before .before .before .before .before .rec-at .ensures) refl), omega (arith, c .before .before .before .before .before .before .before .before .before .before .before .before .loop .inv .4, c .before .before .before .before .before .before .before .before .before .before .before .before .before .before .before .before .before .pre .2 .1, marks-room (λ z. among? z (idsAt (c .before .before .before .before .before .before .before .before .before .before .before .before .before .before .before .before .before .args .ids .now) (c .before .before .before .before .before .before .before .before .before .before .before .before .before .before .before .before .before .args .m))) (c .before .before .before .before .before .before .before .before .before .before .before .before .loop .inv .0) (c .before .before .before .before .before .before .before .before .before .before .before .loop-test .taken) (c .before .before .before .before .before .before .before .before .before .before .rec-at .ensures) refl)), omega (arith, c .before .before .before .before .before .before .before .before .before .before .before .before .loop .inv .3, c .before .before .before .before .before .before .before .before .before .before .before .before .before .before .before .before .before .pre .3))
 
 add-g-2 : tie.Need-add-g-2 Inv-loop μ-loop
-add-g-2 c = omega (arith, c .before .before .before .before .before .before .before .before .before .before .before .before .before .before .before .before .before .loop .inv .4, c .before .before .before .before .before .before .before .before .before .before .before .before .before .before .before .before .before .before .before .before .before .before .pre .3 .1, marks-room (λ z. among? z (idsAt (c .before .before .before .before .before .before .before .before .before .before .before .before .before .before .before .before .before .before .before .before .before .before .args .ids .now) (c .before .before .before .before .before .before .before .before .before .before .before .before .before .before .before .before .before .before .before .before .before .before .args .m))) (c .before .before .before .before .before .before .before .before .before .before .before .before .before .before .before .before .before .loop .inv .0) (c .before .before .before .before .before .before .before .before .before .before .before .before .before .before .before .before .loop-test .taken) (c .before .before .before .before .before .before .before .before .before .before .before .before .before .before .before .rec-at .ensures) refl)
+add-g-2 c = omega (arith, c .before .before .before .before .before .before .before .before .before .before .before .before .before .before .before .before .before .loop .inv .4, c .before .before .before .before .before .before .before .before .before .before .before .before .before .before .before .before .before .before .before .before .before .before .pre .2 .1, marks-room (λ z. among? z (idsAt (c .before .before .before .before .before .before .before .before .before .before .before .before .before .before .before .before .before .before .before .before .before .before .args .ids .now) (c .before .before .before .before .before .before .before .before .before .before .before .before .before .before .before .before .before .before .before .before .before .before .args .m))) (c .before .before .before .before .before .before .before .before .before .before .before .before .before .before .before .before .before .loop .inv .0) (c .before .before .before .before .before .before .before .before .before .before .before .before .before .before .before .before .loop-test .taken) (c .before .before .before .before .before .before .before .before .before .before .before .before .before .before .before .rec-at .ensures) refl)
 
 after-in-requires : tie.Need-after-in-requires Inv-loop μ-loop
 after-in-requires c κs = seen false (c .before .before .before .before .before .before .before .before .before .before .before .before .before .before .before .before .before .loop .inv .0) (c .before .before .before .before .before .before .before .before .before .before .before .before .before .before .before .before .loop-test .taken) (c .before .before .before .before .before .before .before .before .before .before .before .before .before .before .before .rec-at .ensures) .is .1 .within

@@ -2,12 +2,12 @@
 use Prim.Native.Nat.{_+_, _/_}
 use Rattle.queue.proofs.change.OwnFlagLaws.{cleared-flags, noted-room, words-room}
 use Rattle.queue.proofs.change.OwnLaws.{noted}
-use Rattle.queue.specs.bytes.ReaderAs.{listAt}
 use Rattle.queue.specs.bytes.ReaderLaws.{false-true}
 use Rattle.queue.specs.change.OwnAs.{wantedOf}
 use Rattle.queue.specs.change.ReopenAs.{idsAt}
 use Rattle.queue.specs.layout.FormsCodec.{formC}
 use Rattle.queue.specs.layout.FrameCodec.{recC}
+use Rattle.queue.specs.layout.RecordsAs.{recsAt}
 use borrow.Author.Needs.{needs}
 use borrow.Author.Tests.{not-false}
 use lib.ListN.{length}
@@ -23,7 +23,7 @@ use Rattle.queue.proofs.change.own.note_all.Reads as note-all-reads
 use Rattle.queue.proofs.read.links.clear.Reads as clear-reads
 
 add-words : tie.Need-add-words
-add-words c = omega (arith, c .before .before .before .before .pre .4)
+add-words c = omega (arith, c .before .before .before .before .pre .3)
 
 both-requires : tie.Need-both-requires
 both-requires c κs = search needs
@@ -38,7 +38,7 @@ clear-requires : tie.Need-clear-requires
 clear-requires c κs = search needs
 
 note-all-requires : tie.Need-note-all-requires
-note-all-requires c κs = let u = noted-room (c .before .before .before .before .before .before .before .before .before .before .before .before .before .args .go) ((c .before .before .before .before .before .before .before .before .before .before .before .before .before .args .total + 63) / 64) (length (c .before .before .before .before .before .before .before .before .before .before .before .before .before .args .flags .now)) (length (c .before .before .before .before .before .before .before .before .before .before .before .before .before .args .t .now)) (c .before .before .before .before .before .before .before .both2 .ensures) (c .before .before .before .before .before .before .before .before .both .ensures) (not-false _ (c .before .before .before .before .before .before .if1 .left)) in let r = words-room refl (u .1) in let e = c .before .before .before .before .before .before .before .before .before .before .before .before .before .pre .3 (u .0) in (c .before .before .before .before .before .before .before .before .before .before .before .before .before .pre .0, c .before .before .before .before .before .before .before .before .before .before .before .before .before .pre .1, c .before .before .before .before .before .before .before .before .before .before .before .before .before .pre .2, (omega arith, omega (arith, c .before .before .before .before .before .before .before .before .before .before .before .before .before .pre .4)), u .2)
+note-all-requires c κs = let u = noted-room (c .before .before .before .before .before .before .before .before .before .before .before .before .before .args .go) ((c .before .before .before .before .before .before .before .before .before .before .before .before .before .args .total + 63) / 64) (length (c .before .before .before .before .before .before .before .before .before .before .before .before .before .args .flags .now)) (length (c .before .before .before .before .before .before .before .before .before .before .before .before .before .args .t .now)) (c .before .before .before .before .before .before .before .both2 .ensures) (c .before .before .before .before .before .before .before .before .both .ensures) (not-false _ (c .before .before .before .before .before .before .if1 .left)) in let r = words-room refl (u .1) in let e = c .before .before .before .before .before .before .before .before .before .before .before .before .before .pre .2 (u .0) in (c .before .before .before .before .before .before .before .before .before .before .before .before .before .pre .0, c .before .before .before .before .before .before .before .before .before .before .before .before .before .pre .1, (omega arith, omega (arith, c .before .before .before .before .before .before .before .before .before .before .before .before .before .pre .3)), u .2)
 
 same-length : tie.Need-same-length
 same-length c = search needs
@@ -47,7 +47,7 @@ same-length-2 : tie.Need-same-length-2
 same-length-2 c = search needs
 
 returns-2 : tie.Need-returns-2
-returns-2 c = let u = noted-room (c .before .before .before .before .before .before .before .before .before .before .before .before .before .before .before .before .before .before .args .go) ((c .before .before .before .before .before .before .before .before .before .before .before .before .before .before .before .before .before .before .args .total + 63) / 64) (length (c .before .before .before .before .before .before .before .before .before .before .before .before .before .before .before .before .before .before .args .flags .now)) (length (c .before .before .before .before .before .before .before .before .before .before .before .before .before .before .before .before .before .before .args .t .now)) (c .before .before .before .before .before .before .before .before .before .before .before .before .both2 .ensures) (c .before .before .before .before .before .before .before .before .before .before .before .before .before .both .ensures) (not-false _ (c .before .before .before .before .before .before .before .before .before .before .before .if1 .left)) in let r = words-room refl (u .1) in let e = c .before .before .before .before .before .before .before .before .before .before .before .before .before .before .before .before .before .before .pre .3 (u .0) in (λ _. u .0, λ _. noted (idsAt (c .before .before .before .before .before .before .before .before .before .before .before .before .before .before .before .before .before .before .args .ids .now) (c .before .before .before .before .before .before .before .before .before .before .before .before .before .before .before .before .before .before .args .m)) (wantedOf (listAt (formC false recC) (c .before .before .before .before .before .before .before .before .before .before .before .before .before .before .before .before .before .before .args .n) (c .before .before .before .before .before .before .before .before .before .before .before .before .before .before .before .before .before .before .args .s .now) (c .before .before .before .before .before .before .before .before .before .before .before .before .before .before .before .before .before .before .args .at))) _ _ (c .before .before .before .before .before .before .before .before .before .before .before .before .before .before .before .before .before .before .args .t .now) _ (omega arith, omega (arith, c .before .before .before .before .before .before .before .before .before .before .before .before .before .before .before .before .before .before .pre .4)) (u .2) (cleared-flags (wantedOf (listAt (formC false recC) (c .before .before .before .before .before .before .before .before .before .before .before .before .before .before .before .before .before .before .args .n) (c .before .before .before .before .before .before .before .before .before .before .before .before .before .before .before .before .before .before .args .s .now) (c .before .before .before .before .before .before .before .before .before .before .before .before .before .before .before .before .before .before .args .at))) _ (omega arith) (c .before .before .before .before .before .before .before .before .before .clear .ensures .yes refl)) (c .before .before .before .before .note-all .ensures .0) (c .before .before .before .before .note-all .ensures .1))
+returns-2 c = let u = noted-room (c .before .before .before .before .before .before .before .before .before .before .before .before .before .before .before .before .before .before .args .go) ((c .before .before .before .before .before .before .before .before .before .before .before .before .before .before .before .before .before .before .args .total + 63) / 64) (length (c .before .before .before .before .before .before .before .before .before .before .before .before .before .before .before .before .before .before .args .flags .now)) (length (c .before .before .before .before .before .before .before .before .before .before .before .before .before .before .before .before .before .before .args .t .now)) (c .before .before .before .before .before .before .before .before .before .before .before .before .both2 .ensures) (c .before .before .before .before .before .before .before .before .before .before .before .before .before .both .ensures) (not-false _ (c .before .before .before .before .before .before .before .before .before .before .before .if1 .left)) in let r = words-room refl (u .1) in let e = c .before .before .before .before .before .before .before .before .before .before .before .before .before .before .before .before .before .before .pre .2 (u .0) in (λ _. u .0, λ _. noted (idsAt (c .before .before .before .before .before .before .before .before .before .before .before .before .before .before .before .before .before .before .args .ids .now) (c .before .before .before .before .before .before .before .before .before .before .before .before .before .before .before .before .before .before .args .m)) (wantedOf (recsAt (formC false recC) (c .before .before .before .before .before .before .before .before .before .before .before .before .before .before .before .before .before .before .args .s .now) (c .before .before .before .before .before .before .before .before .before .before .before .before .before .before .before .before .before .before .args .recs))) _ _ (c .before .before .before .before .before .before .before .before .before .before .before .before .before .before .before .before .before .before .args .t .now) _ (omega arith, omega (arith, c .before .before .before .before .before .before .before .before .before .before .before .before .before .before .before .before .before .before .pre .3)) (u .2) (cleared-flags (wantedOf (recsAt (formC false recC) (c .before .before .before .before .before .before .before .before .before .before .before .before .before .before .before .before .before .before .args .s .now) (c .before .before .before .before .before .before .before .before .before .before .before .before .before .before .before .before .before .before .args .recs))) _ (omega arith) (c .before .before .before .before .before .before .before .before .before .clear .ensures .yes refl)) (c .before .before .before .before .note-all .ensures .0) (c .before .before .before .before .note-all .ensures .1))
 
 pub note-flags-spec : {M : Type 1} → statement M
 note-flags-spec =

@@ -17,7 +17,7 @@ slice-aggregate-judge : tie.Need-slice-aggregate-judge
 slice-aggregate-judge c = search needs
 
 judge-requires : tie.Need-judge-requires
-judge-requires c κs = let l = tally-asks (c .before .before .before .before .before .before .before .before .pre .0) in (l .0, l .1, c .before .before .before .before .before .before .before .before .pre .1 .entries, c .before .before .before .before .before .before .before .before .pre .1 .rise, few-records (c .before .before .before .before .before .before .before .before .pre .0), c .before .before .before .before .before .before .before .before .pre .0 .read .store .head .countSmall)
+judge-requires c κs = (tally-asks (c .before .before .before .before .before .before .before .before .pre .0) .0, c .before .before .before .before .before .before .before .before .pre .1 .entries, c .before .before .before .before .before .before .before .before .pre .1 .rise, few-records (c .before .before .before .before .before .before .before .before .pre .0), c .before .before .before .before .before .before .before .before .pre .0 .read .store .head .countSmall)
 
 array-share-prefix-vs : tie.Need-array-share-prefix-vs
 array-share-prefix-vs c = omega (arith, few-records (c .before .before .before .before .before .before .before .before .before .before .pre .0))

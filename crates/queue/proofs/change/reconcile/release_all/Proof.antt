@@ -13,7 +13,7 @@ use Rattle.queue.proofs.change.reconcile.release_rows.Reads as release-
 use Rattle.queue.proofs.change.release.gather_mined.Reads as gather-mined-reads
 
 gather-mined-requires : tie.Need-gather-mined-requires
-gather-mined-requires c κs = let l = tally-asks (c .before .before .before .before .before .before .before .before .before .before .before .before .before .before .pre .0) in (l .0, l .1, verdicts-fit (c .before .before .before .before .before .before .before .before .before .before .before .before .before .before .pre .0) (c .before .before .before .before .before .before .before .before .before .before .before .before .before .before .pre .2), even-self (c .before .before .before .before .before .before .before .before .before .before .before .before .before .before .pre .3), omega (arith, few-mined (c .before .before .before .before .before .before .before .before .before .before .before .before .before .before .pre .0) (c .before .before .before .before .before .before .before .before .before .before .before .before .before .before .pre .1) (c .before .before .before .before .before .before .before .before .before .before .before .before .before .before .pre .2), c .before .before .before .before .before .before .before .before .before .before .before .before .before .before .pre .3 .ranks))
+gather-mined-requires c κs = (tally-asks (c .before .before .before .before .before .before .before .before .before .before .before .before .before .before .pre .0) .0, verdicts-fit (c .before .before .before .before .before .before .before .before .before .before .before .before .before .before .pre .0) (c .before .before .before .before .before .before .before .before .before .before .before .before .before .before .pre .2), even-self (c .before .before .before .before .before .before .before .before .before .before .before .before .before .before .pre .3), omega (arith, few-mined (c .before .before .before .before .before .before .before .before .before .before .before .before .before .before .pre .0) (c .before .before .before .before .before .before .before .before .before .before .before .before .before .before .pre .1) (c .before .before .before .before .before .before .before .before .before .before .before .before .before .before .pre .2), c .before .before .before .before .before .before .before .before .before .before .before .before .before .before .pre .3 .ranks))
 
 slice-relend-prefix-release-rows : tie.Need-slice-relend-prefix-release-rows
 slice-relend-prefix-release-rows c = let g = (gathered-to (c .before .before .before .before .before .before .before .before .before .before .before .before .before .before .before .before .before .before .before .before .before .pre .3 .ranks) (c .before .before .before .before .before .before .gather-mined .ensures)) in omega (arith, mined-few (c .before .before .before .before .before .before .before .before .before .before .before .before .before .before .before .before .before .before .before .before .before .pre .0) (c .before .before .before .before .before .before .before .before .before .before .before .before .before .before .before .before .before .before .before .before .before .pre .1) (c .before .before .before .before .before .before .before .before .before .before .before .before .before .before .before .before .before .before .before .before .before .pre .2) g, g .even .ranks)

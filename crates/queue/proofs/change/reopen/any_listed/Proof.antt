@@ -15,19 +15,19 @@ use Rattle.queue.proofs.change.reopen.listed.Reads as listed-reads
 use Rattle.queue.proofs.layout.frame.rec_at.Reads as rec-at-reads
 
 abbrev Inv-loop : tie.InvT-loop
-Inv-loop s at n ids k i₀ left₀ i left = Scan (formC false recC) (anyF (idsAt ids k)) s n at tt i left tt
+Inv-loop s ids k i₀ left₀ i left = Scan (formC false recC) (anyF (idsAt ids k)) s left₀ i₀ tt i left tt
 
 abbrev μ-loop : tie.MeasureT-loop
-μ-loop s at n ids k i₀ left₀ i left = left
+μ-loop s ids k i₀ left₀ i left = left
 
 loop-holds : tie.Need-loop-holds Inv-loop μ-loop
-loop-holds c = start (formC false recC) _ _ _ _ _ (c .before .before .pre .0) (c .before .before .pre .1)
+loop-holds c = start (formC false recC) _ _ _ _ _ (c .before .before .pre .0 .0) (c .before .before .pre .0 .1)
 
 rec-at-requires : tie.Need-rec-at-requires Inv-loop μ-loop
 rec-at-requires c κs = search needs
 
 listed-requires : tie.Need-listed-requires Inv-loop μ-loop
-listed-requires c κs = c .before .before .before .before .before .pre .2
+listed-requires c κs = c .before .before .before .before .before .pre .1
 
 returns : tie.Need-returns Inv-loop μ-loop
 returns c = any-stop _ (c .before .before .before .before .loop .inv) (c .before .before .before .loop-test .taken) (c .before .before .rec-at .ensures) (c .before .listed .ensures) (c .if1 .taken)

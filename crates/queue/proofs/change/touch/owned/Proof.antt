@@ -9,13 +9,13 @@ use Rattle.queue.proofs.change.lent.find_lent.Reads as find-lent-reads
 use Rattle.queue.proofs.change.touch.is_output.Reads as is-output-reads
 
 find-lent-requires : tie.Need-find-lent-requires
-find-lent-requires c κs = c .before .before .pre .2
+find-lent-requires c κs = c .before .before .pre .1
 
 returns : tie.Need-returns
 returns c = own-yes (c .before .before .before .before .args .id) _ _ (c .before .find-lent .ensures) (c .if1 .taken)
 
 is-output-requires : tie.Need-is-output-requires
-is-output-requires c κs = (c .before .before .before .before .pre .0, c .before .before .before .before .pre .1)
+is-output-requires c κs = c .before .before .before .before .pre .0
 
 returns-2 : tie.Need-returns-2
 returns-2 c = own-no (c .before .before .before .before .before .args .id) _ _ (c .before .before .find-lent .ensures) (c .before .if1 .left) (c .is-output .ensures)

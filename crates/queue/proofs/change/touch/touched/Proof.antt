@@ -18,16 +18,16 @@ use Rattle.queue.proofs.change.touch.pending_verdict.Reads as pending-v
 use Rattle.queue.proofs.check.rules.pending.Reads as pending-reads
 
 find-entry-requires : tie.Need-find-entry-requires
-find-entry-requires c κs = c .before .before .before .before .before .before .pre .3
+find-entry-requires c κs = c .before .before .before .before .before .before .pre .2
 
 mul-confirmed : tie.Need-mul-confirmed
 mul-confirmed c = omega (arith, c .before .before .find-entry .ensures .good (c .before .if1 .taken) .0, c .before .before .before .before .before .before .before .before .before .good .1)
 
 confirmed-requires : tie.Need-confirmed-requires
-confirmed-requires c κs = (c .before .before .before .before .before .before .before .before .before .pre .2, c .before .before .find-entry .ensures .good (c .before .if1 .taken) .0)
+confirmed-requires c κs = (c .before .before .before .before .before .before .before .before .before .pre .1, c .before .before .find-entry .ensures .good (c .before .if1 .taken) .0)
 
 returns : tie.Need-returns
-returns c = verdict-same (c .before .before .before .before .before .before .before .before .before .before .before .args .s .now) (c .before .before .before .before .before .before .before .before .before .before .before .args .at) (c .before .before .before .before .before .before .before .before .before .before .before .args .n) (c .before .before .before .before .before .before .before .before .before .before .before .args .base) (c .before .before .before .before .before .before .before .before .before .before .before .args .x) (c .before .before .before .before .before .before .before .before .before .before .before .args .t .now) (c .before .before .before .before .before .before .before .before .before .before .before .args .b .entries) (c .before .before .before .before .before .before .before .before .before .before .before .args .b .caught) (idsAt (c .before .before .before .before .before .before .before .before .before .before .before .args .ids .now) (c .before .before .before .before .before .before .before .before .before .before .before .args .b .available)) (c .before .before .before .before .find-entry .ensures) (c .before .before .before .if1 .taken) (c .before .confirmed .ensures) (c .if2 .taken)
+returns c = verdict-same (c .before .before .before .before .before .before .before .before .before .before .before .args .s .now) (c .before .before .before .before .before .before .before .before .before .before .before .args .recs) (c .before .before .before .before .before .before .before .before .before .before .before .args .base) (c .before .before .before .before .before .before .before .before .before .before .before .args .x) (c .before .before .before .before .before .before .before .before .before .before .before .args .t .now) (c .before .before .before .before .before .before .before .before .before .before .before .args .b .entries) (c .before .before .before .before .before .before .before .before .before .before .before .args .b .caught) (idsAt (c .before .before .before .before .before .before .before .before .before .before .before .args .ids .now) (c .before .before .before .before .before .before .before .before .before .before .before .args .b .available)) (c .before .before .before .before .find-entry .ensures) (c .before .before .before .if1 .taken) (c .before .confirmed .ensures) (c .if2 .taken)
 
 mul-result : tie.Need-mul-result
 mul-result c = omega (arith, c .before .before .before .before .find-entry .ensures .good (c .before .before .before .if1 .taken) .0, c .before .before .before .before .before .before .before .before .before .before .before .good .1)
@@ -36,7 +36,7 @@ add-result : tie.Need-add-result
 add-result c = omega (arith, c .before .before .before .before .find-entry .ensures .good (c .before .before .before .if1 .taken) .0, c .before .before .before .before .before .before .before .before .before .before .before .good .1)
 
 returns-2 : tie.Need-returns-2
-returns-2 c = verdict-confirm (c .before .before .before .before .before .before .before .before .before .before .before .args .s .now) (c .before .before .before .before .before .before .before .before .before .before .before .args .at) (c .before .before .before .before .before .before .before .before .before .before .before .args .n) (c .before .before .before .before .before .before .before .before .before .before .before .args .base) (c .before .before .before .before .before .before .before .before .before .before .before .args .x) (c .before .before .before .before .before .before .before .before .before .before .before .args .t .now) (c .before .before .before .before .before .before .before .before .before .before .before .args .b .entries) (c .before .before .before .before .before .before .before .before .before .before .before .args .b .caught) (idsAt (c .before .before .before .before .before .before .before .before .before .before .before .args .ids .now) (c .before .before .before .before .before .before .before .before .before .before .before .args .b .available)) (c .before .before .before .before .find-entry .ensures) (c .before .before .before .if1 .taken) (c .before .confirmed .ensures) (c .if2 .left)
+returns-2 c = verdict-confirm (c .before .before .before .before .before .before .before .before .before .before .before .args .s .now) (c .before .before .before .before .before .before .before .before .before .before .before .args .recs) (c .before .before .before .before .before .before .before .before .before .before .before .args .base) (c .before .before .before .before .before .before .before .before .before .before .before .args .x) (c .before .before .before .before .before .before .before .before .before .before .before .args .t .now) (c .before .before .before .before .before .before .before .before .before .before .before .args .b .entries) (c .before .before .before .before .before .before .before .before .before .before .before .args .b .caught) (idsAt (c .before .before .before .before .before .before .before .before .before .before .before .args .ids .now) (c .before .before .before .before .before .before .before .before .before .before .before .args .b .available)) (c .before .before .before .before .find-entry .ensures) (c .before .before .before .if1 .taken) (c .before .confirmed .ensures) (c .if2 .left)
 
 pending-requires : tie.Need-pending-requires
 pending-requires c κs = search needs
@@ -45,16 +45,16 @@ both-requires : tie.Need-both-requires
 both-requires c κs = search needs
 
 returns-3 : tie.Need-returns-3
-returns-3 c = verdict-none (c .before .before .before .before .before .before .before .before .before .before .before .args .s .now) (c .before .before .before .before .before .before .before .before .before .before .before .args .at) (c .before .before .before .before .before .before .before .before .before .before .before .args .n) (c .before .before .before .before .before .before .before .before .before .before .before .args .base) (c .before .before .before .before .before .before .before .before .before .before .before .args .x) (c .before .before .before .before .before .before .before .before .before .before .before .args .t .now) (c .before .before .before .before .before .before .before .before .before .before .before .args .b .entries) (c .before .before .before .before .before .before .before .before .before .before .before .args .b .caught) (idsAt (c .before .before .before .before .before .before .before .before .before .before .before .args .ids .now) (c .before .before .before .before .before .before .before .before .before .before .before .args .b .available)) (c .before .before .before .before .find-entry .ensures) (c .before .before .before .if1 .left) (c .before .both .ensures ∙ ap (λ v. c .before .before .before .before .before .before .before .before .before .before .before .args .b .caught && v) (c .before .before .pending .ensures)) (not-true _ (c .if3 .taken))
+returns-3 c = verdict-none (c .before .before .before .before .before .before .before .before .before .before .before .args .s .now) (c .before .before .before .before .before .before .before .before .before .before .before .args .recs) (c .before .before .before .before .before .before .before .before .before .before .before .args .base) (c .before .before .before .before .before .before .before .before .before .before .before .args .x) (c .before .before .before .before .before .before .before .before .before .before .before .args .t .now) (c .before .before .before .before .before .before .before .before .before .before .before .args .b .entries) (c .before .before .before .before .before .before .before .before .before .before .before .args .b .caught) (idsAt (c .before .before .before .before .before .before .before .before .before .before .before .args .ids .now) (c .before .before .before .before .before .before .before .before .before .before .before .args .b .available)) (c .before .before .before .before .find-entry .ensures) (c .before .before .before .if1 .left) (c .before .both .ensures ∙ ap (λ v. c .before .before .before .before .before .before .before .before .before .before .before .args .b .caught && v) (c .before .before .pending .ensures)) (not-true _ (c .if3 .taken))
 
 all-owned-requires : tie.Need-all-owned-requires
-all-owned-requires c κs = (c .before .before .before .before .before .before .before .before .before .before .before .pre .0, c .before .before .before .before .before .before .before .before .before .before .before .pre .1, c .before .before .before .before .before .before .before .before .before .before .before .pre .4, c .before .before .before .before .before .before .before .before .before .before .before .pre .2, c .before .before .before .before .before .before .before .before .before .before .before .pre .5)
+all-owned-requires c κs = (c .before .before .before .before .before .before .before .before .before .before .before .pre .0, c .before .before .before .before .before .before .before .before .before .before .before .pre .3, c .before .before .before .before .before .before .before .before .before .before .before .pre .1, c .before .before .before .before .before .before .before .before .before .before .before .pre .4)
 
 pending-verdict-requires : tie.Need-pending-verdict-requires
 pending-verdict-requires c κs = search needs
 
 returns-4 : tie.Need-returns-4
-returns-4 c = verdict-judge (c .before .before .before .before .before .before .before .before .before .before .before .before .before .args .s .now) (c .before .before .before .before .before .before .before .before .before .before .before .before .before .args .at) (c .before .before .before .before .before .before .before .before .before .before .before .before .before .args .n) (c .before .before .before .before .before .before .before .before .before .before .before .before .before .args .base) (c .before .before .before .before .before .before .before .before .before .before .before .before .before .args .x) (c .before .before .before .before .before .before .before .before .before .before .before .before .before .args .t .now) (c .before .before .before .before .before .before .before .before .before .before .before .before .before .args .b .entries) (c .before .before .before .before .before .before .before .before .before .before .before .before .before .args .b .caught) (idsAt (c .before .before .before .before .before .before .before .before .before .before .before .before .before .args .ids .now) (c .before .before .before .before .before .before .before .before .before .before .before .before .before .args .b .available)) (c .before .before .before .before .before .before .find-entry .ensures) (c .before .before .before .before .before .if1 .left) (c .before .before .before .both .ensures ∙ ap (λ v. c .before .before .before .before .before .before .before .before .before .before .before .before .before .args .b .caught && v) (c .before .before .before .before .pending .ensures)) (not-false _ (c .before .before .if3 .left)) (c .before .all-owned .ensures) (c .pending-verdict .ensures)
+returns-4 c = verdict-judge (c .before .before .before .before .before .before .before .before .before .before .before .before .before .args .s .now) (c .before .before .before .before .before .before .before .before .before .before .before .before .before .args .recs) (c .before .before .before .before .before .before .before .before .before .before .before .before .before .args .base) (c .before .before .before .before .before .before .before .before .before .before .before .before .before .args .x) (c .before .before .before .before .before .before .before .before .before .before .before .before .before .args .t .now) (c .before .before .before .before .before .before .before .before .before .before .before .before .before .args .b .entries) (c .before .before .before .before .before .before .before .before .before .before .before .before .before .args .b .caught) (idsAt (c .before .before .before .before .before .before .before .before .before .before .before .before .before .args .ids .now) (c .before .before .before .before .before .before .before .before .before .before .before .before .before .args .b .available)) (c .before .before .before .before .before .before .find-entry .ensures) (c .before .before .before .before .before .if1 .left) (c .before .before .before .both .ensures ∙ ap (λ v. c .before .before .before .before .before .before .before .before .before .before .before .before .before .args .b .caught && v) (c .before .before .before .before .pending .ensures)) (not-false _ (c .before .before .if3 .left)) (c .before .all-owned .ensures) (c .pending-verdict .ensures)
 
 pub touched-spec : {M : Type 1} → statement M
 touched-spec =

@@ -16,13 +16,13 @@ use Rattle.queue.proofs.change.verdicts.judge_few.Reads as judge-few-re
 use Rattle.queue.proofs.change.verdicts.judge_many.Reads as judge-many-reads
 
 count-wanted-requires : tie.Need-count-wanted-requires
-count-wanted-requires c κs = (c .before .before .before .before .pre .0, c .before .before .before .before .pre .1, c .before .before .before .before .pre .5)
+count-wanted-requires c κs = (c .before .before .before .before .pre .0, c .before .before .before .before .pre .4)
 
 both-requires : tie.Need-both-requires
 both-requires c κs = search needs
 
 judge-few-requires : tie.Need-judge-few-requires
-judge-few-requires c κs = (c .before .before .before .before .before .before .before .before .pre .0, c .before .before .before .before .before .before .before .before .pre .1, c .before .before .before .before .before .before .before .before .pre .2, c .before .before .before .before .before .before .before .before .pre .3, c .before .before .before .before .before .before .before .before .pre .4, c .before .before .before .before .before .before .before .before .pre .5, λ e. false-true e, λ e. false-true e, omega arith)
+judge-few-requires c κs = (c .before .before .before .before .before .before .before .before .pre .0, c .before .before .before .before .before .before .before .before .pre .1, c .before .before .before .before .before .before .before .before .pre .2, c .before .before .before .before .before .before .before .before .pre .3, c .before .before .before .before .before .before .before .before .pre .4, λ e. false-true e, λ e. false-true e, omega arith)
 
 same-length : tie.Need-same-length
 same-length c = search needs
@@ -31,7 +31,7 @@ returns : tie.Need-returns
 returns c = c .before .before .judge-few .ensures
 
 judge-few-requires-2 : tie.Need-judge-few-requires-2
-judge-few-requires-2 c κs = (c .before .before .before .before .before .before .before .before .before .pre .0, c .before .before .before .before .before .before .before .before .before .pre .1, c .before .before .before .before .before .before .before .before .before .pre .2, c .before .before .before .before .before .before .before .before .before .pre .3, c .before .before .before .before .before .before .before .before .before .pre .4, c .before .before .before .before .before .before .before .before .before .pre .5, λ _. ltb-true (length (c .before .before .before .before .before .before .before .before .before .args .s .now)) 4294967296 (and-true (c .before .before .before .before .before .before .before .before .before .args .b .caught) _ (sym (c .before .before .before .both .ensures) ∙ not-false _ (c .before .before .if1 .left)) .1), λ _. c .before .before .before .before .count-wanted .ensures .0, omega (arith, c .before .if2 .taken))
+judge-few-requires-2 c κs = (c .before .before .before .before .before .before .before .before .before .pre .0, c .before .before .before .before .before .before .before .before .before .pre .1, c .before .before .before .before .before .before .before .before .before .pre .2, c .before .before .before .before .before .before .before .before .before .pre .3, c .before .before .before .before .before .before .before .before .before .pre .4, λ _. ltb-true (length (c .before .before .before .before .before .before .before .before .before .args .s .now)) 4294967296 (and-true (c .before .before .before .before .before .before .before .before .before .args .b .caught) _ (sym (c .before .before .before .both .ensures) ∙ not-false _ (c .before .before .if1 .left)) .1), λ _. c .before .before .before .before .count-wanted .ensures .0, omega (arith, c .before .if2 .taken))
 
 same-length-2 : tie.Need-same-length-2
 same-length-2 c = search needs
@@ -40,7 +40,7 @@ returns-2 : tie.Need-returns-2
 returns-2 c = c .before .before .judge-few2 .ensures
 
 judge-many-requires : tie.Need-judge-many-requires
-judge-many-requires c κs = (c .before .before .before .before .before .before .before .before .before .before .pre .0, c .before .before .before .before .before .before .before .before .before .before .pre .1, c .before .before .before .before .before .before .before .before .before .before .pre .2, c .before .before .before .before .before .before .before .before .before .before .pre .3, c .before .before .before .before .before .before .before .before .before .before .pre .4, c .before .before .before .before .before .before .before .before .before .before .pre .5, λ _. ltb-true (length (c .before .before .before .before .before .before .before .before .before .before .args .s .now)) 4294967296 (and-true (c .before .before .before .before .before .before .before .before .before .before .args .b .caught) _ (sym (c .before .before .before .before .both .ensures) ∙ not-false _ (c .before .before .before .if1 .left)) .1), λ _. c .before .before .before .before .before .count-wanted .ensures .0, c .before .if3 .taken)
+judge-many-requires c κs = (c .before .before .before .before .before .before .before .before .before .before .pre .0, c .before .before .before .before .before .before .before .before .before .before .pre .1, c .before .before .before .before .before .before .before .before .before .before .pre .2, c .before .before .before .before .before .before .before .before .before .before .pre .3, c .before .before .before .before .before .before .before .before .before .before .pre .4, λ _. ltb-true (length (c .before .before .before .before .before .before .before .before .before .before .args .s .now)) 4294967296 (and-true (c .before .before .before .before .before .before .before .before .before .before .args .b .caught) _ (sym (c .before .before .before .before .both .ensures) ∙ not-false _ (c .before .before .before .if1 .left)) .1), λ _. c .before .before .before .before .before .count-wanted .ensures .0, c .before .if3 .taken)
 
 same-length-3 : tie.Need-same-length-3
 same-length-3 c = search needs
@@ -49,7 +49,7 @@ returns-3 : tie.Need-returns-3
 returns-3 c = c .before .before .judge-many .ensures
 
 judge-many-requires-2 : tie.Need-judge-many-requires-2
-judge-many-requires-2 c κs = (c .before .before .before .before .before .before .before .before .before .before .pre .0, c .before .before .before .before .before .before .before .before .before .before .pre .1, c .before .before .before .before .before .before .before .before .before .before .pre .2, c .before .before .before .before .before .before .before .before .before .before .pre .3, c .before .before .before .before .before .before .before .before .before .before .pre .4, c .before .before .before .before .before .before .before .before .before .before .pre .5, λ e. false-true e, λ e. false-true e, omega arith)
+judge-many-requires-2 c κs = (c .before .before .before .before .before .before .before .before .before .before .pre .0, c .before .before .before .before .before .before .before .before .before .before .pre .1, c .before .before .before .before .before .before .before .before .before .before .pre .2, c .before .before .before .before .before .before .before .before .before .before .pre .3, c .before .before .before .before .before .before .before .before .before .before .pre .4, λ e. false-true e, λ e. false-true e, omega arith)
 
 same-length-4 : tie.Need-same-length-4
 same-length-4 c = search needs

@@ -17,13 +17,13 @@ slice-aggregate-note-flags-2 : tie.Need-slice-aggregate-note-flags-2
 slice-aggregate-note-flags-2 c = search needs
 
 note-flags-requires : tie.Need-note-flags-requires
-note-flags-requires c κs = (c .before .before .before .before .before .before .pre .0, c .before .before .before .before .before .before .pre .1, c .before .before .before .before .before .before .pre .3, c .before .before .before .before .before .before .pre .7, c .before .before .before .before .before .before .pre .8)
+note-flags-requires c κs = (c .before .before .before .before .before .before .pre .0, c .before .before .before .before .before .before .pre .2, c .before .before .before .before .before .before .pre .6, c .before .before .before .before .before .before .pre .7)
 
 slice-aggregate-judge-all : tie.Need-slice-aggregate-judge-all
 slice-aggregate-judge-all c = search needs
 
 judge-all-requires : tie.Need-judge-all-requires
-judge-all-requires c κs = (c .before .before .before .before .before .before .before .before .before .before .before .before .pre .0, c .before .before .before .before .before .before .before .before .before .before .before .before .pre .1, c .before .before .before .before .before .before .before .before .before .before .before .before .pre .2, c .before .before .before .before .before .before .before .before .before .before .before .before .pre .3, c .before .before .before .before .before .before .before .before .before .before .before .before .pre .4, c .before .before .before .before .before .before .before .before .before .before .before .before .pre .5, λ e. false-true e)
+judge-all-requires c κs = (c .before .before .before .before .before .before .before .before .before .before .before .before .pre .0, c .before .before .before .before .before .before .before .before .before .before .before .before .pre .1, c .before .before .before .before .before .before .before .before .before .before .before .before .pre .2, c .before .before .before .before .before .before .before .before .before .before .before .before .pre .3, c .before .before .before .before .before .before .before .before .before .before .before .before .pre .4, λ e. false-true e)
 
 same-length : tie.Need-same-length
 same-length c = search needs
@@ -41,13 +41,13 @@ slice-aggregate-own-flags-3 : tie.Need-slice-aggregate-own-flags-3
 slice-aggregate-own-flags-3 c = search needs
 
 own-flags-requires : tie.Need-own-flags-requires
-own-flags-requires c κs = let k = not-false _ (c .before .before .before .if1 .left) in (c .before .before .before .before .before .before .before .before .before .before .before .before .before .pre .0, c .before .before .before .before .before .before .before .before .before .before .before .before .before .pre .1, c .before .before .before .before .before .before .before .before .before .before .before .before .before .pre .6 (c .before .before .before .before .before .before .note-flags .ensures .0 k), c .before .before .before .before .before .before .note-flags .ensures .1 k .room, c .before .before .before .before .before .before .before .before .before .before .before .before .before .pre .7 (c .before .before .before .before .before .before .note-flags .ensures .0 k), c .before .before .before .before .before .before .note-flags .ensures .1 k .some)
+own-flags-requires c κs = let k = not-false _ (c .before .before .before .if1 .left) in (c .before .before .before .before .before .before .before .before .before .before .before .before .before .pre .0, c .before .before .before .before .before .before .before .before .before .before .before .before .before .pre .5 (c .before .before .before .before .before .before .note-flags .ensures .0 k), c .before .before .before .before .before .before .note-flags .ensures .1 k .room, c .before .before .before .before .before .before .before .before .before .before .before .before .before .pre .6 (c .before .before .before .before .before .before .note-flags .ensures .0 k), c .before .before .before .before .before .before .note-flags .ensures .1 k .some)
 
 slice-aggregate-judge-all-2 : tie.Need-slice-aggregate-judge-all-2
 slice-aggregate-judge-all-2 c = search needs
 
 judge-all-requires-2 : tie.Need-judge-all-requires-2
-judge-all-requires-2 c κs = (c .before .before .before .before .before .before .before .before .before .before .before .before .before .before .before .before .before .before .pre .0, c .before .before .before .before .before .before .before .before .before .before .before .before .before .before .before .before .before .before .pre .1, c .before .before .before .before .before .before .before .before .before .before .before .before .before .before .before .before .before .before .pre .2, c .before .before .before .before .before .before .before .before .before .before .before .before .before .before .before .before .before .before .pre .3, c .before .before .before .before .before .before .before .before .before .before .before .before .before .before .before .before .before .before .pre .4, c .before .before .before .before .before .before .before .before .before .before .before .before .before .before .before .before .before .before .pre .5, λ e. c .before .before .before .before .own-flags .ensures e _ (c .before .before .before .before .before .before .before .before .before .before .before .note-flags .ensures .1 (not-false _ (c .before .before .before .before .before .before .before .before .if1 .left))))
+judge-all-requires-2 c κs = (c .before .before .before .before .before .before .before .before .before .before .before .before .before .before .before .before .before .before .pre .0, c .before .before .before .before .before .before .before .before .before .before .before .before .before .before .before .before .before .before .pre .1, c .before .before .before .before .before .before .before .before .before .before .before .before .before .before .before .before .before .before .pre .2, c .before .before .before .before .before .before .before .before .before .before .before .before .before .before .before .before .before .before .pre .3, c .before .before .before .before .before .before .before .before .before .before .before .before .before .before .before .before .before .before .pre .4, λ e. c .before .before .before .before .own-flags .ensures e _ (c .before .before .before .before .before .before .before .before .before .before .before .note-flags .ensures .1 (not-false _ (c .before .before .before .before .before .before .before .before .if1 .left))))
 
 same-length-2 : tie.Need-same-length-2
 same-length-2 c = search needs

@@ -12,13 +12,13 @@ use Rattle.queue.proofs.check.numbers.differ.Reads as differ-reads
 use Rattle.queue.proofs.check.numbers.gather.Reads as gather-reads
 
 returns : tie.Need-returns
-returns c = distinct-none _ (c .before .before .pre .2) (c .if1 .taken)
+returns c = distinct-none _ (c .before .before .pre .1) (c .if1 .taken)
 
 slice-aggregate-gather : tie.Need-slice-aggregate-gather
 slice-aggregate-gather c = search needs
 
 gather-requires : tie.Need-gather-requires
-gather-requires c κs = (c .before .before .before .pre .0, c .before .before .before .pre .1, omega (arith, c .before .before .before .pre .2, c .before .before .before .pre .3))
+gather-requires c κs = (c .before .before .before .pre .0, omega (arith, c .before .before .before .pre .1, c .before .before .before .pre .2))
 
 array-borrow-prefix-v : tie.Need-array-borrow-prefix-v
 array-borrow-prefix-v c = search needs

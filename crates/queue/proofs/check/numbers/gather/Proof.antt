@@ -17,19 +17,19 @@ use Rattle.queue.proofs.layout.forms.after_in.Reads as after-in-reads
 use Rattle.queue.proofs.layout.frame.rec_in.Reads as rec-in-reads
 
 abbrev Inv-loop : tie.InvT-loop
-Inv-loop s form at n v₀ i₀ left₀ k₀ v i left k = Scan (recIn form) numbersFrom s n at [] i left (take k v) × (k ≤ length v) × (length v ≡ length v₀)
+Inv-loop s form v₀ i₀ left₀ k₀ v i left k = Scan (recIn form) numbersFrom s left₀ i₀ [] i left (take k v) × (k ≤ length v) × (length v ≡ length v₀)
 
 abbrev μ-loop : tie.MeasureT-loop
-μ-loop s form at n v₀ i₀ left₀ k₀ v i left k = left
+μ-loop s form v₀ i₀ left₀ k₀ v i left k = left
 
 loop-holds : tie.Need-loop-holds Inv-loop μ-loop
-loop-holds c = (start (recIn (c .before .before .args .form)) _ _ _ _ _ (c .before .before .pre .0) (c .before .before .pre .1), omega arith, refl)
+loop-holds c = (start (recIn (c .before .before .args .form)) _ _ _ _ _ (c .before .before .pre .0 .0) (c .before .before .pre .0 .1), omega arith, refl)
 
 rec-in-requires : tie.Need-rec-in-requires Inv-loop μ-loop
 rec-in-requires c κs = search needs
 
 add-number-requires : tie.Need-add-number-requires Inv-loop μ-loop
-add-number-requires c κs = (c .before .before .before .before .loop .inv .1, λ e. filled-long (c .before .before .before .before .loop .v) (c .before .before .before .before .loop .inv .1) (gather-room (c .before .before .before .before .before .before .before .args .form) (c .before .before .before .before .loop .inv .0) (c .before .before .before .loop-test .taken) (c .before .before .rec-in .ensures) (omega (arith, c .before .before .before .before .before .before .before .pre .2, c .before .before .before .before .loop .inv .2)) e))
+add-number-requires c κs = (c .before .before .before .before .loop .inv .1, λ e. filled-long (c .before .before .before .before .loop .v) (c .before .before .before .before .loop .inv .1) (gather-room (c .before .before .before .before .before .before .before .args .form) (c .before .before .before .before .loop .inv .0) (c .before .before .before .loop-test .taken) (c .before .before .rec-in .ensures) (omega (arith, c .before .before .before .before .before .before .before .pre .1, c .before .before .before .before .loop .inv .2)) e))
 
 after-in-requires : tie.Need-after-in-requires Inv-loop μ-loop
 after-in-requires c κs = seen-in (c .before .before .before .before .before .before .before .before .before .before .args .form) (c .before .before .before .before .before .before .before .loop .inv .0) (c .before .before .before .before .before .before .loop-test .taken) (c .before .before .before .before .before .rec-in .ensures) .is .1 .within

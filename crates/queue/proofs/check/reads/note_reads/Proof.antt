@@ -6,6 +6,7 @@ use Rattle.queue.specs.bytes.ReaderAs.{listAt}
 use Rattle.queue.specs.bytes.ViewAs.{view}
 use Rattle.queue.specs.layout.FormsCodec.{recIn}
 use Rattle.queue.specs.layout.FrameCodec.{idC}
+use Rattle.queue.specs.layout.RecordsAs.{recsAt}
 use borrow.Author.Needs.{needs}
 use borrow.Author.Tests.{not-false, not-true}
 use lib.ListN.{length, take}
@@ -19,19 +20,19 @@ use Rattle.queue.proofs.check.reads.note_read.Reads as note-read-reads
 use Rattle.queue.proofs.layout.frame.id_read.Reads as id-read-reads
 
 abbrev Inv-loop : tie.InvT-loop
-Inv-loop s form at n base x t v₀ last m i₀ left₀ len₀ v i left len = Asking (form .hex) s (listAt (recIn form) n s at) (view (form .hex) s base) (listAt idC (x .facts .reads) (view (form .hex) s base) (x .reads)) (listAt idC (x .facts .ins) (view (form .hex) s base) (x .at)) (take m v₀) i left (take len v) × (len ≤ length v₀) × (length v ≡ length v₀)
+Inv-loop s form recs base x t v₀ last m i₀ left₀ len₀ v i left len = Asking (form .hex) s (recsAt (recIn form) s recs) (view (form .hex) s base) (listAt idC (x .facts .reads) (view (form .hex) s base) (x .reads)) (listAt idC (x .facts .ins) (view (form .hex) s base) (x .at)) (take m v₀) i left (take len v) × (len ≤ length v₀) × (length v ≡ length v₀)
 
 abbrev μ-loop : tie.MeasureT-loop
-μ-loop s form at n base x t v₀ last m i₀ left₀ len₀ v i left len = left
+μ-loop s form recs base x t v₀ last m i₀ left₀ len₀ v i left len = left
 
 loop-holds : tie.Need-loop-holds Inv-loop μ-loop
-loop-holds c = (asking (c .before .before .before .before .args .form .hex) _ _ _ _ _ _ _ (c .before .before .before .before .pre .9) (c .before .before .before .before .pre .10) (c .before .before .before .before .pre .11), c .before .before .before .before .pre .4, refl)
+loop-holds c = (asking (c .before .before .before .before .args .form .hex) _ _ _ _ _ _ _ (c .before .before .before .before .pre .8) (c .before .before .before .before .pre .9) (c .before .before .before .before .pre .10), c .before .before .before .before .pre .3, refl)
 
 id-read-requires : tie.Need-id-read-requires Inv-loop μ-loop
 id-read-requires c κs = search needs
 
 note-read-requires : tie.Need-note-read-requires Inv-loop μ-loop
-note-read-requires c κs = let t = id-bytes (asking-turn (c .before .before .before .before .loop .inv .0) (c .before .before .before .loop-test .taken) (c .before .before .id-read .ensures)) in (c .before .before .before .before .before .before .before .before .before .pre .0, c .before .before .before .before .before .before .before .before .before .pre .1, c .before .before .before .before .before .before .before .before .before .pre .2, c .before .before .before .before .before .before .before .before .before .pre .3, omega (arith, c .before .before .before .before .loop .inv .1, c .before .before .before .before .loop .inv .2), omega (arith, c .before .before .before .before .loop .inv .2, c .before .before .before .before .before .before .before .before .before .pre .5), c .before .before .before .before .before .before .before .before .before .pre .6, c .before .before .before .before .before .before .before .before .before .pre .7, c .before .before .before .before .before .before .before .before .before .pre .8, t .1, t .0, c .before .before .before .before .loop .inv .0 .odd, c .before .before .before .before .before .before .before .before .before .pre .12, asking-odd (c .before .before .before .before .loop .inv .0) (c .before .before .before .loop-test .taken) (c .before .before .id-read .ensures) (c .before .before .before .before .before .before .before .before .before .pre .13))
+note-read-requires c κs = let t = id-bytes (asking-turn (c .before .before .before .before .loop .inv .0) (c .before .before .before .loop-test .taken) (c .before .before .id-read .ensures)) in (c .before .before .before .before .before .before .before .before .before .pre .0, c .before .before .before .before .before .before .before .before .before .pre .1, c .before .before .before .before .before .before .before .before .before .pre .2, omega (arith, c .before .before .before .before .loop .inv .1, c .before .before .before .before .loop .inv .2), omega (arith, c .before .before .before .before .loop .inv .2, c .before .before .before .before .before .before .before .before .before .pre .4), c .before .before .before .before .before .before .before .before .before .pre .5, c .before .before .before .before .before .before .before .before .before .pre .6, c .before .before .before .before .before .before .before .before .before .pre .7, t .1, t .0, c .before .before .before .before .loop .inv .0 .odd, c .before .before .before .before .before .before .before .before .before .pre .11, asking-odd (c .before .before .before .before .loop .inv .0) (c .before .before .before .loop-test .taken) (c .before .before .id-read .ensures) (c .before .before .before .before .before .before .before .before .before .pre .12))
 
 same-length : tie.Need-same-length Inv-loop μ-loop
 same-length c = search needs

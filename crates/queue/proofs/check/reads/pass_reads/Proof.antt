@@ -4,6 +4,7 @@ use Rattle.queue.specs.bytes.ReaderAs.{listAt}
 use Rattle.queue.specs.bytes.ViewAs.{view}
 use Rattle.queue.specs.layout.FormsCodec.{recIn}
 use Rattle.queue.specs.layout.FrameCodec.{idC}
+use Rattle.queue.specs.layout.RecordsAs.{recsAt}
 use borrow.Author.Needs.{needs}
 use borrow.Author.Tests.{not-false, not-true}
 use mathlib.Core.List.{[]}
@@ -17,19 +18,19 @@ use Rattle.queue.proofs.check.reads.pass_read.Reads as pass-read-reads
 use Rattle.queue.proofs.layout.frame.id_read.Reads as id-read-reads
 
 abbrev Inv-loop : tie.InvT-loop
-Inv-loop s form at n base x i₀ left₀ i left = Asking (form .hex) s (listAt (recIn form) n s at) (view (form .hex) s base) (listAt idC (x .facts .reads) (view (form .hex) s base) (x .reads)) (listAt idC (x .facts .ins) (view (form .hex) s base) (x .at)) [] i left []
+Inv-loop s form recs base x i₀ left₀ i left = Asking (form .hex) s (recsAt (recIn form) s recs) (view (form .hex) s base) (listAt idC (x .facts .reads) (view (form .hex) s base) (x .reads)) (listAt idC (x .facts .ins) (view (form .hex) s base) (x .at)) [] i left []
 
 abbrev μ-loop : tie.MeasureT-loop
-μ-loop s form at n base x i₀ left₀ i left = left
+μ-loop s form recs base x i₀ left₀ i left = left
 
 loop-holds : tie.Need-loop-holds Inv-loop μ-loop
-loop-holds c = asking (c .before .before .args .form .hex) _ _ _ _ _ _ _ (c .before .before .pre .4) (c .before .before .pre .5) refl
+loop-holds c = asking (c .before .before .args .form .hex) _ _ _ _ _ _ _ (c .before .before .pre .3) (c .before .before .pre .4) refl
 
 id-read-requires : tie.Need-id-read-requires Inv-loop μ-loop
 id-read-requires c κs = search needs
 
 pass-read-requires : tie.Need-pass-read-requires Inv-loop μ-loop
-pass-read-requires c κs = (c .before .before .before .before .before .before .pre .0, c .before .before .before .before .before .before .pre .1, c .before .before .before .before .before .before .pre .2, c .before .before .before .before .before .before .pre .3, asking-odd (c .before .before .before .loop .inv) (c .before .before .loop-test .taken) (c .before .id-read .ensures) (c .before .before .before .before .before .before .pre .6))
+pass-read-requires c κs = (c .before .before .before .before .before .before .pre .0, c .before .before .before .before .before .before .pre .1, c .before .before .before .before .before .before .pre .2, asking-odd (c .before .before .before .loop .inv) (c .before .before .loop-test .taken) (c .before .id-read .ensures) (c .before .before .before .before .before .before .pre .5))
 
 returns : tie.Need-returns Inv-loop μ-loop
 returns c = asking-out (c .before .before .before .before .before .loop .inv) (c .before .before .before .before .loop-test .taken) (c .before .before .before .id-read .ensures) (c .before .pass-read .ensures) (not-true _ (c .if1 .taken))

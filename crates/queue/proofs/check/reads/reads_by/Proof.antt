@@ -7,6 +7,7 @@ use Rattle.queue.proofs.check.SuspectsLaws.{said-clear, said-crossed, s
 use Rattle.queue.proofs.layout.TurnLaws.{Scan, seen-in, start}
 use Rattle.queue.specs.bytes.ReaderAs.{listAt}
 use Rattle.queue.specs.layout.FormsCodec.{recIn}
+use Rattle.queue.specs.layout.RecordsAs.{recsAt}
 use borrow.Author.Needs.{needs}
 use borrow.Author.Tests.{not-false, not-true}
 use lib.ListN.{length, take}
@@ -23,19 +24,19 @@ use Rattle.queue.proofs.layout.forms.after_in.Reads as after-in-reads
 use Rattle.queue.proofs.layout.frame.rec_in.Reads as rec-in-reads
 
 abbrev Inv-loop : tie.InvT-loop
-Inv-loop s form at n t v₀ last i₀ left₀ m₀ v i left m = Scan (recIn form) nothingF s n at tt i left tt × Over (form .hex) s (listAt (recIn form) n s at) (listAt (recIn form) left s i) (take m v) × (m ≤ length v₀) × (length v ≡ length v₀)
+Inv-loop s form recs t v₀ last i₀ left₀ m₀ v i left m = Scan (recIn form) nothingF s left₀ i₀ tt i left tt × Over (form .hex) s (recsAt (recIn form) s recs) (listAt (recIn form) left s i) (take m v) × (m ≤ length v₀) × (length v ≡ length v₀)
 
 abbrev μ-loop : tie.MeasureT-loop
-μ-loop s form at n t v₀ last i₀ left₀ m₀ v i left m = left
+μ-loop s form recs t v₀ last i₀ left₀ m₀ v i left m = left
 
 loop-holds : tie.Need-loop-holds Inv-loop μ-loop
-loop-holds c = (start (recIn (c .before .before .before .args .form)) _ _ _ _ _ (c .before .before .before .pre .0) (c .before .before .before .pre .1), over-start _ _ _, omega arith, refl)
+loop-holds c = (start (recIn (c .before .before .before .args .form)) _ _ _ _ _ (c .before .before .before .pre .0 .0) (c .before .before .before .pre .0 .1), over-start _ _ _, omega arith, refl)
 
 rec-in-requires : tie.Need-rec-in-requires Inv-loop μ-loop
 rec-in-requires c κs = search needs
 
 note-reads-requires : tie.Need-note-reads-requires Inv-loop μ-loop
-note-reads-requires c κs = let u = seen-in (c .before .before .before .before .before .before .before .args .form) (c .before .before .before .loop .inv .0) (c .before .before .loop-test .taken) (c .before .rec-in .ensures) in (c .before .before .before .before .before .before .before .pre .0, c .before .before .before .before .before .before .before .pre .1, c .before .before .before .before .before .before .before .pre .2, c .before .before .before .before .before .before .before .pre .3, omega (arith, c .before .before .before .loop .inv .2, c .before .before .before .loop .inv .3), omega (arith, c .before .before .before .loop .inv .3, c .before .before .before .before .before .before .before .pre .4), c .before .before .before .before .before .before .before .pre .5, u .is .0 .insIn, u .is .0 .insAll, u .is .0 .readsIn, u .is .0 .readsAll, c .before .before .before .loop .inv .1 .odd, c .before .before .before .before .before .before .before .pre .7, over-odd (c .before .before .before .before .before .before .before .args .form) (c .before .before .before .loop .inv .0) (c .before .before .before .loop .inv .1) (c .before .before .loop-test .taken) (c .before .rec-in .ensures))
+note-reads-requires c κs = let u = seen-in (c .before .before .before .before .before .before .before .args .form) (c .before .before .before .loop .inv .0) (c .before .before .loop-test .taken) (c .before .rec-in .ensures) in (c .before .before .before .before .before .before .before .pre .0, c .before .before .before .before .before .before .before .pre .1, c .before .before .before .before .before .before .before .pre .2, omega (arith, c .before .before .before .loop .inv .2, c .before .before .before .loop .inv .3), omega (arith, c .before .before .before .loop .inv .3, c .before .before .before .before .before .before .before .pre .3), c .before .before .before .before .before .before .before .pre .4, u .is .0 .insIn, u .is .0 .insAll, u .is .0 .readsIn, u .is .0 .readsAll, c .before .before .before .loop .inv .1 .odd, c .before .before .before .before .before .before .before .pre .6, over-odd (c .before .before .before .before .before .before .before .args .form) (c .before .before .before .loop .inv .0) (c .before .before .before .loop .inv .1) (c .before .before .loop-test .taken) (c .before .rec-in .ensures))
 
 same-length : tie.Need-same-length Inv-loop μ-loop
 same-length c = search needs
@@ -68,19 +69,19 @@ slice-aggregate-crossed : tie.Need-slice-aggregate-crossed Inv-loop μ-loop
 slice-aggregate-crossed c = sym (length-take-le _ _ (omega (arith, c .before .before .loop .inv .2, c .before .before .loop .inv .3)))
 
 crossed-requires : tie.Need-crossed-requires Inv-loop μ-loop
-crossed-requires c κs = (c .before .before .before .before .before .before .pre .0, c .before .before .before .before .before .before .pre .1, c .before .before .before .before .before .before .pre .2, c .before .before .before .before .before .before .pre .3)
+crossed-requires c κs = (c .before .before .before .before .before .before .pre .0, c .before .before .before .before .before .before .pre .1, c .before .before .before .before .before .before .pre .2)
 
 same-length-3 : tie.Need-same-length-3 Inv-loop μ-loop
 same-length-3 c = search needs
 
 returns-3 : tie.Need-returns-3 Inv-loop μ-loop
-returns-3 c = said-crossed (over-last (c .before .before .before .before .before .before .before .before .before .before .args .form) (c .before .before .before .before .before .before .loop .inv .0) (c .before .before .before .before .before .before .loop .inv .1) (c .before .before .before .before .before .before .before .before .before .before .pre .6) (omega arith) (let l = list-length (recIn (c .before .before .before .before .before .before .before .before .before .before .args .form)) _ _ _ (c .before .before .before .before .before .before .before .before .before .before .pre .1) in omega (arith, l, c .before .before .before .before .before .before .before .before .before .before .pre .3)) (c .before .before .before .crossed .ensures .1)) (c .if3 .taken)
+returns-3 c = said-crossed (over-last (c .before .before .before .before .before .before .before .before .before .before .args .form) (c .before .before .before .before .before .before .loop .inv .0) (c .before .before .before .before .before .before .loop .inv .1) (c .before .before .before .before .before .before .before .before .before .before .pre .5) (omega arith) (let l = list-length (recIn (c .before .before .before .before .before .before .before .before .before .before .args .form)) _ _ _ (c .before .before .before .before .before .before .before .before .before .before .pre .0 .1) in omega (arith, l, c .before .before .before .before .before .before .before .before .before .before .pre .2)) (c .before .before .before .crossed .ensures .1)) (c .if3 .taken)
 
 same-length-4 : tie.Need-same-length-4 Inv-loop μ-loop
 same-length-4 c = search needs
 
 returns-4 : tie.Need-returns-4 Inv-loop μ-loop
-returns-4 c = said-clear (over-last (c .before .before .before .before .before .before .before .before .before .before .args .form) (c .before .before .before .before .before .before .loop .inv .0) (c .before .before .before .before .before .before .loop .inv .1) (c .before .before .before .before .before .before .before .before .before .before .pre .6) (omega arith) (let l = list-length (recIn (c .before .before .before .before .before .before .before .before .before .before .args .form)) _ _ _ (c .before .before .before .before .before .before .before .before .before .before .pre .1) in omega (arith, l, c .before .before .before .before .before .before .before .before .before .before .pre .3)) (c .before .before .before .crossed .ensures .1)) (c .if3 .left)
+returns-4 c = said-clear (over-last (c .before .before .before .before .before .before .before .before .before .before .args .form) (c .before .before .before .before .before .before .loop .inv .0) (c .before .before .before .before .before .before .loop .inv .1) (c .before .before .before .before .before .before .before .before .before .before .pre .5) (omega arith) (let l = list-length (recIn (c .before .before .before .before .before .before .before .before .before .before .args .form)) _ _ _ (c .before .before .before .before .before .before .before .before .before .before .pre .0 .1) in omega (arith, l, c .before .before .before .before .before .before .before .before .before .before .pre .2)) (c .before .before .before .crossed .ensures .1)) (c .if3 .left)
 
 pub reads-by-spec : {M : Type 1} → statement M
 reads-by-spec =

@@ -5,6 +5,7 @@ use Rattle.queue.specs.bytes.ViewAs.{view}
 use Rattle.queue.specs.check.FilterAs.{heldBy}
 use Rattle.queue.specs.layout.FormsCodec.{recIn}
 use Rattle.queue.specs.layout.FrameCodec.{idC}
+use Rattle.queue.specs.layout.RecordsAs.{recsAt}
 use borrow.Author.Needs.{needs}
 use native.Mathlib.Omega.{arith}
 use Rattle.queue.proofs.check.scan.any_shared.Statement.{statement}
@@ -15,19 +16,19 @@ use Rattle.queue.proofs.check.scan.shared.Reads as shared-reads
 use Rattle.queue.proofs.layout.frame.id_read.Reads as id-read-reads
 
 abbrev Inv-loop : tie.InvT-loop
-Inv-loop s form at n base ids m t₀ i₀ left₀ t i left = Passing (heldBy (listAt (recIn form) n s at)) (view (form .hex) s base) (listAt idC m (view (form .hex) s base) ids) t₀ i left t
+Inv-loop s form recs base ids m t₀ i₀ left₀ t i left = Passing (heldBy (recsAt (recIn form) s recs)) (view (form .hex) s base) (listAt idC m (view (form .hex) s base) ids) t₀ i left t
 
 abbrev μ-loop : tie.MeasureT-loop
-μ-loop s form at n base ids m t₀ i₀ left₀ t i left = left
+μ-loop s form recs base ids m t₀ i₀ left₀ t i left = left
 
 loop-holds : tie.Need-loop-holds Inv-loop μ-loop
-loop-holds c = passing _ _ _ _ _ (c .before .before .pre .2) (c .before .before .pre .3)
+loop-holds c = passing _ _ _ _ _ (c .before .before .pre .1) (c .before .before .pre .2)
 
 id-read-requires : tie.Need-id-read-requires Inv-loop μ-loop
 id-read-requires c κs = search needs
 
 shared-requires : tie.Need-shared-requires Inv-loop μ-loop
-shared-requires c κs = (c .before .before .before .before .before .before .before .pre .0, c .before .before .before .before .before .before .before .pre .1, omega (arith, c .before .before .before .before .loop .inv .size, c .before .before .before .before .before .before .before .pre .4))
+shared-requires c κs = (c .before .before .before .before .before .before .before .pre .0, omega (arith, c .before .before .before .before .loop .inv .size, c .before .before .before .before .before .before .before .pre .3))
 
 same-length : tie.Need-same-length Inv-loop μ-loop
 same-length c = search needs

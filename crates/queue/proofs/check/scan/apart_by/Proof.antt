@@ -5,6 +5,7 @@ use Rattle.queue.proofs.layout.TurnLaws.{Scan, seen-in, start}
 use Rattle.queue.specs.bytes.ReaderAs.{listAt}
 use Rattle.queue.specs.check.FilterAs.{hasIn, hashL}
 use Rattle.queue.specs.layout.FormsCodec.{recIn}
+use Rattle.queue.specs.layout.RecordsAs.{recsAt}
 use borrow.Author.Needs.{needs}
 use lib.ListN.{length}
 use mathlib.Core.Path.{_∙_, _≡_, refl}
@@ -18,19 +19,19 @@ use Rattle.queue.proofs.layout.forms.after_in.Reads as after-in-reads
 use Rattle.queue.proofs.layout.frame.rec_in.Reads as rec-in-reads
 
 abbrev Inv-loop : tie.InvT-loop
-Inv-loop s form at n t₀ i₀ left₀ t i left = Scan (recIn form) nothingF s n at tt i left tt × Walk hasIn hashL (listAt (recIn form) n s at) (listAt (recIn form) left s i) t × (length t ≡ length t₀)
+Inv-loop s form recs t₀ i₀ left₀ t i left = Scan (recIn form) nothingF s left₀ i₀ tt i left tt × Walk hasIn hashL (recsAt (recIn form) s recs) (listAt (recIn form) left s i) t × (length t ≡ length t₀)
 
 abbrev μ-loop : tie.MeasureT-loop
-μ-loop s form at n t₀ i₀ left₀ t i left = left
+μ-loop s form recs t₀ i₀ left₀ t i left = left
 
 loop-holds : tie.Need-loop-holds Inv-loop μ-loop
-loop-holds c = (start (recIn (c .before .before .args .form)) _ _ _ _ _ (c .before .before .pre .0) (c .before .before .pre .1), walk-start _ _ _ _, refl)
+loop-holds c = (start (recIn (c .before .before .args .form)) _ _ _ _ _ (c .before .before .pre .0 .0) (c .before .before .pre .0 .1), walk-start _ _ _ _, refl)
 
 rec-in-requires : tie.Need-rec-in-requires Inv-loop μ-loop
 rec-in-requires c κs = search needs
 
 any-shared-requires : tie.Need-any-shared-requires Inv-loop μ-loop
-any-shared-requires c κs = let t = seen-in (c .before .before .before .before .before .before .before .args .form) (c .before .before .before .before .loop .inv .0) (c .before .before .before .loop-test .taken) (c .before .before .rec-in .ensures) in (c .before .before .before .before .before .before .before .pre .0, c .before .before .before .before .before .before .before .pre .1, t .is .0 .insIn, t .is .0 .insAll, omega (arith, c .before .before .before .before .loop .inv .2, c .before .before .before .before .before .before .before .pre .2))
+any-shared-requires c κs = let t = seen-in (c .before .before .before .before .before .before .before .args .form) (c .before .before .before .before .loop .inv .0) (c .before .before .before .loop-test .taken) (c .before .before .rec-in .ensures) in (c .before .before .before .before .before .before .before .pre .0, t .is .0 .insIn, t .is .0 .insAll, omega (arith, c .before .before .before .before .loop .inv .2, c .before .before .before .before .before .before .before .pre .1))
 
 same-length : tie.Need-same-length Inv-loop μ-loop
 same-length c = search needs

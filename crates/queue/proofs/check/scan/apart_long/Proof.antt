@@ -16,13 +16,13 @@ both-requires : tie.Need-both-requires
 both-requires c κs = search needs
 
 apart-many-requires : tie.Need-apart-many-requires
-apart-many-requires c κs = let u = and-true _ _ (sym (c .before .both .ensures) ∙ c .if1 .taken) in (c .before .before .before .pre .0, c .before .before .before .pre .1, ltb-true _ _ (u .0), ltb-true _ _ (u .1), c .before .before .before .pre .2, c .before .before .before .pre .3, c .before .before .before .pre .4)
+apart-many-requires c κs = let u = and-true _ _ (sym (c .before .both .ensures) ∙ c .if1 .taken) in (c .before .before .before .before .pre .0, ltb-true _ _ (u .0), ltb-true _ _ (u .1), c .before .before .before .before .pre .1, c .before .before .before .before .pre .2, c .before .before .before .before .pre .3)
 
 returns : tie.Need-returns
 returns c = said-is (c .apart-many .ensures)
 
 apart-passes-requires : tie.Need-apart-passes-requires
-apart-passes-requires c κs = (c .before .before .before .pre .0, c .before .before .before .pre .1, c .before .before .before .pre .4)
+apart-passes-requires c κs = (c .before .before .before .before .pre .0, c .before .before .before .before .pre .3)
 
 returns-2 : tie.Need-returns-2
 returns-2 c = c .apart-passes .ensures

@@ -15,16 +15,16 @@ slice-aggregate-apart-by : tie.Need-slice-aggregate-apart-by
 slice-aggregate-apart-by c = search needs
 
 apart-by-requires : tie.Need-apart-by-requires
-apart-by-requires c κs = (c .before .before .pre .0, c .before .before .pre .1, zero-lt-suc _)
+apart-by-requires c κs = (c .before .before .pre .0, zero-lt-suc _)
 
 returns : tie.Need-returns
 returns c = both-no _ (c .before .before .apart-by .ensures) (not-true _ (c .if1 .taken))
 
 returns-2 : tie.Need-returns-2
-returns-2 c = both-yes _ (c .before .before .before .apart-by .ensures) (not-false _ (c .before .if1 .left)) (sym (read-none _ (c .before .before .before .before .before .before .pre .2 (c .if2 .taken))))
+returns-2 c = both-yes _ (c .before .before .before .apart-by .ensures) (not-false _ (c .before .if1 .left)) (sym (read-none _ (c .before .before .before .before .before .before .pre .1 (c .if2 .taken))))
 
 reads-passes-requires : tie.Need-reads-passes-requires
-reads-passes-requires c κs = (c .before .before .before .before .before .before .pre .0, c .before .before .before .before .before .before .pre .1, sym (c .before .before .before .apart-by .ensures) ∙ not-false _ (c .before .if1 .left))
+reads-passes-requires c κs = (c .before .before .before .before .before .before .pre .0, sym (c .before .before .before .apart-by .ensures) ∙ not-false _ (c .before .if1 .left))
 
 returns-3 : tie.Need-returns-3
 returns-3 c = both-yes _ (c .before .before .before .before .apart-by .ensures) (not-false _ (c .before .before .if1 .left)) (c .reads-passes .ensures)

@@ -21,10 +21,10 @@ use Rattle.queue.proofs.layout.forms.ends_line.Reads as ends-line-reads
 use Rattle.queue.proofs.layout.frame.rec_in.Reads as rec-in-reads
 
 abbrev Inv-loop : tie.InvT-loop
-Inv-loop s form at n k c t₀ i₀ left₀ a₀ prev₀ first₀ t i left a prev first = Checking form s n at k c i left a prev first t × (length t ≡ length t₀)
+Inv-loop s form k c t₀ i₀ left₀ a₀ prev₀ first₀ t i left a prev first = Checking form s left₀ i₀ k c i left a prev first t × (length t ≡ length t₀)
 
 abbrev μ-loop : tie.MeasureT-loop
-μ-loop s form at n k c t₀ i₀ left₀ a₀ prev₀ first₀ t i left a prev first = left
+μ-loop s form k c t₀ i₀ left₀ a₀ prev₀ first₀ t i left a prev first = left
 
 no-sums-requires : tie.Need-no-sums-requires Inv-loop μ-loop
 no-sums-requires c κs = search needs
@@ -33,7 +33,7 @@ no-id-requires : tie.Need-no-id-requires Inv-loop μ-loop
 no-id-requires c κs = search needs
 
 loop-holds : tie.Need-loop-holds Inv-loop μ-loop
-loop-holds c = (check-start (c .before .before .before .before .args .form) (c .before .before .before .before .args .s .now) (c .before .before .before .before .args .n) (c .before .before .before .before .args .at) (c .before .before .before .before .args .k) (c .before .before .before .before .args .c) _ (c .before .before .before .before .pre .0) (c .before .before .before .before .pre .2) (c .before .no-sums .ensures), refl)
+loop-holds c = (check-start (c .before .before .before .before .args .form) (c .before .before .before .before .args .s .now) (c .before .before .before .before .args .recs .count) (c .before .before .before .before .args .recs .start) (c .before .before .before .before .args .k) (c .before .before .before .before .args .c) _ (c .before .before .before .before .pre .0) (c .before .before .before .before .pre .2) (c .before .no-sums .ensures), refl)
 
 rec-in-requires : tie.Need-rec-in-requires Inv-loop μ-loop
 rec-in-requires c κs = search needs
@@ -42,7 +42,7 @@ same-length : tie.Need-same-length Inv-loop μ-loop
 same-length c = search needs
 
 returns : tie.Need-returns Inv-loop μ-loop
-returns c = check-short (c .before .before .before .before .before .before .before .before .before .args .form) (c .before .before .before .before .before .before .before .before .before .args .s .now) (c .before .before .before .before .before .before .before .before .before .args .n) (c .before .before .before .before .before .before .before .before .before .args .at) (c .before .before .before .before .before .before .before .before .before .args .k) (c .before .before .before .before .before .before .before .before .before .args .c) (c .before .before .before .before .loop .inv .0) (c .before .before .before .loop-test .taken) (c .before .before .rec-in .ensures) (not-true _ (c .if1 .taken))
+returns c = check-short (c .before .before .before .before .before .before .before .before .before .args .form) (c .before .before .before .before .before .before .before .before .before .args .s .now) (c .before .before .before .before .before .before .before .before .before .args .recs .count) (c .before .before .before .before .before .before .before .before .before .args .recs .start) (c .before .before .before .before .before .before .before .before .before .args .k) (c .before .before .before .before .before .before .before .before .before .args .c) (c .before .before .before .before .loop .inv .0) (c .before .before .before .loop-test .taken) (c .before .before .rec-in .ensures) (not-true _ (c .if1 .taken))
 
 ends-line-requires : tie.Need-ends-line-requires Inv-loop μ-loop
 ends-line-requires c κs = frames-in (c .before .before .before .before .loop .inv .0 .frame) (c .before .before .before .loop-test .taken) (c .before .before .rec-in .ensures) (not-false _ (c .if1 .left))
@@ -51,7 +51,7 @@ same-length-2 : tie.Need-same-length-2 Inv-loop μ-loop
 same-length-2 c = search needs
 
 returns-2 : tie.Need-returns-2 Inv-loop μ-loop
-returns-2 c = check-line (c .before .before .before .before .before .before .before .before .before .before .before .args .form) (c .before .before .before .before .before .before .before .before .before .before .before .args .s .now) (c .before .before .before .before .before .before .before .before .before .before .before .args .n) (c .before .before .before .before .before .before .before .before .before .before .before .args .at) (c .before .before .before .before .before .before .before .before .before .before .before .args .k) (c .before .before .before .before .before .before .before .before .before .before .before .args .c) (c .before .before .before .before .before .before .loop .inv .0) (c .before .before .before .before .before .loop-test .taken) (c .before .before .before .before .rec-in .ensures) (not-false _ (c .before .before .if1 .left)) (c .before .ends-line .ensures) (not-true _ (c .if2 .taken))
+returns-2 c = check-line (c .before .before .before .before .before .before .before .before .before .before .before .args .form) (c .before .before .before .before .before .before .before .before .before .before .before .args .s .now) (c .before .before .before .before .before .before .before .before .before .before .before .args .recs .count) (c .before .before .before .before .before .before .before .before .before .before .before .args .recs .start) (c .before .before .before .before .before .before .before .before .before .before .before .args .k) (c .before .before .before .before .before .before .before .before .before .before .before .args .c) (c .before .before .before .before .before .before .loop .inv .0) (c .before .before .before .before .before .loop-test .taken) (c .before .before .before .before .rec-in .ensures) (not-false _ (c .before .before .if1 .left)) (c .before .ends-line .ensures) (not-true _ (c .if2 .taken))
 
 cmp-id-requires : tie.Need-cmp-id-requires Inv-loop μ-loop
 cmp-id-requires c κs = search needs
@@ -60,10 +60,10 @@ either-requires : tie.Need-either-requires Inv-loop μ-loop
 either-requires c κs = search needs
 
 new-record-requires : tie.Need-new-record-requires Inv-loop μ-loop
-new-record-requires c κs = check-ids (c .before .before .before .before .before .before .before .before .before .before .before .before .before .before .before .before .args .form) (c .before .before .before .before .before .before .before .before .before .before .before .before .before .before .before .before .args .s .now) (c .before .before .before .before .before .before .before .before .before .before .before .before .before .before .before .before .args .n) (c .before .before .before .before .before .before .before .before .before .before .before .before .before .before .before .before .args .at) (c .before .before .before .before .before .before .before .before .before .before .before .before .before .before .before .before .args .k) (c .before .before .before .before .before .before .before .before .before .before .before .before .before .before .before .before .args .c) (c .before .before .before .before .before .before .before .before .before .before .before .loop .inv .0) (c .before .before .before .before .before .before .before .before .before .before .loop-test .taken) (c .before .before .before .before .before .before .before .before .before .rec-in .ensures) (not-false _ (c .before .before .before .before .before .before .before .if1 .left))
+new-record-requires c κs = check-ids (c .before .before .before .before .before .before .before .before .before .before .before .before .before .before .before .before .args .form) (c .before .before .before .before .before .before .before .before .before .before .before .before .before .before .before .before .args .s .now) (c .before .before .before .before .before .before .before .before .before .before .before .before .before .before .before .before .args .recs .count) (c .before .before .before .before .before .before .before .before .before .before .before .before .before .before .before .before .args .recs .start) (c .before .before .before .before .before .before .before .before .before .before .before .before .before .before .before .before .args .k) (c .before .before .before .before .before .before .before .before .before .before .before .before .before .before .before .before .args .c) (c .before .before .before .before .before .before .before .before .before .before .before .loop .inv .0) (c .before .before .before .before .before .before .before .before .before .before .loop-test .taken) (c .before .before .before .before .before .before .before .before .before .rec-in .ensures) (not-false _ (c .before .before .before .before .before .before .before .if1 .left))
 
 add-sums-requires : tie.Need-add-sums-requires Inv-loop μ-loop
-add-sums-requires c κs = (check-room (c .before .before .before .before .before .before .before .before .before .before .before .before .before .before .before .before .before .before .before .args .form) (c .before .before .before .before .before .before .before .before .before .before .before .before .before .before .before .before .before .before .before .args .s .now) (c .before .before .before .before .before .before .before .before .before .before .before .before .before .before .before .before .before .before .before .args .n) (c .before .before .before .before .before .before .before .before .before .before .before .before .before .before .before .before .before .before .before .args .at) (c .before .before .before .before .before .before .before .before .before .before .before .before .before .before .before .before .before .before .before .args .k) (c .before .before .before .before .before .before .before .before .before .before .before .before .before .before .before .before .before .before .before .args .c) (c .before .before .before .before .before .before .before .before .before .before .before .before .before .before .loop .inv .0) (c .before .before .before .before .before .before .before .before .before .before .before .before .before .loop-test .taken) (c .before .before .before .before .before .before .before .before .before .before .before .before .rec-in .ensures) (c .before .before .before .before .before .before .before .before .before .before .before .before .before .before .before .before .before .before .before .pre .1), check-bytes (c .before .before .before .before .before .before .before .before .before .before .before .before .before .before .before .before .before .before .before .args .form) (c .before .before .before .before .before .before .before .before .before .before .before .before .before .before .before .before .before .before .before .args .s .now) (c .before .before .before .before .before .before .before .before .before .before .before .before .before .before .before .before .before .before .before .args .n) (c .before .before .before .before .before .before .before .before .before .before .before .before .before .before .before .before .before .before .before .args .at) (c .before .before .before .before .before .before .before .before .before .before .before .before .before .before .before .before .before .before .before .args .k) (c .before .before .before .before .before .before .before .before .before .before .before .before .before .before .before .before .before .before .before .args .c) (c .before .before .before .before .before .before .before .before .before .before .before .before .before .before .loop .inv .0) (c .before .before .before .before .before .before .before .before .before .before .before .before .before .loop-test .taken) (c .before .before .before .before .before .before .before .before .before .before .before .before .rec-in .ensures) (not-false _ (c .before .before .before .before .before .before .before .before .before .before .if1 .left)))
+add-sums-requires c κs = (check-room (c .before .before .before .before .before .before .before .before .before .before .before .before .before .before .before .before .before .before .before .args .form) (c .before .before .before .before .before .before .before .before .before .before .before .before .before .before .before .before .before .before .before .args .s .now) (c .before .before .before .before .before .before .before .before .before .before .before .before .before .before .before .before .before .before .before .args .recs .count) (c .before .before .before .before .before .before .before .before .before .before .before .before .before .before .before .before .before .before .before .args .recs .start) (c .before .before .before .before .before .before .before .before .before .before .before .before .before .before .before .before .before .before .before .args .k) (c .before .before .before .before .before .before .before .before .before .before .before .before .before .before .before .before .before .before .before .args .c) (c .before .before .before .before .before .before .before .before .before .before .before .before .before .before .loop .inv .0) (c .before .before .before .before .before .before .before .before .before .before .before .before .before .loop-test .taken) (c .before .before .before .before .before .before .before .before .before .before .before .before .rec-in .ensures) (c .before .before .before .before .before .before .before .before .before .before .before .before .before .before .before .before .before .before .before .pre .1), check-bytes (c .before .before .before .before .before .before .before .before .before .before .before .before .before .before .before .before .before .before .before .args .form) (c .before .before .before .before .before .before .before .before .before .before .before .before .before .before .before .before .before .before .before .args .s .now) (c .before .before .before .before .before .before .before .before .before .before .before .before .before .before .before .before .before .before .before .args .recs .count) (c .before .before .before .before .before .before .before .before .before .before .before .before .before .before .before .before .before .before .before .args .recs .start) (c .before .before .before .before .before .before .before .before .before .before .before .before .before .before .before .before .before .before .before .args .k) (c .before .before .before .before .before .before .before .before .before .before .before .before .before .before .before .before .before .before .before .args .c) (c .before .before .before .before .before .before .before .before .before .before .before .before .before .before .loop .inv .0) (c .before .before .before .before .before .before .before .before .before .before .before .before .before .loop-test .taken) (c .before .before .before .before .before .before .before .before .before .before .before .before .rec-in .ensures) (not-false _ (c .before .before .before .before .before .before .before .before .before .before .if1 .left)))
 
 after-in-requires : tie.Need-after-in-requires Inv-loop μ-loop
 after-in-requires c κs = frames-in (c .before .before .before .before .before .before .before .before .before .before .before .before .before .before .before .loop .inv .0 .frame) (c .before .before .before .before .before .before .before .before .before .before .before .before .before .before .loop-test .taken) (c .before .before .before .before .before .before .before .before .before .before .before .before .before .rec-in .ensures) (not-false _ (c .before .before .before .before .before .before .before .before .before .before .before .if1 .left))
@@ -75,13 +75,13 @@ loop-less : tie.Need-loop-less Inv-loop μ-loop
 loop-less c = search needs
 
 loop-again : tie.Need-loop-again Inv-loop μ-loop
-loop-again c = (check-go (c .before .before .before .before .before .before .before .before .before .before .before .before .before .before .before .before .before .before .before .before .before .args .form) (c .before .before .before .before .before .before .before .before .before .before .before .before .before .before .before .before .before .before .before .before .before .args .s .now) (c .before .before .before .before .before .before .before .before .before .before .before .before .before .before .before .before .before .before .before .before .before .args .n) (c .before .before .before .before .before .before .before .before .before .before .before .before .before .before .before .before .before .before .before .before .before .args .at) (c .before .before .before .before .before .before .before .before .before .before .before .before .before .before .before .before .before .before .before .before .before .args .k) (c .before .before .before .before .before .before .before .before .before .before .before .before .before .before .before .before .before .before .before .before .before .args .c) (c .before .before .before .before .before .before .before .before .before .before .before .before .before .before .before .before .loop .inv .0) (c .before .before .before .before .before .before .before .before .before .before .before .before .before .before .before .loop-test .taken) (c .before .before .before .before .before .before .before .before .before .before .before .before .before .before .rec-in .ensures) (not-false _ (c .before .before .before .before .before .before .before .before .before .before .before .before .if1 .left)) (c .before .before .before .before .before .before .before .before .before .before .before .ends-line .ensures) (not-false _ (c .before .before .before .before .before .before .before .before .before .before .if2 .left)) (c .after-in .ensures) (c .before .before .before .before .before .before .either .ensures ∙ rw (c .before .before .before .before .before .before .before .cmp-id .ensures)) (c .before .before .before .before .new-record .ensures) (c .before .add-sums .ensures), c .before .before .before .before .new-record .ensures .0 ∙ c .before .before .before .before .before .before .before .before .before .before .before .before .before .before .before .before .loop .inv .1)
+loop-again c = (check-go (c .before .before .before .before .before .before .before .before .before .before .before .before .before .before .before .before .before .before .before .before .before .args .form) (c .before .before .before .before .before .before .before .before .before .before .before .before .before .before .before .before .before .before .before .before .before .args .s .now) (c .before .before .before .before .before .before .before .before .before .before .before .before .before .before .before .before .before .before .before .before .before .args .recs .count) (c .before .before .before .before .before .before .before .before .before .before .before .before .before .before .before .before .before .before .before .before .before .args .recs .start) (c .before .before .before .before .before .before .before .before .before .before .before .before .before .before .before .before .before .before .before .before .before .args .k) (c .before .before .before .before .before .before .before .before .before .before .before .before .before .before .before .before .before .before .before .before .before .args .c) (c .before .before .before .before .before .before .before .before .before .before .before .before .before .before .before .before .loop .inv .0) (c .before .before .before .before .before .before .before .before .before .before .before .before .before .before .before .loop-test .taken) (c .before .before .before .before .before .before .before .before .before .before .before .before .before .before .rec-in .ensures) (not-false _ (c .before .before .before .before .before .before .before .before .before .before .before .before .if1 .left)) (c .before .before .before .before .before .before .before .before .before .before .before .ends-line .ensures) (not-false _ (c .before .before .before .before .before .before .before .before .before .before .if2 .left)) (c .after-in .ensures) (c .before .before .before .before .before .before .either .ensures ∙ rw (c .before .before .before .before .before .before .before .cmp-id .ensures)) (c .before .before .before .before .new-record .ensures) (c .before .add-sums .ensures), c .before .before .before .before .new-record .ensures .0 ∙ c .before .before .before .before .before .before .before .before .before .before .before .before .before .before .before .before .loop .inv .1)
 
 same-length-3 : tie.Need-same-length-3 Inv-loop μ-loop
 same-length-3 c = search needs
 
 returns-3 : tie.Need-returns-3 Inv-loop μ-loop
-returns-3 c = check-end (c .before .before .before .before .before .before .args .form) (c .before .before .before .before .before .before .args .s .now) (c .before .before .before .before .before .before .args .n) (c .before .before .before .before .before .before .args .at) (c .before .before .before .before .before .before .args .k) (c .before .before .before .before .before .before .args .c) (c .before .loop .inv .0) (omega arith)
+returns-3 c = check-end (c .before .before .before .before .before .before .args .form) (c .before .before .before .before .before .before .args .s .now) (c .before .before .before .before .before .before .args .recs .count) (c .before .before .before .before .before .before .args .recs .start) (c .before .before .before .before .before .before .args .k) (c .before .before .before .before .before .before .args .c) (c .before .loop .inv .0) (omega arith)
 
 pub frames-by-spec : {M : Type 1} → statement M
 frames-by-spec =

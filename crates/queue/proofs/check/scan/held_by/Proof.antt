@@ -15,10 +15,10 @@ use Rattle.queue.proofs.layout.forms.after_in.Reads as after-in-reads
 use Rattle.queue.proofs.layout.frame.rec_in.Reads as rec-in-reads
 
 abbrev Inv-loop : tie.InvT-loop
-Inv-loop s form at n id i₀ left₀ total₀ i left total = Scan (recIn form) (heldF id) s n at 0 i left total × (total + left ≤ n)
+Inv-loop s form id i₀ left₀ total₀ i left total = Scan (recIn form) (heldF id) s left₀ i₀ 0 i left total × (total + left ≤ left₀)
 
 abbrev μ-loop : tie.MeasureT-loop
-μ-loop s form at n id i₀ left₀ total₀ i left total = left
+μ-loop s form id i₀ left₀ total₀ i left total = left
 
 loop-holds : tie.Need-loop-holds Inv-loop μ-loop
 loop-holds c = (start (recIn (c .before .args .form)) _ _ _ _ _ (c .before .pre .0) (c .before .pre .1), omega arith)

@@ -15,10 +15,10 @@ hash-requires : tie.Need-hash-requires
 hash-requires c κs = search needs
 
 seen-requires : tie.Need-seen-requires
-seen-requires c κs = c .before .before .before .before .pre .2
+seen-requires c κs = c .before .before .before .before .pre .1
 
 held-by-requires : tie.Need-held-by-requires
-held-by-requires c κs = (c .before .before .before .before .before .before .pre .0, c .before .before .before .before .before .before .pre .1)
+held-by-requires c κs = c .before .before .before .before .before .before .pre .0
 
 same-length : tie.Need-same-length
 same-length c = search needs
@@ -27,13 +27,13 @@ returns : tie.Need-returns
 returns c = pass-seen (c .before .before .before .before .before .before .before .args .id) (same-is (c .before .before .before .before .before .before .before .args .id)) (c .before .before .before .before .hash .ensures) (c .before .before .seen .ensures) (c .before .if1 .taken) (c .held-by .ensures)
 
 mark-requires : tie.Need-mark-requires
-mark-requires c κs = c .before .before .before .before .before .before .before .pre .2
+mark-requires c κs = c .before .before .before .before .before .before .before .pre .1
 
 same-length-2 : tie.Need-same-length-2
 same-length-2 c = search needs
 
 returns-2 : tie.Need-returns-2
-returns-2 c = pass-new (c .before .before .before .before .before .before .before .before .before .before .args .id) (same-is (c .before .before .before .before .before .before .before .before .before .before .args .id)) (c .before .before .before .before .before .before .before .hash .ensures) (c .before .before .before .before .before .seen .ensures) (c .before .before .before .before .if1 .left) (c .before .before .before .before .before .before .before .before .before .before .pre .2) (c .before .before .mark .ensures)
+returns-2 c = pass-new (c .before .before .before .before .before .before .before .before .before .before .args .id) (same-is (c .before .before .before .before .before .before .before .before .before .before .args .id)) (c .before .before .before .before .before .before .before .hash .ensures) (c .before .before .before .before .before .seen .ensures) (c .before .before .before .before .if1 .left) (c .before .before .before .before .before .before .before .before .before .before .pre .1) (c .before .before .mark .ensures)
 
 pub shared-spec : {M : Type 1} → statement M
 shared-spec =

@@ -16,13 +16,13 @@ use Rattle.queue.proofs.layout.forms.after_in.Reads as after-in-reads
 use Rattle.queue.proofs.layout.frame.rec_at.Reads as rec-at-reads
 
 abbrev Inv-loop : tie.InvT-loop
-Inv-loop s at n q i₀ left₀ total₀ i left total = Scan (formC false recC) (sumFrom q) s n at 0 i left total × (total + left * 4294967295 ≤ n * 4294967295)
+Inv-loop s q i₀ left₀ total₀ i left total = Scan (formC false recC) (sumFrom q) s left₀ i₀ 0 i left total × (total + left * 4294967295 ≤ left₀ * 4294967295)
 
 abbrev μ-loop : tie.MeasureT-loop
-μ-loop s at n q i₀ left₀ total₀ i left total = left
+μ-loop s q i₀ left₀ total₀ i left total = left
 
 loop-holds : tie.Need-loop-holds Inv-loop μ-loop
-loop-holds c = (start (formC false recC) _ _ _ _ _ (c .before .pre .0) (c .before .pre .1), omega arith)
+loop-holds c = (start (formC false recC) _ _ _ _ _ (c .before .pre .0 .0) (c .before .pre .0 .1), omega arith)
 
 rec-at-requires : tie.Need-rec-at-requires Inv-loop μ-loop
 rec-at-requires c κs = search needs

@@ -16,8 +16,8 @@ mul-v c = search needs
 slice-write-v : tie.Need-slice-write-v
 slice-write-v c = search needs
 
-add-t11 : tie.Need-add-t11
-add-t11 c = search needs
+add-t10 : tie.Need-add-t10
+add-t10 c = search needs
 
 same-length : tie.Need-same-length
 same-length c = search needs
@@ -44,7 +44,7 @@ same-length-3 : tie.Need-same-length-3
 same-length-3 c = search needs
 
 returns-4 : tie.Need-returns-4
-returns-4 c = (grown-new (c .before .before .before .before .before .before .before .before .before .args .v .now) (c .before .before .before .crossed .ensures .1) (c .before .before .before .before .before .before .before .before .before .args .m) (omega (arith, c .before .before .before .before .before .before .if1 .left)) (c .before .before .before .crossed .ensures .0) (c .if3 .left) (omega (arith, c .before .before .before .before .before .before .before .before .before .pre .5)) refl, omega (arith, c .before .before .before .before .before .before .before .before .before .pre .5))
+returns-4 c = (grown-new (c .before .before .before .before .before .before .before .before .before .args .v .now) (c .before .before .before .crossed .ensures .1) (c .before .before .before .before .before .before .before .before .before .args .m) (omega (arith, c .before .before .before .before .before .before .if1 .left)) (c .before .before .before .crossed .ensures .0) (c .if3 .left) (omega (arith, c .before .before .before .before .before .before .before .before .before .pre .4)) refl, omega (arith, c .before .before .before .before .before .before .before .before .before .pre .4))
 
 pub add-spec : {M : Type 1} → statement M
 add-spec =
@@ -52,7 +52,7 @@ add-spec =
     (tie.spec
     mul-v
     slice-write-v
-    add-t11
+    add-t10
     same-length
     returns
     returns-2

@@ -25,7 +25,7 @@ slice-aggregate-clear-by-2 : tie.Need-slice-aggregate-clear-by-2
 slice-aggregate-clear-by-2 c = search needs
 
 clear-by-requires : tie.Need-clear-by-requires
-clear-by-requires c κs = let u = and-true _ _ (sym (c .before .before .before .both .ensures) ∙ not-false _ (c .before .before .if1 .left)) in (c .before .before .before .before .before .pre .0, c .before .before .before .before .before .pre .1, ltb-true _ _ (u .0), ltb-true _ _ (u .1), zero-lt-suc _, zero-lt-suc _, c .before .before .before .before .before .pre .2)
+clear-by-requires c κs = let u = and-true _ _ (sym (c .before .before .before .both .ensures) ∙ not-false _ (c .before .before .if1 .left)) in (c .before .before .before .before .before .before .pre .0, ltb-true _ _ (u .0), ltb-true _ _ (u .1), zero-lt-suc _, zero-lt-suc _, c .before .before .before .before .before .before .pre .1)
 
 returns-2 : tie.Need-returns-2
 returns-2 c = said-any (c .before .before .clear-by .ensures)

@@ -5,6 +5,7 @@ use Rattle.queue.proofs.check.SuspectsLaws.{Gone, gone-last, gone-marks
 use Rattle.queue.proofs.layout.TurnLaws.{Scan, seen-in, start}
 use Rattle.queue.specs.bytes.ReaderAs.{listAt}
 use Rattle.queue.specs.layout.FormsCodec.{recIn}
+use Rattle.queue.specs.layout.RecordsAs.{recsAt}
 use borrow.Author.Needs.{needs}
 use borrow.Author.Tests.{not-false, not-true}
 use lib.ListN.{drop, length, take}
@@ -21,19 +22,19 @@ use Rattle.queue.proofs.layout.forms.after_in.Reads as after-in-reads
 use Rattle.queue.proofs.layout.frame.rec_in.Reads as rec-in-reads
 
 abbrev Inv-loop : tie.InvT-loop
-Inv-loop s form at n t₀ v₀ last i₀ left₀ k₀ m₀ t v i left k m = Scan (recIn form) nothingF s n at tt i left tt × (drop k (listAt (recIn form) n s at) ≡ listAt (recIn form) left s i) × Gone (form .hex) s (listAt (recIn form) n s at) (listAt (recIn form) left s i) t (take m v) × (k + left ≡ n) × (m ≤ length v₀) × (length v ≡ length v₀) × (length t ≡ length t₀)
+Inv-loop s form recs t₀ v₀ last i₀ left₀ k₀ m₀ t v i left k m = Scan (recIn form) nothingF s left₀ i₀ tt i left tt × (drop k (recsAt (recIn form) s recs) ≡ listAt (recIn form) left s i) × Gone (form .hex) s (recsAt (recIn form) s recs) (listAt (recIn form) left s i) t (take m v) × (k + left ≡ left₀) × (m ≤ length v₀) × (length v ≡ length v₀) × (length t ≡ length t₀)
 
 abbrev μ-loop : tie.MeasureT-loop
-μ-loop s form at n t₀ v₀ last i₀ left₀ k₀ m₀ t v i left k m = left
+μ-loop s form recs t₀ v₀ last i₀ left₀ k₀ m₀ t v i left k m = left
 
 loop-holds : tie.Need-loop-holds Inv-loop μ-loop
-loop-holds c = (start (recIn (c .before .before .before .args .form)) _ _ _ _ _ (c .before .before .before .pre .0) (c .before .before .before .pre .1), refl, gone-start _ _ _ _, omega arith, omega arith, refl, refl)
+loop-holds c = (start (recIn (c .before .before .before .args .form)) _ _ _ _ _ (c .before .before .before .pre .0 .0) (c .before .before .before .pre .0 .1), refl, gone-start _ _ _ _, omega arith, omega arith, refl, refl)
 
 rec-in-requires : tie.Need-rec-in-requires Inv-loop μ-loop
 rec-in-requires c κs = search needs
 
 note-all-requires : tie.Need-note-all-requires Inv-loop μ-loop
-note-all-requires c κs = let u = seen-in (c .before .before .before .before .before .before .before .before .before .args .form) (c .before .before .before .before .before .loop .inv .0) (c .before .before .before .before .loop-test .taken) (c .before .before .before .rec-in .ensures) in (c .before .before .before .before .before .before .before .before .before .pre .0, c .before .before .before .before .before .before .before .before .before .pre .1, c .before .before .before .before .before .before .before .before .before .pre .2, c .before .before .before .before .before .before .before .before .before .pre .3, omega (arith, c .before .before .before .before .before .loop .inv .4, c .before .before .before .before .before .loop .inv .5), omega (arith, c .before .before .before .before .before .loop .inv .5, c .before .before .before .before .before .before .before .before .before .pre .4), omega (arith, c .before .before .before .before .before .loop .inv .6, c .before .before .before .before .before .before .before .before .before .pre .5), omega (arith, c .before .before .before .before .before .loop .inv .3, c .before .before .before .before .before .before .before .before .before .pre .3, c .before .before .before .before .loop-test .taken), u .is .0 .insIn, u .is .0 .insAll, c .before .before .before .before .before .loop .inv .2 .held, gone-own (c .before .before .before .before .before .before .before .before .before .args .form) (c .before .before .before .before .before .loop .k) (c .before .before .before .before .before .loop .inv .0) (c .before .before .before .before .before .loop .inv .1) (c .before .before .before .before .loop-test .taken) (c .before .before .before .rec-in .ensures))
+note-all-requires c κs = let u = seen-in (c .before .before .before .before .before .before .before .before .before .args .form) (c .before .before .before .before .before .loop .inv .0) (c .before .before .before .before .loop-test .taken) (c .before .before .before .rec-in .ensures) in (c .before .before .before .before .before .before .before .before .before .pre .0, c .before .before .before .before .before .before .before .before .before .pre .1, c .before .before .before .before .before .before .before .before .before .pre .2, omega (arith, c .before .before .before .before .before .loop .inv .4, c .before .before .before .before .before .loop .inv .5), omega (arith, c .before .before .before .before .before .loop .inv .5, c .before .before .before .before .before .before .before .before .before .pre .3), omega (arith, c .before .before .before .before .before .loop .inv .6, c .before .before .before .before .before .before .before .before .before .pre .4), omega (arith, c .before .before .before .before .before .loop .inv .3, c .before .before .before .before .before .before .before .before .before .pre .2, c .before .before .before .before .loop-test .taken), u .is .0 .insIn, u .is .0 .insAll, c .before .before .before .before .before .loop .inv .2 .held, gone-own (c .before .before .before .before .before .before .before .before .before .args .form) (c .before .before .before .before .before .loop .k) (c .before .before .before .before .before .loop .inv .0) (c .before .before .before .before .before .loop .inv .1) (c .before .before .before .before .loop-test .taken) (c .before .before .before .rec-in .ensures))
 
 same-length : tie.Need-same-length Inv-loop μ-loop
 same-length c = search needs
@@ -60,7 +61,7 @@ sub-left : tie.Need-sub-left Inv-loop μ-loop
 sub-left c = search needs
 
 add-k : tie.Need-add-k Inv-loop μ-loop
-add-k c = omega (arith, c .before .before .before .before .before .before .before .before .before .before .before .before .before .before .before .before .before .pre .3, c .before .before .before .before .before .before .before .before .before .before .before .before .before .loop .inv .3, c .before .before .before .before .before .before .before .before .before .before .before .before .loop-test .taken)
+add-k c = omega (arith, c .before .before .before .before .before .before .before .before .before .before .before .before .before .before .before .before .before .pre .2, c .before .before .before .before .before .before .before .before .before .before .before .before .before .loop .inv .3, c .before .before .before .before .before .before .before .before .before .before .before .before .loop-test .taken)
 
 loop-less : tie.Need-loop-less Inv-loop μ-loop
 loop-less c = search needs
@@ -75,7 +76,7 @@ slice-aggregate-crossed : tie.Need-slice-aggregate-crossed Inv-loop μ-loop
 slice-aggregate-crossed c = sym (length-take-le _ _ (omega (arith, c .before .before .loop .inv .4, c .before .before .loop .inv .5)))
 
 crossed-requires : tie.Need-crossed-requires Inv-loop μ-loop
-crossed-requires c κs = (c .before .before .before .before .before .before .pre .0, c .before .before .before .before .before .before .pre .1, c .before .before .before .before .before .before .pre .2, c .before .before .before .before .before .before .pre .3)
+crossed-requires c κs = (c .before .before .before .before .before .before .pre .0, c .before .before .before .before .before .before .pre .1, c .before .before .before .before .before .before .pre .2)
 
 same-length-5 : tie.Need-same-length-5 Inv-loop μ-loop
 same-length-5 c = search needs

@@ -16,13 +16,13 @@ slice-aggregate-clear-by : tie.Need-slice-aggregate-clear-by
 slice-aggregate-clear-by c = search needs
 
 array-borrow-prefix-v : tie.Need-array-borrow-prefix-v
-array-borrow-prefix-v c = omega (arith, length-replicate {A = ℕ} 65536 0, c .before .before .pre .5)
+array-borrow-prefix-v c = omega (arith, length-replicate {A = ℕ} 65536 0, c .before .before .pre .4)
 
 slice-aggregate-clear-by-2 : tie.Need-slice-aggregate-clear-by-2
-slice-aggregate-clear-by-2 c = sym (part-long _ (length-replicate {A = ℕ} 65536 0) (c .before .before .before .pre .5))
+slice-aggregate-clear-by-2 c = sym (part-long _ (length-replicate {A = ℕ} 65536 0) (c .before .before .before .pre .4))
 
 clear-by-requires : tie.Need-clear-by-requires
-clear-by-requires c κs = (c .before .before .before .pre .0, c .before .before .before .pre .1, c .before .before .before .pre .2, c .before .before .before .pre .3, part-some _ (length-replicate {A = ℕ} 65536 0) (c .before .before .before .pre .5) (c .before .before .before .pre .4), zero-lt-suc _, c .before .before .before .pre .6)
+clear-by-requires c κs = (c .before .before .before .pre .0, c .before .before .before .pre .1, c .before .before .before .pre .2, part-some _ (length-replicate {A = ℕ} 65536 0) (c .before .before .before .pre .4) (c .before .before .before .pre .3), zero-lt-suc _, c .before .before .before .pre .5)
 
 returns : tie.Need-returns
 returns c = search needs

@@ -13,7 +13,7 @@ use Rattle.queue.proofs.check.reads.reads_by.Reads as reads-by-reads
 use Rattle.queue.proofs.check.suspects.apart_in.Reads as apart-in-reads
 
 apart-in-requires : tie.Need-apart-in-requires
-apart-in-requires c κs = (c .before .before .before .before .before .pre .0, c .before .before .before .before .before .pre .1, c .before .before .before .before .before .pre .2, c .before .before .before .before .before .pre .3, c .before .before .before .before .before .pre .4, c .before .before .before .before .before .pre .5)
+apart-in-requires c κs = (c .before .before .before .before .before .pre .0, c .before .before .before .before .before .pre .1, c .before .before .before .before .before .pre .2, c .before .before .before .before .before .pre .3, c .before .before .before .before .before .pre .4)
 
 same-length : tie.Need-same-length
 same-length c = search needs
@@ -22,10 +22,10 @@ same-length-2 : tie.Need-same-length-2
 same-length-2 c = search needs
 
 returns : tie.Need-returns
-returns c = said-yes (and-both _ _ (sym (c .before .before .before .before .before .before .apart-in .ensures .0 .yes (c .before .if1 .taken))) (read-none _ (c .before .before .before .before .before .before .before .before .before .before .before .before .pre .6 (c .if2 .taken))))
+returns c = said-yes (and-both _ _ (sym (c .before .before .before .before .before .before .apart-in .ensures .0 .yes (c .before .if1 .taken))) (read-none _ (c .before .before .before .before .before .before .before .before .before .before .before .before .pre .5 (c .if2 .taken))))
 
 reads-by-requires : tie.Need-reads-by-requires
-reads-by-requires c κs = (c .before .before .before .before .before .before .before .before .before .before .before .before .before .before .pre .0, c .before .before .before .before .before .before .before .before .before .before .before .before .before .before .pre .1, c .before .before .before .before .before .before .before .before .before .before .before .before .before .before .pre .2, c .before .before .before .before .before .before .before .before .before .before .before .before .before .before .pre .3, omega (arith, c .before .before .before .before .before .before .before .before .before .before .before .before .before .before .pre .4), omega (arith, c .before .before .before .before .before .before .before .before .before .before .before .before .before .before .pre .5), sym (c .before .before .before .before .before .before .before .before .apart-in .ensures .0 .yes (c .before .before .before .if1 .taken)), c .before .before .before .before .before .before .before .before .apart-in .ensures .1 (c .before .before .before .if1 .taken))
+reads-by-requires c κs = (c .before .before .before .before .before .before .before .before .before .before .before .before .before .before .pre .0, c .before .before .before .before .before .before .before .before .before .before .before .before .before .before .pre .1, c .before .before .before .before .before .before .before .before .before .before .before .before .before .before .pre .2, omega (arith, c .before .before .before .before .before .before .before .before .before .before .before .before .before .before .pre .3), omega (arith, c .before .before .before .before .before .before .before .before .before .before .before .before .before .before .pre .4), sym (c .before .before .before .before .before .before .before .before .apart-in .ensures .0 .yes (c .before .before .before .if1 .taken)), c .before .before .before .before .before .before .before .before .apart-in .ensures .1 (c .before .before .before .if1 .taken))
 
 same-length-3 : tie.Need-same-length-3
 same-length-3 c = search needs

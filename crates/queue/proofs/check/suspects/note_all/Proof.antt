@@ -5,6 +5,7 @@ use Rattle.queue.specs.bytes.ReaderAs.{listAt}
 use Rattle.queue.specs.bytes.ViewAs.{view}
 use Rattle.queue.specs.layout.FormsCodec.{recIn}
 use Rattle.queue.specs.layout.FrameCodec.{idC}
+use Rattle.queue.specs.layout.RecordsAs.{recsAt}
 use borrow.Author.Needs.{needs}
 use borrow.Author.Tests.{not-false, not-true}
 use lib.ListN.{length, take}
@@ -18,19 +19,19 @@ use Rattle.queue.proofs.check.suspects.note.Reads as note-reads
 use Rattle.queue.proofs.layout.frame.id_read.Reads as id-read-reads
 
 abbrev Inv-loop : tie.InvT-loop
-Inv-loop s form at n base ids c k t₀ v₀ last m i₀ left₀ len₀ t v i left len = Noting (form .hex) s (listAt (recIn form) n s at) k (view (form .hex) s base) (listAt idC c (view (form .hex) s base) ids) t₀ (take m v₀) i left t (take len v) × (len ≤ length v₀) × (length v ≡ length v₀)
+Inv-loop s form recs base ids c k t₀ v₀ last m i₀ left₀ len₀ t v i left len = Noting (form .hex) s (recsAt (recIn form) s recs) k (view (form .hex) s base) (listAt idC c (view (form .hex) s base) ids) t₀ (take m v₀) i left t (take len v) × (len ≤ length v₀) × (length v ≡ length v₀)
 
 abbrev μ-loop : tie.MeasureT-loop
-μ-loop s form at n base ids c k t₀ v₀ last m i₀ left₀ len₀ t v i left len = left
+μ-loop s form recs base ids c k t₀ v₀ last m i₀ left₀ len₀ t v i left len = left
 
 loop-holds : tie.Need-loop-holds Inv-loop μ-loop
-loop-holds c = (noting (c .before .before .before .args .form .hex) _ _ _ _ _ _ _ _ (c .before .before .before .pre .8) (c .before .before .before .pre .9) (c .before .before .before .pre .10), c .before .before .before .pre .4, refl)
+loop-holds c = (noting (c .before .before .before .args .form .hex) _ _ _ _ _ _ _ _ (c .before .before .before .pre .7) (c .before .before .before .pre .8) (c .before .before .before .pre .9), c .before .before .before .pre .3, refl)
 
 id-read-requires : tie.Need-id-read-requires Inv-loop μ-loop
 id-read-requires c κs = search needs
 
 note-requires : tie.Need-note-requires Inv-loop μ-loop
-note-requires c κs = let t = id-bytes (noting-turn (c .before .before .before .before .before .loop .inv .0) (c .before .before .before .before .loop-test .taken) (c .before .before .before .id-read .ensures)) in (c .before .before .before .before .before .before .before .before .before .pre .0, c .before .before .before .before .before .before .before .before .before .pre .1, c .before .before .before .before .before .before .before .before .before .pre .2, c .before .before .before .before .before .before .before .before .before .pre .3, omega (arith, c .before .before .before .before .before .loop .inv .1, c .before .before .before .before .before .loop .inv .2), omega (arith, c .before .before .before .before .before .loop .inv .2, c .before .before .before .before .before .before .before .before .before .pre .5), omega (arith, c .before .before .before .before .before .loop .inv .0 .size, c .before .before .before .before .before .before .before .before .before .pre .6), c .before .before .before .before .before .before .before .before .before .pre .7, t .1, t .0, c .before .before .before .before .before .loop .inv .0 .held, noting-own (c .before .before .before .before .before .loop .inv .0) (c .before .before .before .before .loop-test .taken) (c .before .before .before .id-read .ensures) (c .before .before .before .before .before .before .before .before .before .pre .11))
+note-requires c κs = let t = id-bytes (noting-turn (c .before .before .before .before .before .loop .inv .0) (c .before .before .before .before .loop-test .taken) (c .before .before .before .id-read .ensures)) in (c .before .before .before .before .before .before .before .before .before .pre .0, c .before .before .before .before .before .before .before .before .before .pre .1, c .before .before .before .before .before .before .before .before .before .pre .2, omega (arith, c .before .before .before .before .before .loop .inv .1, c .before .before .before .before .before .loop .inv .2), omega (arith, c .before .before .before .before .before .loop .inv .2, c .before .before .before .before .before .before .before .before .before .pre .4), omega (arith, c .before .before .before .before .before .loop .inv .0 .size, c .before .before .before .before .before .before .before .before .before .pre .5), c .before .before .before .before .before .before .before .before .before .pre .6, t .1, t .0, c .before .before .before .before .before .loop .inv .0 .held, noting-own (c .before .before .before .before .before .loop .inv .0) (c .before .before .before .before .loop-test .taken) (c .before .before .before .id-read .ensures) (c .before .before .before .before .before .before .before .before .before .pre .10))
 
 same-length : tie.Need-same-length Inv-loop μ-loop
 same-length c = search needs

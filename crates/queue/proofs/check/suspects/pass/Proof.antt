@@ -16,19 +16,19 @@ use Rattle.queue.proofs.layout.forms.after_in.Reads as after-in-reads
 use Rattle.queue.proofs.layout.frame.rec_in.Reads as rec-in-reads
 
 abbrev Inv-loop : tie.InvT-loop
-Inv-loop s form at n v ordered i₀ left₀ k₀ i left k = Scan (recIn form) (crosses (form .hex) s v) s n at 0 i left k × (k + left ≡ n)
+Inv-loop s form v ordered i₀ left₀ k₀ i left k = Scan (recIn form) (crosses (form .hex) s v) s left₀ i₀ 0 i left k × (k + left ≡ left₀)
 
 abbrev μ-loop : tie.MeasureT-loop
-μ-loop s form at n v ordered i₀ left₀ k₀ i left k = left
+μ-loop s form v ordered i₀ left₀ k₀ i left k = left
 
 loop-holds : tie.Need-loop-holds Inv-loop μ-loop
-loop-holds c = (start (recIn (c .before .before .args .form)) _ _ _ _ _ (c .before .before .pre .0) (c .before .before .pre .1), omega arith)
+loop-holds c = (start (recIn (c .before .before .args .form)) _ _ _ _ _ (c .before .before .pre .0 .0) (c .before .before .pre .0 .1), omega arith)
 
 rec-in-requires : tie.Need-rec-in-requires Inv-loop μ-loop
 rec-in-requires c κs = search needs
 
 pass-ids-requires : tie.Need-pass-ids-requires Inv-loop μ-loop
-pass-ids-requires c κs = let t = seen-in (c .before .before .before .before .before .before .args .form) (c .before .before .before .loop .inv .0) (c .before .before .loop-test .taken) (c .before .rec-in .ensures) in (t .is .0 .insIn, t .is .0 .insAll, c .before .before .before .before .before .before .pre .2, omega (arith, c .before .before .before .before .before .before .pre .3, c .before .before .before .loop .inv .1, c .before .before .loop-test .taken), c .before .before .before .before .before .before .pre .4)
+pass-ids-requires c κs = let t = seen-in (c .before .before .before .before .before .before .args .form) (c .before .before .before .loop .inv .0) (c .before .before .loop-test .taken) (c .before .rec-in .ensures) in (t .is .0 .insIn, t .is .0 .insAll, c .before .before .before .before .before .before .pre .1, omega (arith, c .before .before .before .before .before .before .pre .2, c .before .before .before .loop .inv .1, c .before .before .loop-test .taken), c .before .before .before .before .before .before .pre .3)
 
 returns : tie.Need-returns Inv-loop μ-loop
 returns c = crosses-stop (c .before .before .before .before .before .before .before .before .args .form) (c .before .before .before .before .before .before .before .before .args .v .now) (c .before .before .before .before .before .loop .inv .0) (c .before .before .before .before .loop-test .taken) (c .before .before .before .rec-in .ensures) (c .before .pass-ids .ensures) (c .if1 .taken)
@@ -40,7 +40,7 @@ sub-left : tie.Need-sub-left Inv-loop μ-loop
 sub-left c = search needs
 
 add-k : tie.Need-add-k Inv-loop μ-loop
-add-k c = omega (arith, c .before .before .before .before .before .before .before .before .before .pre .3, c .before .before .before .before .before .before .loop .inv .1, c .before .before .before .before .before .loop-test .taken)
+add-k c = omega (arith, c .before .before .before .before .before .before .before .before .before .pre .2, c .before .before .before .before .before .before .loop .inv .1, c .before .before .before .before .before .loop-test .taken)
 
 loop-less : tie.Need-loop-less Inv-loop μ-loop
 loop-less c = search needs

@@ -1,10 +1,10 @@
 -- Filled from its answers by tools/proofkit.py: change those, and fill it again.
+use Rattle.queue.proofs.check.AreaLaws.{recs-stand}
 use Rattle.queue.proofs.read.FeesLaws.{fees-100, fees-3, fees-high, fees-low}
 use Rattle.queue.proofs.read.SelectLaws.{chosen-few, chosen-rising}
 use borrow.Author.Needs.{needs}
 use borrow.Author.Tests.{not-false, not-true}
 use mathlib.Core.Path.{refl}
-use native.Mathlib.Omega.{arith}
 use Rattle.queue.proofs.read.fees.best_fees.Statement.{statement}
 use Rattle.queue.proofs.read.fees.best_fees.Tie as tie
 use Rattle.queue.proofs.read.fees.best_fees.Reads as reads
@@ -34,7 +34,7 @@ slice-aggregate-best-select-3 : tie.Need-slice-aggregate-best-select-3
 slice-aggregate-best-select-3 c = search needs
 
 best-select-requires : tie.Need-best-select-requires
-best-select-requires c κs = let u = c .before .before .before .before .before .before .before .before .before .before .area-at .ensures .good (not-false _ (c .before .before .before .before .before .before .before .before .if1 .left)) in (omega (arith, u .2 .store .up, u .2 .store .ends), u .2 .store .all, record { ranks = refl; times = refl; places = refl }, chosen-few (c .before .before .before .before .before .before .before .before .before .before .before .before .before .args .time .0) (c .before .before .before .before .before .before .before .before .before .before .before .before .before .args .height .0) (u .2), chosen-rising (c .before .before .before .before .before .before .before .before .before .before .before .before .before .args .time .0) (c .before .before .before .before .before .before .before .before .before .before .before .before .before .args .height .0) (u .2), c .before .before .before .before .before .before .before .if2 .left, c .before .before .before .before .before .before .if3 .left)
+best-select-requires c κs = let u = c .before .before .before .before .before .before .before .before .before .before .area-at .ensures .good (not-false _ (c .before .before .before .before .before .before .before .before .if1 .left)) in (recs-stand (u .2 .store), record { ranks = refl; times = refl; places = refl }, chosen-few (c .before .before .before .before .before .before .before .before .before .before .before .before .before .args .time .0) (c .before .before .before .before .before .before .before .before .before .before .before .before .before .args .height .0) (u .2), chosen-rising (c .before .before .before .before .before .before .before .before .before .before .before .before .before .args .time .0) (c .before .before .before .before .before .before .before .before .before .before .before .before .before .args .height .0) (u .2), c .before .before .before .before .before .before .before .if2 .left, c .before .before .before .before .before .before .if3 .left)
 
 same-length : tie.Need-same-length
 same-length c = search needs

@@ -1,10 +1,10 @@
 -- Filled from its answers by tools/proofkit.py: change those, and fill it again.
+use Rattle.queue.proofs.check.AreaLaws.{recs-stand}
 use Rattle.queue.proofs.read.ParentsLaws.{chosen-modest, parents-100, parents-3}
 use Rattle.queue.proofs.read.SelectLaws.{chosen-few, chosen-rising}
 use borrow.Author.Needs.{needs}
 use borrow.Author.Tests.{not-false, not-true}
 use mathlib.Core.Path.{refl}
-use native.Mathlib.Omega.{arith}
 use Rattle.queue.proofs.read.parents.parents_in.Statement.{statement}
 use Rattle.queue.proofs.read.parents.parents_in.Tie as tie
 use Rattle.queue.proofs.read.parents.parents_in.Reads as reads
@@ -28,7 +28,7 @@ slice-aggregate-parents-select-3 : tie.Need-slice-aggregate-parents-select-3
 slice-aggregate-parents-select-3 c = search needs
 
 parents-select-requires : tie.Need-parents-select-requires
-parents-select-requires c κs = let u = c .before .before .before .before .before .before .before .before .area-at .ensures .good (not-false _ (c .before .before .before .before .before .before .if1 .left)) in (omega (arith, u .2 .store .up, u .2 .store .ends), u .2 .store .all, record { ranks = refl; times = refl; places = refl }, chosen-few (c .before .before .before .before .before .before .before .before .before .before .before .args .time .0) (c .before .before .before .before .before .before .before .before .before .before .before .args .height .0) (u .2), chosen-rising (c .before .before .before .before .before .before .before .before .before .before .before .args .time .0) (c .before .before .before .before .before .before .before .before .before .before .before .args .height .0) (u .2), chosen-modest (c .before .before .before .before .before .before .before .before .before .before .before .args .time .0) (c .before .before .before .before .before .before .before .before .before .before .before .args .height .0) (u .2), c .before .before .before .before .before .before .before .before .before .before .before .pre)
+parents-select-requires c κs = let u = c .before .before .before .before .before .before .before .before .area-at .ensures .good (not-false _ (c .before .before .before .before .before .before .if1 .left)) in (recs-stand (u .2 .store), record { ranks = refl; times = refl; places = refl }, chosen-few (c .before .before .before .before .before .before .before .before .before .before .before .args .time .0) (c .before .before .before .before .before .before .before .before .before .before .before .args .height .0) (u .2), chosen-rising (c .before .before .before .before .before .before .before .before .before .before .before .args .time .0) (c .before .before .before .before .before .before .before .before .before .before .before .args .height .0) (u .2), chosen-modest (c .before .before .before .before .before .before .before .before .before .before .before .args .time .0) (c .before .before .before .before .before .before .before .before .before .before .before .args .height .0) (u .2), c .before .before .before .before .before .before .before .before .before .before .before .pre)
 
 same-length : tie.Need-same-length
 same-length c = search needs

@@ -14,13 +14,13 @@ use Rattle.queue.proofs.read.pieces.piece_len.Reads as piece-len-reads
 use Rattle.queue.proofs.read.pieces.size_if.Reads as size-if-reads
 
 abbrev Inv-loop : tie.InvT-loop
-Inv-loop s at n w i₀ left₀ count₀ size₀ i left count size = Measuring w s n at i left count size
+Inv-loop s w i₀ left₀ count₀ size₀ i left count size = Measuring w s left₀ i₀ i left count size
 
 abbrev μ-loop : tie.MeasureT-loop
-μ-loop s at n w i₀ left₀ count₀ size₀ i left count size = left
+μ-loop s w i₀ left₀ count₀ size₀ i left count size = left
 
 loop-holds : tie.Need-loop-holds Inv-loop μ-loop
-loop-holds c = measure-start _ _ _ _ (c .before .pre .0) (c .before .pre .1)
+loop-holds c = measure-start _ _ _ _ (c .before .pre .0 .0) (c .before .pre .0 .1)
 
 rec-at-requires : tie.Need-rec-at-requires Inv-loop μ-loop
 rec-at-requires c κs = search needs
@@ -32,7 +32,7 @@ one-if-requires : tie.Need-one-if-requires Inv-loop μ-loop
 one-if-requires c κs = search needs
 
 add-count : tie.Need-add-count Inv-loop μ-loop
-add-count c = omega (arith, c .before .before .before .before .before .loop .inv .few, c .one-if .ensures .1, c .before .before .before .before .before .before .before .pre .2)
+add-count c = omega (arith, c .before .before .before .before .before .loop .inv .few, c .one-if .ensures .1, c .before .before .before .before .before .before .before .pre .1)
 
 piece-len-requires : tie.Need-piece-len-requires Inv-loop μ-loop
 piece-len-requires c κs = let e = measure-in (c .before .before .before .before .before .loop .inv) (c .before .before .before .before .loop-test .taken) (c .before .before .before .rec-at .ensures) in (e .up, e .entry .most, e .entry .few, e .entry .fewReads)
@@ -41,7 +41,7 @@ size-if-requires : tie.Need-size-if-requires Inv-loop μ-loop
 size-if-requires c κs = search needs
 
 add-size : tie.Need-add-size Inv-loop μ-loop
-add-size c = omega (arith, c .before .before .before .before .before .before .before .loop .inv .most, c .size-if .ensures .1, c .before .piece-len .ensures .1, c .before .before .before .before .before .before .before .before .before .pre .2)
+add-size c = omega (arith, c .before .before .before .before .before .before .before .loop .inv .most, c .size-if .ensures .1, c .before .piece-len .ensures .1, c .before .before .before .before .before .before .before .before .before .pre .1)
 
 after-in-requires : tie.Need-after-in-requires Inv-loop μ-loop
 after-in-requires c κs = measure-within (c .before .before .before .before .before .before .before .loop .inv) (c .before .before .before .before .before .before .loop-test .taken) (c .before .before .before .before .before .rec-at .ensures)

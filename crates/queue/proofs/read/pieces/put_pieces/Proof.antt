@@ -11,19 +11,19 @@ use Rattle.queue.proofs.layout.frame.rec_at.Reads as rec-at-reads
 use Rattle.queue.proofs.read.pieces.add_piece.Reads as add-piece-reads
 
 abbrev Inv-loop : tie.InvT-loop
-Inv-loop s from n w dst₀ at i₀ left₀ o₀ dst i left o = Writing w s n from dst₀ at i left dst o
+Inv-loop s w dst₀ at i₀ left₀ o₀ dst i left o = Writing w s left₀ i₀ dst₀ at i left dst o
 
 abbrev μ-loop : tie.MeasureT-loop
-μ-loop s from n w dst₀ at i₀ left₀ o₀ dst i left o = left
+μ-loop s w dst₀ at i₀ left₀ o₀ dst i left o = left
 
 loop-holds : tie.Need-loop-holds Inv-loop μ-loop
-loop-holds c = writing-start _ _ _ (c .before .before .pre .0) (c .before .before .pre .1)
+loop-holds c = writing-start _ _ _ (c .before .before .pre .0 .0) (c .before .before .pre .0 .1)
 
 rec-at-requires : tie.Need-rec-at-requires Inv-loop μ-loop
 rec-at-requires c κs = search needs
 
 add-piece-requires : tie.Need-add-piece-requires Inv-loop μ-loop
-add-piece-requires c κs = (writing-in (c .before .before .before .loop .inv) (c .before .before .loop-test .taken) (c .before .rec-at .ensures), writing-room (c .before .before .before .loop .inv) (c .before .before .loop-test .taken) (c .before .rec-at .ensures) (c .before .before .before .before .before .before .pre .2))
+add-piece-requires c κs = (writing-in (c .before .before .before .loop .inv) (c .before .before .loop-test .taken) (c .before .rec-at .ensures), writing-room (c .before .before .before .loop .inv) (c .before .before .loop-test .taken) (c .before .rec-at .ensures) (c .before .before .before .before .before .before .pre .1))
 
 after-in-requires : tie.Need-after-in-requires Inv-loop μ-loop
 after-in-requires c κs = writing-within (c .before .before .before .before .before .before .loop .inv) (c .before .before .before .before .before .loop-test .taken) (c .before .before .before .before .rec-at .ensures)

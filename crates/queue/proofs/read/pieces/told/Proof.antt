@@ -1,5 +1,6 @@
 -- Filled from its answers by tools/proofkit.py: change those, and fill it again.
 use Rattle.queue.proofs.bytes.PutLaws.{kept}
+use Rattle.queue.proofs.check.AreaLaws.{recs-stand}
 use Rattle.queue.proofs.read.PiecesLaws.{answer-100, answer-4, told-3}
 use borrow.Author.Needs.{needs}
 use borrow.Author.Tests.{not-false, not-true}
@@ -20,7 +21,7 @@ returns : tie.Need-returns
 returns c = told-3 (c .before .before .before .before .before .args .w) (c .before .before .before .before .before .args .area .now) (c .before .before .before .before .before .args .out .now) (c .before .before .area-at .ensures) (not-true _ (c .if1 .taken))
 
 measure-requires : tie.Need-measure-requires
-measure-requires c κs = let w = c .before .before .before .before .area-at .ensures .good (not-false _ (c .before .before .if1 .left)) .2 .store in (omega (arith, w .up, w .ends), w .all, w .head .countSmall)
+measure-requires c κs = let w = c .before .before .before .before .area-at .ensures .good (not-false _ (c .before .before .if1 .left)) .2 .store in (recs-stand w, w .head .countSmall)
 
 add-if2 : tie.Need-add-if2
 add-if2 c = let w = c .before .before .before .before .before .before .area-at .ensures .good (not-false _ (c .before .before .before .before .if1 .left)) .2 .store in omega (arith, c .before .measure .ensures .most, w .head .countSmall)
@@ -32,7 +33,7 @@ put-be-requires : tie.Need-put-be-requires
 put-be-requires c κs = omega (arith, c .before .if2 .left)
 
 put-pieces-requires : tie.Need-put-pieces-requires
-put-pieces-requires c κs = let w = c .before .before .before .before .before .before .before .before .before .before .before .before .area-at .ensures .good (not-false _ (c .before .before .before .before .before .before .before .before .before .before .if1 .left)) .2 .store in (omega (arith, w .up, w .ends), w .all, omega (arith, c .before .before .before .before .before .if2 .left, kept (c .before .before .before .put-be .ensures), c .before .before .before .put-be .ensures .next, c .before .before .before .before .before .before .before .measure .ensures .size))
+put-pieces-requires c κs = let w = c .before .before .before .before .before .before .before .before .before .before .before .before .area-at .ensures .good (not-false _ (c .before .before .before .before .before .before .before .before .before .before .if1 .left)) .2 .store in (recs-stand w, omega (arith, c .before .before .before .before .before .if2 .left, kept (c .before .before .before .put-be .ensures), c .before .before .before .put-be .ensures .next, c .before .before .before .before .before .before .before .measure .ensures .size))
 
 same-length : tie.Need-same-length
 same-length c = search needs

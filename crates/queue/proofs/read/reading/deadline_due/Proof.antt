@@ -1,4 +1,5 @@
 -- Filled from its answers by tools/proofkit.py: change those, and fill it again.
+use Rattle.queue.proofs.check.AreaLaws.{recs-stand}
 use Rattle.queue.proofs.read.ReadingLaws.{due-sum, number-100, number-3}
 use Rattle.queue.specs.paper.Changing.{due?}
 use Rattle.queue.specs.paper.Lists.{any?, one}
@@ -7,7 +8,6 @@ use borrow.Author.Needs.{needs}
 use borrow.Author.Tests.{not-false, not-true}
 use lib.Dec.{ltb}
 use mathlib.Core.Path.{_∙_, ap}
-use native.Mathlib.Omega.{arith}
 use Rattle.queue.proofs.read.reading.deadline_due.Statement.{statement}
 use Rattle.queue.proofs.read.reading.deadline_due.Tie as tie
 use Rattle.queue.proofs.read.reading.deadline_due.Reads as reads
@@ -23,7 +23,7 @@ returns : tie.Need-returns
 returns c = number-3 (λ q. one (deadlineDue? (c .before .before .before .before .args .time .0) (c .before .before .before .before .args .height .0) q)) (c .before .before .before .before .args .area .now) (c .before .before .before .before .args .value .now) (c .before .before .area-at .ensures) (not-true _ (c .if1 .taken))
 
 tally-requires : tie.Need-tally-requires
-tally-requires c κs = let w = c .before .before .before .before .area-at .ensures .good (not-false _ (c .before .before .if1 .left)) .2 .store in (omega (arith, w .up, w .ends), w .all, w .head .countSmall)
+tally-requires c κs = let w = c .before .before .before .before .area-at .ensures .good (not-false _ (c .before .before .if1 .left)) .2 .store in (recs-stand w, w .head .countSmall)
 
 one-if-requires : tie.Need-one-if-requires
 one-if-requires c κs = search needs

@@ -1,4 +1,5 @@
 -- Filled from its answers by tools/proofkit.py: change those, and fill it again.
+use Rattle.queue.proofs.check.AreaLaws.{recs-stand}
 use Rattle.queue.proofs.read.ReadingLaws.{look-0, look-13, look-3, look-5}
 use Rattle.queue.specs.bytes.ViewAs.{view-raw}
 use borrow.Author.Needs.{needs}
@@ -27,7 +28,7 @@ id-at-requires : tie.Need-id-at-requires
 id-at-requires c κs = let l = view-raw false (c .before .before .before .before .before .before .args .id .now) 0 refl in omega (arith, c .if2 .left)
 
 find-id-requires : tie.Need-find-id-requires
-find-id-requires c κs = let w = c .before .before .before .before .before .before .area-at .ensures .good (not-false _ (c .before .before .before .before .if1 .left)) .2 .store in (omega (arith, w .up, w .ends), w .all)
+find-id-requires c κs = recs-stand (c .before .before .before .before .before .before .area-at .ensures .good (not-false _ (c .before .before .before .before .if1 .left)) .2 .store)
 
 returns-3 : tie.Need-returns-3
 returns-3 c = look-13 (c .before .before .before .before .before .before .before .before .before .before .before .before .args .area .now) (c .before .before .before .before .before .before .before .before .before .before .before .before .args .id .now) (c .before .before .before .before .before .before .before .before .before .area-at .ensures) (not-false _ (c .before .before .before .before .before .before .before .if1 .left)) (c .before .before .before .before .before .before .if2 .left) (c .before .before .before .before .before .id-at .result) (c .before .before .before .before .before .id-at .ensures) (c .before .before .find-id .ensures) (not-true _ (c .if3 .taken))
