@@ -8,11 +8,11 @@ use Rattle.queue.specs.declared.layout.frame.Seen.{Seen}
 use Rattle.queue.specs.declared.check.area.Open.{Open}
 use Rattle.queue.specs.declared.check.area.Area.{Area}
 use Rattle.queue.specs.Codec as codec
-use Rattle.queue.specs.Codec.{Got, fail, got, Codec, beC, pairC, mapC, optEnc, optC, vecC, countedC, encs, decs, vec-bwd}
+use Rattle.queue.specs.Codec.{Codec, beC, pairC, mapC, optEnc, optC, vecC, countedC, encs}
 use Rattle.queue.specs.layout.Choice.{fixC, pickC, sinceC}
 use Rattle.queue.specs.layout.FrameCodec.{Head, idC, idsC, low32, narrowC, priorityC, readsEnc, signedEnc, limitsC, headK, headC, recK, recC}
-use Rattle.queue.specs.bytes.ReaderAs.{Reads, whole, listAt, behind, isGot, valOf, restOf}
-use Rattle.queue.specs.bytes.ReaderLaws.{false-true, Turn, none-left, spans-id}
+use Rattle.queue.specs.bytes.ReaderAs.{Reads, whole, listAt}
+use Rattle.queue.specs.bytes.ReaderLaws.{false-true, Turn, none-left, spans-id, values}
 use Rattle.queue.specs.bytes.ViewAs.{view, view-raw}
 use Rattle.queue.specs.Hex.{text-length}
 use Rattle.queue.specs.bytes.PutAs.{splice, beLast, Put}
@@ -493,13 +493,6 @@ module _ (from to : Form) {s : Bytes} {base : ℕ} {x : Open} {st : Store} (w : 
   store-put p q = sized (then p q) store-parts
 
 -- ---- how long an image is
-values : {A : Type 0} (𝓐 : Codec A) (n : ℕ) (s : Bytes) (at : ℕ) → whole 𝓐 n s at ≡ true → drop at s ≡ encs 𝓐 (listAt 𝓐 n s at) ++ behind 𝓐 n s at
-unfolding whole listAt behind
-values {A} 𝓐 n s at w = go (decs 𝓐 n (drop at s)) refl w
-  where
-    go : (o : Got (List A)) → decs 𝓐 n (drop at s) ≡ o → isGot o ≡ true → drop at s ≡ encs 𝓐 (valOf o) ++ restOf o
-    go fail p w = false-true w
-    go (got l r) p w = vec-bwd 𝓐 n (drop at s) l r p .0
 
 module _ {s : Bytes} {x : Open} {st : Store} (w : StoreAs areaForm s 4 x st) where
   recs-length : length (encs (formC false recC) (st .recs)) ≡ x .next - x .start

@@ -9,7 +9,6 @@ pub mod CallsCancelLaws
 pub mod CallsExpireLaws
 pub mod PlanLaws
 pub mod WritePlanLaws
-pub mod LentFindLaws
 pub mod ReopenLaws
 pub mod AdmitExitLaws
 pub mod AdmitLaws

@@ -4,3 +4,4 @@ pub mod NearLaws
 pub mod TurnLaws
 pub mod HeadLaws
 pub mod LimitsLaws
+pub mod RisingLaws

@@ -1,8 +1,9 @@
 -- Laws of bytes and text that are written from numbers and parts. Assumes nothing.
-use Rattle.queue.specs.Prelude.{_≡_, ap, sym, _∙_, List, [], _∷_, _++_, append-assoc, append-nil, ℕ, zero, suc, _+_, _-_, _*_, _/_, _%_, _^_, _≤_, _<_, arith, div-add-mod', mod-lt, div-lt-iff-lt-mul, pow-suc, add-one, length, drop, take, getD, set, length-append, length-drop, take-at, take-suc, getD-drop}
+use Rattle.queue.specs.Prelude.{_≡_, ap, sym, _∙_, List, [], _∷_, _++_, append-assoc, append-nil, ℕ, zero, suc, _+_, _-_, _*_, _/_, _%_, _^_, _≤_, _<_, arith, div-add-mod', mod-lt, div-lt-iff-lt-mul, pow-suc, add-one, length, drop, take, getD, set, length-append, length-drop, take-at, take-suc, getD-drop, refl, pow-succ', mul-assoc, mul-comm, zero-add, suc-add}
+use Rattle.queue.specs.paper.Area.{beVal}
 use Rattle.queue.specs.Codec as codec
 use Rattle.queue.specs.Codec.{Bytes, got, beDec}
-use Rattle.queue.specs.bytes.ReaderLaws.{be-snoc}
+use Rattle.queue.specs.bytes.ReaderLaws.{be-snoc, beAt}
 use Rattle.queue.specs.bytes.PutAs.{Put, beLast}
 use Rattle.queue.specs.Hex.{digOf, textOf, text-append}
 use Rattle.queue.proofs.bytes.PutLaws.{recast, snoc}
@@ -40,3 +41,29 @@ pub text-turn : (src : List ℕ) (from : ℕ) (j : ℕ) {d d′ : List ℕ} {at 
     → Put d at (textOf (take (j + 1) (drop from src))) (2 * (j + 1)) (o + 2) (set (set d′ o x) (o + 1) y)
 text-turn src from j {d} {d′} {at} {o} {x} {y} p h e f =
     recast (snoc y (snoc x p)) (append-assoc (textOf (take j (drop from src))) (x ∷ []) (y ∷ []) ∙ sym (rw (e, f) (text-more src from j h))) (omega arith) (omega arith)
+
+val-snoc : (l : Bytes) (b : ℕ) → beVal (l ++ (b ∷ [])) ≡ beVal l * 256 + b
+unfolding beVal
+val-snoc [] b = omega arith
+val-snoc (c ∷ l) b =
+    let e = val-snoc l b in
+    let n : length (l ++ (b ∷ [])) ≡ suc (length l) = length-append l (b ∷ []) ∙ omega arith in
+    let p : c * 256 ^ suc (length l) ≡ c * 256 ^ length l * 256 = ap (λ (k : ℕ). c * k) (pow-succ' 256 (length l) ∙ mul-comm 256 (256 ^ length l)) ∙ sym (mul-assoc c (256 ^ length l) 256) in
+    ap (λ (k : ℕ). c * 256 ^ k + beVal (l ++ (b ∷ []))) n ∙ omega arith
+
+pub be-val : (n : ℕ) (s : Bytes) (at : ℕ) → at + n ≤ length s → beAt n s at ≡ beVal (take n (drop at s))
+unfolding beAt beVal
+be-val zero s at h = refl
+be-val (suc n) s at h =
+    let i = be-val n s at (omega arith) in
+    let t = take-suc (drop at s) n 0 (omega (arith, length-drop at s)) in
+    sym (ap beVal t ∙ val-snoc (take n (drop at s)) (getD (drop at s) n 0) ∙ ap (λ (k : ℕ). beVal (take n (drop at s)) * 256 + k) (getD-drop at s n 0) ∙ ap (λ (k : ℕ). k * 256 + getD s (at + n) 0) (sym i))
+
+pub drop-take : (a n : ℕ) (l : Bytes) → drop a (take (a + n) l) ≡ take n (drop a l)
+drop-take zero n l = ap (λ (k : ℕ). take k l) (zero-add n)
+drop-take (suc a) n [] = ap (λ (k : ℕ). drop {A = ℕ} (suc a) (take k [])) (suc-add a n) ∙ go n
+  where
+    go : (n : ℕ) → _≡_ {A = Bytes} [] (take n [])
+    go zero = refl
+    go (suc n) = refl
+drop-take (suc a) n (x ∷ l) = ap (λ (k : ℕ). drop (suc a) (take k (x ∷ l))) (suc-add a n) ∙ drop-take a n l

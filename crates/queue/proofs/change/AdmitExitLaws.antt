@@ -1,5 +1,6 @@
 -- Admission, exit by exit. Assumes nothing.
 use Rattle.queue.specs.Prelude.{_≡_, refl, ap, sym, _∙_, Bool, true, false, cond, _&&_, _||_, Option, none, some, List, [], _∷_, ℕ, _+_, _/_, _%_, _^_, _≤_, _<_, arith, ltb, leb, eqb, length, lt-ltb, le-ltb, ltb-false, leb-true, eq-eqb, ne-eqb, eqb-true}
+use Rattle.queue.proofs.check.AreaLaws.{fit}
 use Rattle.queue.proofs.check.ReadsLaws.{nobody}
 use Rattle.queue.specs.Basics.{and-same}
 use Rattle.queue.specs.Codec.{cases, optC}
@@ -19,10 +20,9 @@ use Rattle.queue.specs.theorems.SoundParts.{Fit, fit-sound, fit-ok}
 use Rattle.queue.specs.theorems.CallsKeeps.{leaves-kept}
 use Rattle.queue.specs.theorems.AdmitKeeps.{Admissible, new-leaves}
 use Rattle.queue.specs.theorems.Arguments.{Small, AdmitLent, admission-ok}
-use Rattle.queue.specs.check.AreaAs.{AreaIs}
+use Rattle.queue.specs.check.AreaAs.{AreaIs, AreaIn}
 use Rattle.queue.specs.layout.HeadAs.{tipOf}
 use Rattle.queue.specs.change.WriteAs.{TipIs}
-use Rattle.queue.specs.change.CallsAs.{AreaIn}
 use Rattle.queue.specs.read.ReadingAs.{Here, EntryIn, entryAt, entryLen}
 use Rattle.queue.specs.read.FindAs.{SpotIn}
 use Rattle.queue.specs.change.ReopenAs.{IdsIn, idsAt}
@@ -48,7 +48,7 @@ use Rattle.queue.specs.declared.check.area.Area.{Area}
 use Rattle.queue.specs.declared.read.find.Spot.{Spot}
 use Rattle.queue.proofs.layout.TurnLaws.{ReadsRec}
 use Rattle.queue.proofs.bytes.PutLaws.{over-splice}
-use Rattle.queue.proofs.change.WriteLaws.{fit, one-queue}
+use Rattle.queue.proofs.change.WriteLaws.{one-queue}
 use Rattle.queue.proofs.read.ReadingLaws.{key, met, entry-in, entry-is, entry-size}
 use Rattle.queue.proofs.change.ReopenLaws.{ids-in, ids-are}
 use Rattle.queue.proofs.change.CallsLaws.{small-all}

@@ -3,7 +3,7 @@ use Rattle.queue.specs.Prelude.{_≡_, refl, ap, sym, _∙_, Bool, true,
 use Rattle.queue.proofs.read.ReservedStandLaws.{pieces-many}
 use Rattle.queue.specs.Basics.{join-same, join-eight, length-eight}
 use Rattle.queue.specs.layout.FrameAs.{termsAt, factsOf, limitsIn, head-P, head-B}
-use Rattle.queue.specs.check.AreaAs.{recordsOf}
+use Rattle.queue.specs.check.AreaAs.{recordsOf, AreaIn}
 use Rattle.queue.specs.Codec as codec
 use Rattle.queue.specs.Codec.{cases, encs, be-length}
 use Rattle.queue.specs.bytes.PutAs.{Put, beLast}
@@ -14,7 +14,6 @@ use Rattle.queue.specs.layout.RecordsAs.{RecordsIn}
 use Rattle.queue.specs.Areas.{readArea}
 use Rattle.queue.specs.Lists.{all-map, total-split}
 use Rattle.queue.specs.theorems.AdmitKeeps.{held-split, weight-split}
-use Rattle.queue.specs.change.CallsAs.{AreaIn}
 use Rattle.queue.specs.check.RulesAs.{weight, sum}
 use Rattle.queue.specs.bytes.ListLaws.{one-le}
 use Rattle.queue.specs.layout.HeadAs.{frontLen, tipOf, tipSize, frontBytes, queueOf}
@@ -38,8 +37,8 @@ use Rattle.queue.proofs.bytes.PutLaws.{then, recast}
 use Rattle.queue.proofs.bytes.PutByteLaws.{be-same}
 use Rattle.queue.proofs.read.FindLaws.{among-many}
 use Rattle.queue.proofs.layout.HeadLaws.{area-done}
-use Rattle.queue.proofs.check.AreaLaws.{holders-sum, bytes-sum, mined-sum, minedBytes-sum, recs-stand}
-use Rattle.queue.proofs.change.WriteLaws.{fit, one-queue, same-queue, the-limits, shares-sixteen, queue-long}
+use Rattle.queue.proofs.check.AreaLaws.{holders-sum, bytes-sum, mined-sum, minedBytes-sum, recs-stand, fit}
+use Rattle.queue.proofs.change.WriteLaws.{one-queue, same-queue, the-limits, shares-sixteen, queue-long}
 use Rattle.queue.proofs.change.ReopenLaws.{pieces-join}
 
 all-of : (s : Bytes) → take (length s) (drop 0 s) ≡ s

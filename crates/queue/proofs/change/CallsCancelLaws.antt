@@ -35,13 +35,13 @@ use Rattle.queue.specs.declared.layout.frame.Seen.{Seen}
 use Rattle.queue.specs.declared.check.area.Area.{Area}
 use Rattle.queue.specs.declared.read.find.Found.{Found}
 use Rattle.queue.specs.declared.change.finish.Change.the-variants.{Named}
-use Rattle.queue.proofs.check.AreaLaws.{recs-stand}
+use Rattle.queue.proofs.check.AreaLaws.{recs-stand, fit}
 use Rattle.queue.proofs.layout.FrameLaws.{caller-byte}
 use Rattle.queue.proofs.layout.TurnLaws.{SeenIn, ReadsRec}
 use Rattle.queue.proofs.bytes.PutLaws.{over-splice}
 use Rattle.queue.proofs.bytes.PutByteLaws.{be-same, between}
 use Rattle.queue.proofs.change.FinishLaws.{id-32}
-use Rattle.queue.proofs.change.WriteLaws.{fit, one-queue}
+use Rattle.queue.proofs.change.WriteLaws.{one-queue}
 use Rattle.queue.proofs.read.ReadingLaws.{key, met, entry-in, entry-is, entry-size}
 
 pub cancel-3 : (cur next out id : Bytes) → readArea cur ≡ none → outcome (Refused 3) next out ≡ cancelOf cur next out id

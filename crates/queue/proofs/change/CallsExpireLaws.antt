@@ -14,10 +14,10 @@ use Rattle.queue.specs.Areas.{readArea}
 use Rattle.queue.specs.theorems.Bound.{fits-need}
 use Rattle.queue.specs.theorems.SoundParts.{Fit, Right, fit-sound, fit-ok}
 use Rattle.queue.specs.theorems.CallsKeeps.{leaves-kept, pending-held, expire-leaves}
-use Rattle.queue.specs.check.AreaAs.{AreaIs, recordsOf}
+use Rattle.queue.specs.check.AreaAs.{AreaIs, recordsOf, AreaIn}
 use Rattle.queue.specs.change.FinishAs.{picked, pickedS}
 use Rattle.queue.specs.change.WriteAs.{ended, EndedFrom, EndedTo}
-use Rattle.queue.specs.change.CallsAs.{idIf, pickedIds, AreaIn, ExpireTold}
+use Rattle.queue.specs.change.CallsAs.{idIf, pickedIds, ExpireTold}
 use Rattle.queue.specs.paper.Records.{Bytes, Id, Rec}
 use Rattle.queue.specs.paper.Lists.{one, any?, filter, map, concat, count}
 use Rattle.queue.specs.paper.Sound.{need, holder?, pending?}
@@ -33,13 +33,13 @@ use Rattle.queue.specs.declared.layout.frame.Height.{Height}
 use Rattle.queue.specs.declared.check.area.Area.{Area}
 use Rattle.queue.specs.declared.change.finish.Change.{Change}
 use Rattle.queue.specs.declared.change.finish.Change.the-variants.{Due}
-use Rattle.queue.proofs.check.AreaLaws.{recs-stand}
+use Rattle.queue.proofs.check.AreaLaws.{recs-stand, fit}
 use Rattle.queue.proofs.layout.TurnLaws.{SeenIn, ReadsRec}
 use Rattle.queue.proofs.bytes.PutLaws as puts
 use Rattle.queue.proofs.bytes.PutLaws.{Left, begun, onward, kept, then, over-splice}
 use Rattle.queue.proofs.bytes.PutByteLaws.{be-same}
 use Rattle.queue.proofs.change.FinishLaws.{picked-is, raw-after, raw-within, id-32}
-use Rattle.queue.proofs.change.WriteLaws.{fit, one-queue}
+use Rattle.queue.proofs.change.WriteLaws.{one-queue}
 
 -- ---- the ids of those picked
 module _ (s : Bytes) (at n : ℕ) (c : Change) (id : Id) (to : ℕ) (d₀ : Bytes) where

@@ -1,5 +1,6 @@
 -- The changing calls and settling, exit by exit. Assumes nothing.
 use Rattle.queue.specs.Prelude.{_≡_, refl, ap, sym, _∙_, Bool, true, false, not, _&&_, _||_, none, some, [], _∷_, _++_, append-assoc, append-nil, ℕ, zero, suc, _+_, _-_, _^_, _≤_, _<_, arith, ltb, leb, eqb, length, drop, take, replicate, length-append, take-at, drop-at, lt-ltb, le-ltb, lt-leb, eq-eqb, ne-eqb, eqb-true, eqb-false}
+use Rattle.queue.proofs.check.AreaLaws.{fit}
 use Rattle.queue.specs.Codec as codec
 use Rattle.queue.specs.Codec.{cases, All, be-length, optC, encs, vecC, byteC}
 use Rattle.queue.specs.Lists.{and-true}
@@ -34,7 +35,7 @@ use Rattle.queue.proofs.bytes.PutLaws.{nothing, recast, over-splice}
 use Rattle.queue.proofs.bytes.PutByteLaws.{be-same}
 use Rattle.queue.proofs.layout.HeadLaws.{area-done}
 use Rattle.queue.proofs.layout.LimitsLaws.{sixteen, zeros-fit}
-use Rattle.queue.proofs.change.WriteLaws.{fit, long-need}
+use Rattle.queue.proofs.change.WriteLaws.{long-need}
 use Rattle.queue.proofs.read.ReadingLaws.{key}
 
 -- ---- a fresh queue

@@ -1,6 +1,6 @@
 -- Finishing and forgetting: what stays, by the floor, and the loop that counts. Assumes nothing.
-use Rattle.queue.specs.Prelude.{_≡_, refl, ap, sym, _∙_, Bool, true, false, cond, _&&_, _||_, Option, none, some, _⊎_, ⊎-elim, List, [], _∷_, _++_, append-assoc, ℕ, _+_, _-_, _≤_, _<_, arith, zero-add, ltb, leb, length, drop, drop-drop, drop-at, lt-ltb, le-ltb, ltb-true, ltb-false, le-leb}
-use Rattle.queue.specs.Codec.{cases, All, pairC, mapC, encs, vecC}
+use Rattle.queue.specs.Prelude.{_≡_, refl, ap, sym, _∙_, Bool, true, false, cond, _&&_, _||_, Option, none, some, _⊎_, ⊎-elim, List, [], _∷_, _++_, ℕ, _+_, _-_, _≤_, _<_, arith, zero-add, ltb, leb, length, drop, drop-drop, drop-at, lt-ltb, le-ltb, ltb-true, ltb-false, le-leb}
+use Rattle.queue.specs.Codec.{cases, All, pairC, mapC, vecC}
 use Rattle.queue.specs.layout.FrameCodec.{idC, recK, recC}
 use Rattle.queue.specs.bytes.ReaderAs.{listAt}
 use Rattle.queue.specs.layout.FormsCodec.{formC, afterIn}
@@ -10,14 +10,14 @@ use Rattle.queue.specs.paper.Records.{Bytes, Id, Rec}
 use Rattle.queue.specs.paper.Lists.{one, count, filter}
 use Rattle.queue.specs.paper.Sound.{holder?, tombstones}
 use Rattle.queue.specs.paper.Changing.{due?, reached?, finished, finishThose, higher, forget}
-use Rattle.queue.specs.change.FinishAs.{picked, pickedS, Floors, above}
+use Rattle.queue.specs.change.FinishAs.{picked, pickedS, Floors}
 use Rattle.queue.specs.change.PlanAs.{stayR}
 use Rattle.queue.specs.declared.layout.frame.Seen.{Seen}
 use Rattle.queue.specs.declared.check.rules.Query.the-variants.{Tombstones}
 use Rattle.queue.specs.declared.change.finish.Change.{Change}
 use Rattle.queue.specs.declared.change.finish.Change.the-variants.{Named, Due}
 use Rattle.queue.proofs.layout.TurnLaws.{Scan, on, end, SeenIn, ReadsRec, seen, see}
-use Rattle.queue.specs.check.NumbersAs.{newAbove}
+use Rattle.queue.specs.check.NumbersAs.{newAbove, above}
 
 -- ---- a record that was read is picked as the record is
 reached-is : (o : Option ℕ) (n : ℕ) → reached? o n ≡ (Rattle.queue.specs.paper.Lists.isSome o && leb (Rattle.queue.specs.layout.FrameAs.optNum o) n)
@@ -163,11 +163,6 @@ module _ (c : Change) (id : Id) {s : Bytes} {n at i left acc : ℕ} (x : Scan (f
 -- ---- bytes
 pub cut-one : (v x y : Bytes) (k : ℕ) → drop k v ≡ x ++ y → length x ≡ 1 → drop (k + 1) v ≡ y
 cut-one v x y k e h = sym (drop-drop 1 k v) ∙ ap (drop 1) e ∙ drop-at x y 1 h
-
-pub encs-append : (a b : List Rec) → encs recC (a ++ b) ≡ encs recC a ++ encs recC b
-unfolding encs
-encs-append [] b = refl
-encs-append (r ∷ a) b = rw (encs-append a b) (sym (append-assoc (recC .enc r) (encs recC a) (encs recC b)))
 
 pub id-32 : (r : Rec) → recC .ok r → length (r .id) ≡ 32
 unfolding recK mapC pairC idC vecC

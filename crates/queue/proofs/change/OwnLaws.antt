@@ -1,6 +1,6 @@
 -- Which inputs are owned: the flags, the rows, and the loops over them. Assumes nothing.
-use Rattle.queue.specs.Prelude.{_≡_, refl, ap, sym, _∙_, Bool, true, false, cond, _&&_, _||_, List, [], _∷_, _++_, append-assoc, ℕ, zero, suc, _+_, _-_, _≤_, _<_, arith, add-one, ltb, eqb, length, take, drop, getD, set, length-append, length-drop, drop-cons, drop-drop, take-suc-set, take-all, take-append-seam, drop-append-seam, eq-eqb, ne-eqb, eqb-true}
-use Rattle.queue.specs.Basics.{and-same, cons-same, or-assoc, or-more, any-count, any-append, among-append}
+use Rattle.queue.specs.Prelude.{_≡_, refl, ap, sym, _∙_, Bool, true, false, cond, _&&_, _||_, List, [], _∷_, _++_, append-assoc, ℕ, zero, suc, _+_, _-_, _≤_, _<_, arith, add-one, eqb, length, take, drop, getD, set, length-append, length-drop, drop-cons, drop-drop, take-suc-set, take-all, take-append-seam, drop-append-seam, eq-eqb, ne-eqb, eqb-true}
+use Rattle.queue.specs.Basics.{and-same, cons-same, or-assoc, or-more, any-append, among-append}
 use Rattle.queue.specs.Codec.{cases}
 use Rattle.queue.specs.Lists.{and-true}
 use Rattle.queue.specs.layout.FrameCodec.{recC, idC}
@@ -24,7 +24,7 @@ use Rattle.queue.specs.declared.layout.frame.Seen.{Seen}
 use Rattle.queue.proofs.layout.TurnLaws.{Scan, start, here, on, end, SeenIn, ReadsRec, see}
 use Rattle.queue.proofs.check.ScanLaws.{nothingF}
 use Rattle.queue.proofs.check.FilterLaws.{mark-size, mark-here, mark-old}
-use Rattle.queue.proofs.check.SuspectsLaws.{id-bytes}
+use Rattle.queue.proofs.check.SuspectsLaws.{id-bytes, shuffled-any}
 use Rattle.queue.proofs.change.TouchLaws.{outF, out-turn, wanted-is}
 
 -- ---- flags by place
@@ -74,9 +74,6 @@ flags-same c d l f h g = record { more = g .more; is = g .is ∙ ap (λ k. k ++ 
     go (z ∷ l) h = cons-same (ap one (h z (rw (same-self z)))) (go l (λ y e. h y (rw e (or-true (same? y z)))))
 
 -- ---- rows shuffled
-
-pub shuffled-any : (p : ℕ → Bool) {v w : List ℕ} → Shuffled v w → any? p w ≡ any? p v
-shuffled-any p {v} {w} s = any-count p w ∙ ap (ltb 0) (s .same (λ a. one (p a))) ∙ sym (any-count p v)
 
 -- ---- covering
 module _ (s : Bytes) (l : List Id) where

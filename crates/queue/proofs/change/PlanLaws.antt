@@ -1,5 +1,7 @@
 -- The rows of a plan: in one number, gathered over the records, and applied. Assumes nothing.
 use Rattle.queue.specs.Prelude.{_≡_, refl, ap, sym, _∙_, Bool, true, false, cond, not, _&&_, _||_, ⊎-elim, inl, inr, List, [], _∷_, _++_, append-assoc, append-nil, ℕ, _+_, _-_, _*_, _/_, _%_, _^_, _≤_, _<_, arith, add-one, leb, eqb, length, take, getD, set, length-append, length-set, take-suc-set, eq-eqb, ne-eqb, eqb-true}
+use Rattle.queue.proofs.check.AreaLaws.{fit, recs-here}
+use Rattle.queue.specs.check.AreaAs.{AreaIn}
 use Rattle.queue.specs.Codec.{All, cases, encs}
 use Rattle.queue.specs.Lists.{and-true}
 use Rattle.queue.specs.layout.FrameCodec.{recC}
@@ -8,7 +10,6 @@ use Rattle.queue.specs.bytes.ReaderLaws.{Turn, none-left}
 use Rattle.queue.specs.layout.FormsCodec.{formC, turn-in}
 use Rattle.queue.specs.layout.FrameAs.{factsOf}
 use Rattle.queue.specs.theorems.Plain.{rec-plain}
-use Rattle.queue.specs.change.CallsAs.{AreaIn}
 use Rattle.queue.specs.read.FindAs.{recsIn}
 use Rattle.queue.specs.change.TouchAs.{asTouched, verdictOf}
 use Rattle.queue.specs.change.RanksAs.{numbered}
@@ -24,7 +25,6 @@ use Rattle.queue.specs.declared.change.plan.Row.{Row}
 use Rattle.queue.specs.declared.change.touch.Verdict.{Verdict}
 use Rattle.queue.proofs.layout.TurnLaws.{SeenIn, ReadsRec}
 use Rattle.queue.proofs.change.FinishLaws.{raw-after}
-use Rattle.queue.proofs.change.WriteLaws.{fit, recs-here}
 
 -- ---- a row in one number
 abbrev pub row : ℕ → ℕ → ℕ → ℕ → Row

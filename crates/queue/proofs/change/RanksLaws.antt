@@ -1,5 +1,6 @@
 -- The rank of a released record, by rows in the order of their ids. Assumes nothing.
 use Rattle.queue.specs.Prelude.{_≡_, refl, ap, sym, _∙_, Bool, true, false, _&&_, List, [], _∷_, ℕ, zero, suc, _+_, _≤_, _<_, arith, ltb, eqb, length, getD, set, take, getD-set-same, getD-set-other, drop-drop, eq-eqb, ne-eqb, eqb-true, eqb-false, ltb-true, ltb-false, lt-ltb}
+use Rattle.queue.proofs.check.SuspectsLaws.{shuffled-any}
 use Rattle.queue.specs.Codec.{cases}
 use Rattle.queue.specs.Lists.{and-true}
 use Rattle.queue.specs.bytes.OrderLaws.{cmp-self, same-is, or-true, or-false}
@@ -14,7 +15,6 @@ use Rattle.queue.specs.paper.Ids.{cmpL, same?}
 use Rattle.queue.specs.paper.Lists.{any?, map}
 use Rattle.queue.specs.paper.Changing.{placeIn}
 use Rattle.queue.proofs.check.SuspectsRowLaws.{up-by, later-no, rising, any-some, look-none, look-here}
-use Rattle.queue.proofs.change.OwnLaws.{shuffled-any}
 
 -- ---- the rows, one after the other
 abbrev pub RowsTo : Bytes → List ℕ → List ℕ → ℕ → Type 0

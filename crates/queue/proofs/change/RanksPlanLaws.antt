@@ -1,5 +1,6 @@
 -- The ranks of the released, and the rows of a reconciliation. Assumes nothing.
 use Rattle.queue.specs.Prelude.{_≡_, refl, ap, sym, _∙_, Bool, true, false, cond, not, _||_, List, [], _∷_, _++_, ℕ, zero, suc, _+_, _-_, _%_, _≤_, _<_, arith, add-one, leb, eqb, length, take, drop, getD, drop-of-length-le, drop-cons, eq-eqb, ne-eqb, eqb-false}
+use Rattle.queue.specs.check.AreaAs.{AreaIn}
 use Rattle.queue.specs.bytes.ListLaws.{map-length}
 use Rattle.queue.specs.Codec.{All, cases}
 use Rattle.queue.specs.layout.FrameCodec.{recC}
@@ -9,7 +10,6 @@ use Rattle.queue.specs.bytes.ReaderAs.{listAt}
 use Rattle.queue.specs.bytes.ReaderLaws.{none-left}
 use Rattle.queue.specs.layout.FormsCodec.{formC}
 use Rattle.queue.specs.layout.FrameAs.{factsOf}
-use Rattle.queue.specs.change.CallsAs.{AreaIn}
 use Rattle.queue.specs.read.SelectAs.{idAt}
 use Rattle.queue.specs.change.TouchAs.{asTouched, verdictOf, InEntry}
 use Rattle.queue.specs.change.ReleaseAs.{nextV, nextL}

@@ -1,5 +1,7 @@
 -- Reconciliation, exit by exit. Assumes nothing.
 use Rattle.queue.specs.Prelude.{_≡_, refl, ap, sym, _∙_, Bool, true, false, cond, not, _||_, none, some, _⊎_, List, [], _∷_, ℕ, _+_, _-_, _*_, _/_, _%_, _^_, _≤_, _<_, min, arith, mod-lt, min-eq-left, min-eq-right, min-le-left, ltb, leb, eqb, length, take, length-append, length-take, length-take-le, lt-ltb, le-ltb, ltb-false}
+use Rattle.queue.proofs.check.AreaLaws.{fit}
+use Rattle.queue.specs.check.NumbersAs.{above}
 use Rattle.queue.specs.Basics.{join-same, or-same, cons-same}
 use Rattle.queue.specs.layout.FrameAs.{head-P, head-B, head-T}
 use Rattle.queue.specs.Codec as codec
@@ -18,10 +20,8 @@ use Rattle.queue.specs.bytes.OrderLaws.{or-false}
 use Rattle.queue.specs.theorems.SoundParts.{Fit, fit-sound, fit-ok, Before}
 use Rattle.queue.specs.theorems.CallsKeeps.{Alike, alike-rising, leaves-kept, moved-fit}
 use Rattle.queue.specs.theorems.ReconcileKeeps.{touched-alike, reconcile-leaves, released-all, released}
-use Rattle.queue.specs.check.AreaAs.{limits, AreaIs, recordsOf}
+use Rattle.queue.specs.check.AreaAs.{limits, AreaIs, recordsOf, AreaIn}
 use Rattle.queue.specs.check.RulesAs.{sum}
-use Rattle.queue.specs.change.FinishAs.{above}
-use Rattle.queue.specs.change.CallsAs.{AreaIn}
 use Rattle.queue.specs.change.WriteAs.{MovedFrom, MovedTo}
 use Rattle.queue.specs.theorems.Arguments.{reconciling-ok}
 use Rattle.queue.specs.change.LentAs.{ReconcileAsked}
@@ -51,7 +51,7 @@ use Rattle.queue.specs.declared.layout.head.Marks.{Marks}
 use Rattle.queue.specs.declared.check.rules.Query.the-variants.{Tombstones}
 use Rattle.queue.proofs.bytes.PutLaws.{then, recast, kept, over-splice}
 use Rattle.queue.proofs.bytes.PutByteLaws.{be-same}
-use Rattle.queue.proofs.change.WriteLaws.{fit, one-queue, same-queue, the-limits}
+use Rattle.queue.proofs.change.WriteLaws.{one-queue, same-queue, the-limits}
 use Rattle.queue.proofs.read.ReadingLaws.{key}
 use Rattle.queue.proofs.read.SelectLaws.{rows-places, rows-take, even-to, ids-size}
 use Rattle.queue.proofs.change.ReleaseLaws.{sort-mined, mined-placed, walk-ids, walk-columns}

@@ -8,7 +8,6 @@ use Rattle.queue.specs.bytes.ReaderLaws.{false-true}
 use Rattle.queue.specs.theorems.SoundParts.{Before}
 use Rattle.queue.specs.check.RulesAs.{weight, sum, aboveF}
 use Rattle.queue.specs.layout.FrameAs.{factsOf}
-use Rattle.queue.specs.change.FinishAs.{above}
 use Rattle.queue.specs.paper.Decisions.{minedHolder?}
 use Rattle.queue.specs.theorems.ReconcileKeeps.{Diff, diff-sym, rising-diff, walk-other, filter-differs}
 use Rattle.queue.specs.paper.Records.{Id, Limits, Rec}
@@ -18,7 +17,7 @@ use Rattle.queue.specs.paper.Sound.{holder?, mined?, content, tombstones
 use Rattle.queue.specs.paper.Changing.{finished, higher, minedHeight, newer?, releases, onePast, placeIn, releaseOne, trimmed}
 use Rattle.queue.specs.declared.check.rules.Query.the-variants.{Tombstones}
 use Rattle.queue.proofs.change.FinishLaws.{floors-of, forget-floor, new-none, new-one, zero-leb}
-use Rattle.queue.specs.check.NumbersAs.{newAbove}
+use Rattle.queue.specs.check.NumbersAs.{newAbove, above}
 
 -- ---- the numbers given
 -- what the number of the k-th released counts for, with the numbers after c: nothing at 0; and the sum of n of them

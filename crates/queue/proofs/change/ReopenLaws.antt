@@ -1,5 +1,6 @@
 -- Reopening: lent ids, the listed, their rows, and the call exit by exit. Assumes nothing.
 use Rattle.queue.specs.Prelude.{_≡_, refl, ap, sym, _∙_, Bool, true, false, cond, not, _&&_, none, some, List, [], _∷_, _++_, append-nil, ℕ, zero, suc, _+_, _-_, _*_, _/_, _%_, _^_, _≤_, _<_, arith, add-zero, mod-lt, div-add-mod', ltb, eqb, length, drop, take, length-drop, take-append-drop, lt-ltb, le-ltb, eq-eqb, ne-eqb}
+use Rattle.queue.proofs.check.AreaLaws.{fit}
 use Rattle.queue.specs.Codec.{got, cases, encs, decs, vec-fwd}
 use Rattle.queue.specs.layout.FrameCodec.{idC, recC}
 use Rattle.queue.specs.bytes.ViewAs.{view}
@@ -13,10 +14,9 @@ use Rattle.queue.specs.theorems.SoundParts.{Fit, fit-sound, fit-ok}
 use Rattle.queue.specs.theorems.CallsKeeps.{leaves-kept, reopen-leaves}
 use Rattle.queue.specs.theorems.Plain.{ids-plain}
 use Rattle.queue.specs.layout.FrameAs.{factsOf, SeenAs}
-use Rattle.queue.specs.check.AreaAs.{AreaIs}
+use Rattle.queue.specs.check.AreaAs.{AreaIs, AreaIn}
 use Rattle.queue.specs.theorems.Arguments.{Small, items-ok, ids-ok}
 use Rattle.queue.specs.change.WriteAs.{TipIs, marksAfter}
-use Rattle.queue.specs.change.CallsAs.{AreaIn}
 use Rattle.queue.specs.read.FindAs.{recsIn}
 use Rattle.queue.specs.change.PlanAs.{Packs, RowAdded, made, plannedQ, PlanFor, Planned}
 use Rattle.queue.specs.change.ReopenAs.{IdsIn, idsAt, listedS, again, againQ, AgainFrom, AgainTo, ReopenTold}
@@ -35,7 +35,7 @@ use Rattle.queue.specs.declared.layout.frame.Facts.{Facts}
 use Rattle.queue.specs.declared.check.area.Area.{Area}
 use Rattle.queue.proofs.layout.TurnLaws.{Scan, start, here, on, stop, end, ReadsRec, seen, see}
 use Rattle.queue.proofs.change.FinishLaws.{raw-after}
-use Rattle.queue.proofs.change.WriteLaws.{fit, one-queue, same-queue, the-limits, tip-of}
+use Rattle.queue.proofs.change.WriteLaws.{one-queue, same-queue, the-limits, tip-of}
 use Rattle.queue.proofs.change.CallsLaws.{small-all}
 use Rattle.queue.proofs.change.PlanLaws.{row, made-same, made-again, visit-turn, PlanLoop, plan-loop, plan-next, plan-close}
 

@@ -1,5 +1,5 @@
 -- What a reconciliation makes of one record. Assumes nothing.
-use Rattle.queue.specs.Prelude.{_≡_, refl, ap, sym, _∙_, Bool, true, false, cond, _&&_, _||_, Option, none, some, List, [], _∷_, _++_, append-assoc, append-nil, ℕ, zero, suc, _+_, _-_, _*_, _/_, _%_, _^_, _≤_, _<_, arith, pow-succ', mul-assoc, mul-comm, zero-add, suc-add, le-of-suc-le-suc, add-one, eqb, digits-div, digits-mod, length, take, drop, getD, set, length-append, length-drop, length-set, take-take, take-suc, take-suc-set, drop-drop, getD-drop, drop-append-seam, take-append-seam, eq-eqb, ne-eqb, eqb-true, eqb-false}
+use Rattle.queue.specs.Prelude.{_≡_, refl, ap, sym, _∙_, Bool, true, false, cond, _&&_, _||_, Option, none, some, List, [], _∷_, _++_, append-assoc, append-nil, ℕ, zero, suc, _+_, _-_, _*_, _/_, _%_, _≤_, _<_, arith, le-of-suc-le-suc, add-one, eqb, digits-div, digits-mod, length, take, drop, getD, set, length-append, length-set, take-take, take-suc-set, drop-drop, drop-append-seam, take-append-seam, eq-eqb, ne-eqb, eqb-true, eqb-false}
 use Rattle.queue.specs.Basics.{join-same, or-same, and-same, among-append}
 use Rattle.queue.specs.Codec as codec
 use Rattle.queue.specs.Codec.{All, cases, be-length, optC, pairC, vecC}
@@ -30,35 +30,10 @@ use Rattle.queue.specs.declared.change.touch.Verdict.{Verdict}
 use Rattle.queue.proofs.layout.TurnLaws.{Scan, start, here, on, stop, end, ReadsRec, seen}
 use Rattle.queue.specs.bytes.OrderLaws.{cmp-flip, same-sym, below-not-same, or-false}
 use Rattle.queue.proofs.check.ScanLaws.{nothingF}
-use Rattle.queue.proofs.bytes.PutByteLaws.{between}
-use Rattle.queue.proofs.change.LentFindLaws.{Finding, find-end, at-low, at-high, rest-rises, rising-at}
+use Rattle.queue.proofs.bytes.PutByteLaws.{between, be-val, drop-take}
+use Rattle.queue.proofs.layout.RisingLaws.{Finding, find-end, at-low, at-high, rest-rises, rising-at}
 
 -- ---- numbers and parts of an applied entry
-val-snoc : (l : Bytes) (b : ℕ) → beVal (l ++ (b ∷ [])) ≡ beVal l * 256 + b
-unfolding beVal
-val-snoc [] b = omega arith
-val-snoc (c ∷ l) b =
-    let e = val-snoc l b in
-    let n : length (l ++ (b ∷ [])) ≡ suc (length l) = length-append l (b ∷ []) ∙ omega arith in
-    let p : c * 256 ^ suc (length l) ≡ c * 256 ^ length l * 256 = ap (λ (k : ℕ). c * k) (pow-succ' 256 (length l) ∙ mul-comm 256 (256 ^ length l)) ∙ sym (mul-assoc c (256 ^ length l) 256) in
-    ap (λ (k : ℕ). c * 256 ^ k + beVal (l ++ (b ∷ []))) n ∙ omega arith
-
-pub be-val : (n : ℕ) (s : Bytes) (at : ℕ) → at + n ≤ length s → beAt n s at ≡ beVal (take n (drop at s))
-unfolding beAt beVal
-be-val zero s at h = refl
-be-val (suc n) s at h =
-    let i = be-val n s at (omega arith) in
-    let t = take-suc (drop at s) n 0 (omega (arith, length-drop at s)) in
-    sym (ap beVal t ∙ val-snoc (take n (drop at s)) (getD (drop at s) n 0) ∙ ap (λ (k : ℕ). beVal (take n (drop at s)) * 256 + k) (getD-drop at s n 0) ∙ ap (λ (k : ℕ). k * 256 + getD s (at + n) 0) (sym i))
-
-pub drop-take : (a n : ℕ) (l : Bytes) → drop a (take (a + n) l) ≡ take n (drop a l)
-drop-take zero n l = ap (λ (k : ℕ). take k l) (zero-add n)
-drop-take (suc a) n [] = ap (λ (k : ℕ). drop {A = ℕ} (suc a) (take k [])) (suc-add a n) ∙ go n
-  where
-    go : (n : ℕ) → _≡_ {A = Bytes} [] (take n [])
-    go zero = refl
-    go (suc n) = refl
-drop-take (suc a) n (x ∷ l) = ap (λ (k : ℕ). drop (suc a) (take k (x ∷ l))) (suc-add a n) ∙ drop-take a n l
 
 module _ (t : Bytes) (p : ℕ) where
   pub entry-height : p + 68 ≤ length t → entryIn t p .height ≡ beAt 4 (view false t 0) (p + 32)

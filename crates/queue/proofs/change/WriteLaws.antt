@@ -1,20 +1,19 @@
 -- Whole areas written from an area. Assumes nothing.
-use Rattle.queue.specs.Prelude.{_≡_, refl, ap, sym, _∙_, Bool, true, false, Option, none, some, List, [], _∷_, _++_, append-assoc, ℕ, _+_, _-_, _≤_, _<_, arith, leb, length, drop, take, length-append, length-drop, drop-drop, take-at, drop-at, leb-true}
+use Rattle.queue.specs.Prelude.{_≡_, refl, ap, sym, _∙_, Bool, true, false, Option, none, some, List, [], _∷_, _++_, append-assoc, ℕ, _+_, _≤_, _<_, arith, leb, length, drop, take, length-append, length-drop, drop-drop, take-at, drop-at, leb-true}
 use Rattle.queue.specs.Basics.{length-eight}
 use Rattle.queue.specs.Codec as codec
-use Rattle.queue.specs.Codec.{Got, fail, got, Codec, All, beC, be-length, optC, optEnc, encs, decs, vec-bwd, vecC}
+use Rattle.queue.specs.Codec.{All, beC, be-length, optC, optEnc, encs, vecC}
 use Rattle.queue.specs.Lists.{and-true}
 use Rattle.queue.specs.bytes.Parts.{part}
 use Rattle.queue.specs.layout.FrameCodec.{Head, idC, limitsC, recC}
-use Rattle.queue.specs.bytes.ReaderAs.{whole, listAt, behind, isGot, valOf, restOf}
 use Rattle.queue.specs.bytes.ReaderLaws.{false-true}
-use Rattle.queue.specs.layout.FormsCodec.{formC, form-raw, queueC, storeOf, headFor}
+use Rattle.queue.specs.layout.FormsCodec.{formC, queueC, storeOf, headFor}
 use Rattle.queue.specs.layout.RecordsAs.{RecordsIn}
 use Rattle.queue.specs.read.FindAs.{recsIn}
 use Rattle.queue.specs.Areas.{readArea}
 use Rattle.queue.specs.layout.FrameAs.{limitsIn, HeadAs, head-T}
 use Rattle.queue.specs.check.AreaAs.{AreaAs, recordsOf}
-use Rattle.queue.specs.theorems.SoundParts.{Fit, fit-of, Right}
+use Rattle.queue.specs.theorems.SoundParts.{Right}
 use Rattle.queue.specs.layout.HeadAs.{frontLen, tipOf, tipSize, headWith, frontBytes, queueOf}
 use Rattle.queue.specs.layout.LimitsAs.{shares-long}
 use Rattle.queue.specs.change.WriteAs.{HeadIn, TipIs}
@@ -27,8 +26,7 @@ use Rattle.queue.specs.paper.Kinds.{newest}
 use Rattle.queue.specs.declared.layout.frame.HeadR.{HeadR}
 use Rattle.queue.specs.declared.check.area.Area.{Area}
 use Rattle.queue.specs.declared.layout.head.Marks.{Marks}
-use Rattle.queue.proofs.check.AreaLaws.{recs-stand}
-use Rattle.queue.proofs.bytes.PutByteLaws.{between}
+use Rattle.queue.proofs.check.AreaLaws.{recs-stand, fit}
 use Rattle.queue.proofs.layout.LimitsLaws.{sixteen}
 use Rattle.queue.proofs.layout.HeadLaws.{head-enc, front-enc}
 
@@ -77,40 +75,23 @@ module _ (v : Bytes) (x : Head) (h : HeadR) (w : HeadAs v h x) where
       go (some i) e = false-true (sym t ∙ sym (w .tip) ∙ ap isSome e)
 
 -- ---- the records as they stand
-pub values : {A : Type 0} (𝓐 : Codec A) (n : ℕ) (s : Bytes) (at : ℕ) → whole 𝓐 n s at ≡ true → drop at s ≡ encs 𝓐 (listAt 𝓐 n s at) ++ behind 𝓐 n s at
-unfolding whole listAt behind
-values {A} 𝓐 n s at w = go (decs 𝓐 n (drop at s)) refl w
-  where
-    go : (o : Got (List A)) → decs 𝓐 n (drop at s) ≡ o → isGot o ≡ true → drop at s ≡ encs 𝓐 (valOf o) ++ restOf o
-    go fail p w = false-true w
-    go (got l r) p w = vec-bwd 𝓐 n (drop at s) l r p .0
 
 module _ {s : Bytes} {a : Area} {q : Queue} (w : AreaAs s a q) where
-  pub recs-here : (take (a .open .next - a .open .start) (drop (a .open .start) s) ≡ encs recC (q .recs)) × (length (encs recC (q .recs)) ≡ a .open .next - a .open .start)
-  recs-here =
-      let st = w .store in
-      let e : drop (a .open .start) s ≡ encs recC (q .recs) ++ drop (a .open .next) s =
-      values (formC false recC) (a .open .head .count) s (a .open .start) (st .all) ∙ rw (st .list, ← (st .end), form-raw recC) in
-      between s (encs recC (q .recs)) (a .open .start) (a .open .next) e (st .up) (st .ends)
-
   pub the-limits : q .limits ≡ limitsIn (a .open .head .limits)
   the-limits = sym (w .store .head .lim)
 
   pub shares-sixteen : length (numbers (a .open .head .limits .shares)) ≡ 16
   shares-sixteen = sixteen (a .open .head .limits .shares) (w .store .head .fit .long)
 
-  pub fit : Fit q
-  fit = fit-of q (w .sound) (w .range)
-
   pub long-need : 512 ≤ a .need
   unfolding need
   long-need = omega (arith, w .need)
 
   pub head-in : HeadIn s (a .open .head)
-  head-in = (headFor (storeOf q), w .store .head, fit .tip)
+  head-in = (headFor (storeOf q), w .store .head, fit w .tip)
 
   pub tip-of : (r : Id) → TipIs s (a .open .head) r → tipOf (a .open .head .tip) r ≡ q .tip
-  tip-of r t = t (headFor (storeOf q)) (w .store .head) (fit .tip)
+  tip-of r t = t (headFor (storeOf q)) (w .store .head) (fit w .tip)
 
 -- how long a queue's bytes are
 tip-long : (has : Bool) (tip : Id) → length tip ≡ 32 → length (optC idC .enc (tipOf has tip)) ≡ tipSize has

@@ -22,9 +22,8 @@ use Rattle.queue.specs.declared.change.touch.Verdict.{Verdict}
 use Rattle.queue.proofs.layout.FrameLaws.{caller-byte}
 use Rattle.queue.proofs.layout.TurnLaws.{SeenIn}
 use Rattle.queue.proofs.bytes.PutLaws.{then, recast, nothing, length-be}
-use Rattle.queue.proofs.bytes.PutByteLaws.{be-same, between}
+use Rattle.queue.proofs.bytes.PutByteLaws.{be-same, between, be-val, drop-take}
 use Rattle.queue.proofs.change.FinishLaws.{cut-one, id-long, raw-within}
-use Rattle.queue.proofs.change.TouchLaws.{be-val, drop-take}
 
 -- ---- state, reason and mark
 pub state-small : (f : Facts) → stateF f < 256

@@ -1,5 +1,8 @@
 -- An area written from an area and the rows of a plan: the loop over the rows, and the whole area. Assumes nothing.
 use Rattle.queue.specs.Prelude.{_≡_, refl, ap, sym, _∙_, Bool, true, false, cond, not, _||_, some, _⊎_, List, [], _∷_, _++_, append-nil, ℕ, _+_, _-_, _%_, _^_, _≤_, _<_, arith, add-zero, mod-lt, add-one, ltb, leb, eqb, length, take, drop, getD, replicate, length-append, length-drop, take-append-drop, drop-of-length-le, drop-cons, drop-drop, eq-eqb, ne-eqb}
+use Rattle.queue.proofs.check.AreaLaws.{fit, recs-here}
+use Rattle.queue.specs.check.AreaAs.{AreaIn}
+use Rattle.queue.specs.check.NumbersAs.{above}
 use Rattle.queue.specs.Basics.{join-same, join-four, drop-past}
 use Rattle.queue.specs.Codec.{All, cases, encs, got}
 use Rattle.queue.specs.bytes.PutAs.{Put}
@@ -12,10 +15,9 @@ use Rattle.queue.specs.layout.FrameAs.{factsOf, limitsIn, head-T}
 use Rattle.queue.specs.layout.HeadAs.{frontLen, tipOf, tipSize, frontBytes}
 use Rattle.queue.specs.theorems.Arguments.{Small}
 use Rattle.queue.specs.check.RulesAs.{sum}
-use Rattle.queue.specs.change.CallsAs.{AreaIn}
 use Rattle.queue.specs.read.ReadingAs.{Here}
 use Rattle.queue.specs.read.FindAs.{recsIn}
-use Rattle.queue.specs.change.FinishAs.{picked, pickedS, endWhat, endState, endReason, above}
+use Rattle.queue.specs.change.FinishAs.{picked, pickedS, endWhat, endState, endReason}
 use Rattle.queue.specs.change.WriteAs.{TipIs, MovedFrom, marksAfter, ended, EndedFrom}
 use Rattle.queue.specs.change.PlanAs.{rowOf, Packs, RowAdded, numberN, verdictIn, made, RowFit, edited, RowsAt, rowMade, RowFits, plannedIn, RowsIn, plannedQ, PlanFor, Planned, stepN, stayF, stayR, endedL}
 use Rattle.queue.specs.paper.Records.{Bytes, Id, Limits, Rec, Queue}
@@ -33,14 +35,14 @@ use Rattle.queue.specs.declared.layout.head.Marks.{Marks}
 use Rattle.queue.specs.declared.change.plan.Row.{Row}
 use Rattle.queue.specs.declared.check.rules.Query.the-variants.{Tombstones}
 use Rattle.queue.specs.declared.change.touch.Verdict.{Verdict}
-use Rattle.queue.proofs.layout.TurnLaws.{SeenIn, ReadsRec}
+use Rattle.queue.proofs.layout.TurnLaws.{SeenIn, ReadsRec, encs-append}
 use Rattle.queue.proofs.bytes.PutLaws as puts
 use Rattle.queue.proofs.bytes.PutLaws.{recast, kept, Left, begun, onward}
 use Rattle.queue.proofs.bytes.PutByteLaws.{between}
 use Rattle.queue.proofs.layout.HeadLaws.{area-done}
-use Rattle.queue.proofs.change.FinishLaws.{encs-append, picked-is, Picks, forget-floor, floors}
+use Rattle.queue.proofs.change.FinishLaws.{picked-is, Picks, forget-floor, floors}
 use Rattle.queue.proofs.read.ReadingLaws.{one-here, met}
-use Rattle.queue.proofs.change.WriteLaws.{fit, recs-here, the-limits, shares-sixteen, queue-long, same-queue, one-queue, tip-of}
+use Rattle.queue.proofs.change.WriteLaws.{the-limits, shares-sixteen, queue-long, same-queue, one-queue, tip-of}
 use Rattle.queue.proofs.change.WriteNextLaws.{step-is}
 use Rattle.queue.proofs.change.PlanLaws.{row, made-same, made-out, made-cancelled, made-expired, number-1, number-some, number-small, rec-some, Reached, reach, no-rows, no-rows-at, visit-turn, PlanLoop, plan-loop, plan-next, plan-close}
 

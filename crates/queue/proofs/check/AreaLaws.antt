@@ -1,22 +1,24 @@
 -- A queue found in bytes or in a text: limits, counts, and each exit of its readers. Assumes nothing.
-use Rattle.queue.specs.Prelude.{_≡_, refl, ap, sym, _∙_, Bool, true, false, cond, _&&_, none, some, List, [], _∷_, ℕ, _+_, _-_, _*_, _≤_, _<_, arith, mul-le-mul, leb, length, drop, take, leb-true, le-leb, lt-leb}
+use Rattle.queue.specs.Prelude.{_≡_, refl, ap, sym, _∙_, Bool, true, false, cond, _&&_, none, some, List, [], _∷_, ℕ, _+_, _-_, _*_, _≤_, _<_, arith, mul-le-mul, leb, length, drop, take, leb-true, le-leb, lt-leb, _++_}
+use Rattle.queue.proofs.bytes.PutByteLaws.{between}
+use Rattle.queue.specs.theorems.SoundParts.{Fit, fit-of}
 use Rattle.queue.specs.Basics.{and-same}
-use Rattle.queue.specs.Codec.{Got, fail, got, Codec, cases, beC, be-length, pairC, pairDec, mapC, decs, vec-bwd}
+use Rattle.queue.specs.Codec.{Got, fail, got, Codec, cases, beC, be-length, pairC, pairDec, mapC, decs, vec-bwd, encs}
 use Rattle.queue.specs.Lists.{and-true}
 use Rattle.queue.specs.layout.FrameCodec.{headK, recC}
 use Rattle.queue.specs.bytes.ReaderAs.{Reads, whole, listAt, isGot, valOf}
-use Rattle.queue.specs.bytes.ReaderLaws.{false-true, weaken}
+use Rattle.queue.specs.bytes.ReaderLaws.{false-true, weaken, values}
 use Rattle.queue.specs.bytes.ViewAs.{view}
-use Rattle.queue.specs.layout.FormsCodec.{formC, afterIn, endsLine, Framed, framed, frame-bad, taken, Many, Store, recIn, storeIn, areaForm, store-read, queueC, storeOf, queue-read}
+use Rattle.queue.specs.layout.FormsCodec.{formC, afterIn, endsLine, Framed, framed, frame-bad, taken, Many, Store, recIn, storeIn, areaForm, store-read, queueC, storeOf, queue-read, form-raw}
 use Rattle.queue.specs.layout.RecordsAs.{RecordsIn}
 use Rattle.queue.specs.Areas.{readArea, zero?, reads-stands, area-found, area-none}
 use Rattle.queue.specs.layout.FrameAs.{factsOf, limitsIn, HeadUnder}
 use Rattle.queue.specs.check.RulesAs.{weight, sum}
 use Rattle.queue.specs.check.ScanAs.{SumsAs, countsN}
-use Rattle.queue.specs.check.AreaAs.{StoreAs, soundL, sound-list, filledBy, FilledAs, AreaIs, recordsOf}
+use Rattle.queue.specs.check.AreaAs.{StoreAs, soundL, sound-list, filledBy, FilledAs, AreaIs, recordsOf, AreaAs}
 use Rattle.queue.specs.paper.Ids.{rise?}
 use Rattle.queue.specs.paper.Records.{Bytes, Limits, Rec, Queue}
-use Rattle.queue.specs.paper.Lists.{all?, map}
+use Rattle.queue.specs.paper.Lists.{all?, map, count}
 use Rattle.queue.specs.paper.Sound.{inRange, need, holder?, holders, holderBytes, minedHolders, minedBytes, tombstones, right?, counts?, distinct?, apart?, readApart?, sound?, sharesRight?, limitsRight?}
 use Rattle.queue.specs.declared.layout.frame.HeadR.{HeadR}
 use Rattle.queue.specs.declared.layout.frame.Form.{Form}
@@ -286,3 +288,15 @@ module _ {s : Bytes} {v next : ℕ} {ok : Bool} {y : Open} (a : Reads (beC 4) (v
             );
         bad = λ g. B ∙ rw (sym e1 ∙ g);
       }
+
+-- ---- the queue that an area holds
+module _ {s : Bytes} {a : Area} {q : Queue} (w : AreaAs s a q) where
+  pub recs-here : (take (a .open .next - a .open .start) (drop (a .open .start) s) ≡ encs recC (q .recs)) × (length (encs recC (q .recs)) ≡ a .open .next - a .open .start)
+  recs-here =
+      let st = w .store in
+      let e : drop (a .open .start) s ≡ encs recC (q .recs) ++ drop (a .open .next) s =
+      values (formC false recC) (a .open .head .count) s (a .open .start) (st .all) ∙ rw (st .list, ← (st .end), form-raw recC) in
+      between s (encs recC (q .recs)) (a .open .start) (a .open .next) e (st .up) (st .ends)
+
+  pub fit : Fit q
+  fit = fit-of q (w .sound) (w .range)

@@ -6,9 +6,8 @@ use Rattle.queue.specs.bytes.ReaderAs.{listAt}
 use Rattle.queue.specs.bytes.ReaderLaws.{false-true}
 use Rattle.queue.specs.layout.FrameAs.{factsOf}
 use Rattle.queue.specs.check.RulesAs.{weight, sum, aboveF}
-use Rattle.queue.specs.change.FinishAs.{above}
 use Rattle.queue.specs.check.FilterAs.{marked, markL}
-use Rattle.queue.specs.check.NumbersAs.{numberF, numbersOf, timesIn, overIn, Differ, Steps, newAbove}
+use Rattle.queue.specs.check.NumbersAs.{numberF, numbersOf, timesIn, overIn, Differ, Steps, newAbove, above}
 use Rattle.queue.specs.check.SuspectsAs.{Shuffled}
 use Rattle.queue.specs.paper.Records.{Bytes, Rec}
 use Rattle.queue.specs.paper.Lists.{one, count}

@@ -1,15 +1,15 @@
 -- The laws of the suspects: what a look through the rows says of the records, the loops that gather rows. Assumes nothing.
 use Rattle.queue.specs.Prelude.{_≡_, refl, ap, sym, _∙_, subst, Bool, true, false, not, _&&_, _||_, inl, inr, ⊎-elim, List, [], _∷_, _++_, ℕ, zero, suc, _+_, _-_, _≤_, _<_, arith, add-one, ltb, eqb, length, take, drop, getD, set, length-drop, length-append, drop-drop, take-all, take-at, take-suc-set, length-take-le, eqb-true, eqb-false, ne-eqb, ltb-true, ltb-false, lt-ltb, leb-true, le-leb}
-use Rattle.queue.specs.Basics.{or-right}
+use Rattle.queue.specs.Basics.{or-right, any-count}
 use Rattle.queue.specs.Codec.{cases, encs, byteC, vecC}
 use Rattle.queue.specs.bytes.Parts.{part}
 use Rattle.queue.specs.Lists.{and-true, and-both}
 use Rattle.queue.specs.bytes.OrderLaws.{same-is, same-self, same-sym, or-true, or-false}
-use Rattle.queue.specs.layout.FrameCodec.{idC}
+use Rattle.queue.specs.layout.FrameCodec.{idC, spans-id}
 use Rattle.queue.specs.layout.FormsCodec.{recIn, afterIn}
 use Rattle.queue.specs.bytes.ViewAs.{view}
 use Rattle.queue.specs.bytes.ReaderAs.{Reads, whole, listAt}
-use Rattle.queue.specs.bytes.ReaderLaws.{Turn, turn, none-left, false-true, spans-id}
+use Rattle.queue.specs.bytes.ReaderLaws.{Turn, turn, none-left, false-true}
 use Rattle.queue.specs.check.FilterAs.{hashL, marked, markL, hasIn}
 use Rattle.queue.specs.check.SuspectsAs.{idR, noR, later, meets, crosses, held?, first?, Shuffled, Grown, Noted, Said, AllMarked, Owned}
 use Rattle.queue.specs.paper.Records.{Bytes, Id, Rec}
@@ -62,15 +62,8 @@ module _ (p : ℕ → Bool) where
   pub shuffled-all : {v w : List ℕ} → Shuffled v w → all? p w ≡ all? p v
   shuffled-all {v} {w} s = all-count w ∙ ap (λ (n : ℕ). eqb n 0) (s .same (λ a. one (not (p a)))) ∙ sym (all-count v)
 
-  any-count : (v : List ℕ) → any? p v ≡ ltb 0 (count p v)
-  any-count [] = refl
-  any-count (x ∷ v) =
-      let n = count p v in
-      let e : n ≡ 0 + n = omega arith in
-      cases (p x) (λ t. rw t (sym (lt-ltb 0 (1 + n) (omega arith)))) (λ t. rw t (any-count v ∙ ap (λ (m : ℕ). ltb 0 m) e))
-
-  shuffled-any : {v w : List ℕ} → Shuffled v w → any? p w ≡ any? p v
-  shuffled-any {v} {w} s = any-count w ∙ ap (λ (n : ℕ). ltb 0 n) (s .same (λ a. one (p a))) ∙ sym (any-count v)
+  pub shuffled-any : {v w : List ℕ} → Shuffled v w → any? p w ≡ any? p v
+  shuffled-any {v} {w} s = any-count p w ∙ ap (λ (n : ℕ). ltb 0 n) (s .same (λ a. one (p a))) ∙ sym (any-count p v)
 
   pub all-append : (a b : List ℕ) → all? p (a ++ b) ≡ (all? p a && all? p b)
   all-append [] b = refl

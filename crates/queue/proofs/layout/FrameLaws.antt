@@ -2,7 +2,7 @@
 use Rattle.queue.specs.Prelude.{_≡_, refl, ap, sym, _∙_, Bool, true, false, cond, not, _&&_, _||_, Option, none, some, List, [], _∷_, _++_, append-assoc, ℕ, zero, suc, _+_, _*_, _^_, _≤_, _<_, arith, pow-le-pow-right, mul-le-mul, le-trans, le-of-lt, add-one, lit<, ltb, eqb, length, drop, take, getD, length-append, length-drop, drop-cons, take-at, lt-ltb, eq-eqb, ne-eqb}
 use Rattle.queue.specs.Codec.{Bytes, fail, got, Codec, cases, byteC, be, beC, pairC, mapC, optEnc, optC, decs, vecC, countedC, encs, vec-bwd}
 use Rattle.queue.specs.paper.Records.{Id, Limits, Held, Rec}
-use Rattle.queue.specs.layout.FrameCodec.{tagC, tagDec, idC, labelC, widen, low32, Narrow, widen-low, low-widen, narrowC, termsK, termsOf, termsTuple, heldK, heldOf, heldTuple, bodyK, placeC, markSince, markC, restK, recK, recOf, recTuple, Four, fourC, sixteenC, sharesC, limitsFrom, limitsTuple, limitsK, headK, headOf, headTuple}
+use Rattle.queue.specs.layout.FrameCodec.{tagC, tagDec, idC, labelC, widen, low32, Narrow, widen-low, low-widen, narrowC, termsK, termsOf, termsTuple, heldK, heldOf, heldTuple, bodyK, placeC, markSince, markC, restK, recK, recOf, recTuple, Four, fourC, sixteenC, sharesC, limitsFrom, limitsTuple, limitsK, headK, headOf, headTuple, spans-id}
 use Rattle.queue.specs.layout.Choice.{fixC, sinceC, guardDec, guardC, thenDec, thenC, viaC, viaDec}
 use Rattle.queue.specs.theorems.OlderKinds.{mark-enc, mark-up}
 use Rattle.queue.specs.bytes.PutAs as written
@@ -10,7 +10,7 @@ use Rattle.queue.specs.bytes.Parts.{part}
 use Rattle.queue.specs.layout.LimitsAs.{pos256}
 use Rattle.queue.specs.Lists.{and-true}
 use Rattle.queue.specs.bytes.ReaderAs.{Reads, Span, flagDec, flagC, Counted, OptSpan, whole, listAt}
-use Rattle.queue.specs.bytes.ReaderLaws.{drop-none, false-true, pair, mapped, weaken, OptW, opt-absent, opt-present, beAt, be-here, Spans, short, spanned, spans-be, spans-byte, spans-pair, spans-vec, spans-id, counted, opt-span, none-left}
+use Rattle.queue.specs.bytes.ReaderLaws.{drop-none, false-true, pair, mapped, weaken, OptW, opt-absent, opt-present, beAt, be-here, Spans, short, spanned, spans-be, spans-byte, spans-pair, spans-vec, counted, opt-span, none-left}
 use Rattle.queue.specs.layout.FrameAs.{termsFrom, optNum, placeHeight, factsOf, ListAs, TagAt, MarkAt, CallerAt, PriorityAt, ReadsAt, NumAt, OptAt, PlaceAs, TermsAs, BodyAs, RestAs, SeenFrom, SeenUnder, LimAs, limitsIn, SharesAs, SharesAt, LimitsAs, limitsLen, HeadUnder}
 use Rattle.queue.specs.paper.Lists.{isSome}
 use Rattle.queue.specs.paper.Kinds.{hasMark3, markSaid?, hasCallers, hasReads, hasWide, firstShare}

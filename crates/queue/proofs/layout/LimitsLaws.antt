@@ -17,8 +17,7 @@ use Rattle.queue.specs.paper.Kinds.{hasCallers, firstShare}
 use Rattle.queue.specs.paper.Area.{beVal, sharesBytes, over}
 use Rattle.queue.specs.paper.Calls.{pieces, items, numbers}
 use Rattle.queue.proofs.bytes.PutLaws.{put-over}
-use Rattle.queue.proofs.bytes.PutByteLaws.{be-same}
-use Rattle.queue.proofs.change.TouchLaws.{be-val, drop-take}
+use Rattle.queue.proofs.bytes.PutByteLaws.{be-same, be-val, drop-take}
 
 -- n numbers of 4 bytes from `at` on
 unfoldable pub fours : ℕ → Bytes → ℕ → List ℕ

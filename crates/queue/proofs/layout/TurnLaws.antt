@@ -1,6 +1,6 @@
 -- One law for every loop over encoded values. F st l is what the loop has still to work out, from the state st on over l. Assumes nothing.
-use Rattle.queue.specs.Prelude.{_≡_, refl, ap, sym, _∙_, Bool, true, List, [], _∷_, ℕ, _-_, _≤_, _<_, arith, le-refl, length}
-use Rattle.queue.specs.Codec.{Bytes, Codec}
+use Rattle.queue.specs.Prelude.{_≡_, refl, ap, sym, _∙_, Bool, true, List, [], _∷_, ℕ, _-_, _≤_, _<_, arith, le-refl, length, _++_, append-assoc}
+use Rattle.queue.specs.Codec.{Bytes, Codec, encs}
 use Rattle.queue.specs.bytes.ReaderAs.{Reads, whole, listAt}
 use Rattle.queue.specs.bytes.ReaderLaws.{Turn, turn, none-left}
 use Rattle.queue.specs.layout.FrameCodec.{recK, recC}
@@ -61,3 +61,8 @@ module _ {S X : Type 0} (hex : Bool) {F : S → List Rec → X} {s : Bytes} {n a
 
   pub see : {ok : Bool} {m j : ℕ} {y : Seen} → 0 < left → ReadsRec hex s i ok m y → j ≡ afterIn hex s i m → Turn (formC hex recC) s left i j (SeenIn hex s i ok m y)
   see p r e = see-in (record { hex = hex; kind = newest }) x p r e
+
+pub encs-append : (a b : List Rec) → encs recC (a ++ b) ≡ encs recC a ++ encs recC b
+unfolding encs
+encs-append [] b = refl
+encs-append (r ∷ a) b = rw (encs-append a b) (sym (append-assoc (recC .enc r) (encs recC a) (encs recC b)))

@@ -1,5 +1,7 @@
 -- The spot of an id among the records of an area, and the records with a new one there. Assumes nothing.
 use Rattle.queue.specs.Prelude.{_≡_, refl, ap, sym, _∙_, Bool, true, false, cond, not, Option, none, some, List, [], _∷_, _++_, append-assoc, append-nil, ℕ, zero, suc, _+_, _-_, _≤_, _<_, arith, length, drop, take, length-append, length-drop, take-append-drop, drop-drop, eq-eqb, ne-eqb}
+use Rattle.queue.proofs.check.AreaLaws.{fit, recs-here}
+use Rattle.queue.specs.check.AreaAs.{AreaIn}
 use Rattle.queue.specs.Basics.{join-same, join-four, drop-past}
 use Rattle.queue.specs.Codec.{All, encs}
 use Rattle.queue.specs.Lists.{Pairwise, all-map}
@@ -10,7 +12,6 @@ use Rattle.queue.specs.bytes.ReaderAs.{listAt}
 use Rattle.queue.specs.bytes.ReaderLaws.{false-true}
 use Rattle.queue.specs.layout.FormsCodec.{formC, afterIn}
 use Rattle.queue.specs.theorems.SoundParts.{Before}
-use Rattle.queue.specs.change.CallsAs.{AreaIn}
 use Rattle.queue.specs.read.FindAs.{spot, spotF, SpotAs, recsIn, SpotIn}
 use Rattle.queue.specs.paper.Records.{Bytes, Id, Rec}
 use Rattle.queue.specs.paper.Lists.{filter, find, insert}
@@ -19,12 +20,10 @@ use Rattle.queue.specs.paper.Changing.{named?, put}
 use Rattle.queue.specs.declared.layout.frame.Seen.{Seen}
 use Rattle.queue.specs.declared.check.area.Area.{Area}
 use Rattle.queue.specs.declared.read.find.Spot.{Spot}
-use Rattle.queue.proofs.layout.TurnLaws.{Scan, seen, see, on, stop, end, ReadsRec}
+use Rattle.queue.proofs.layout.TurnLaws.{Scan, seen, see, on, stop, end, ReadsRec, encs-append}
 use Rattle.queue.proofs.bytes.PutLaws.{then, recast}
 use Rattle.queue.proofs.bytes.PutByteLaws.{between}
-use Rattle.queue.proofs.change.FinishLaws.{encs-append}
 use Rattle.queue.proofs.read.ReadingLaws.{one-here}
-use Rattle.queue.proofs.change.WriteLaws.{fit, recs-here}
 
 -- ---- the loop
 unfoldable pub spotsF : Id → ℕ → List Rec → Option Rec × Spot

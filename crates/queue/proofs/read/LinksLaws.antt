@@ -22,8 +22,7 @@ use Rattle.queue.specs.declared.layout.frame.Seen.{Seen}
 use Rattle.queue.proofs.layout.TurnLaws.{Scan, start, here, on, ReadsRec}
 use Rattle.queue.proofs.check.FilterLaws.{mark-size, mark-here, mark-old, slot-in}
 use Rattle.queue.proofs.check.SuspectsRowLaws.{id-long, any-none, any-some, later-no, later-yes, later-behind, rising}
-use Rattle.queue.proofs.check.SuspectsLaws.{id-bytes, all-at, all-append, shuffled-all}
-use Rattle.queue.proofs.change.OwnLaws.{shuffled-any}
+use Rattle.queue.proofs.check.SuspectsLaws.{id-bytes, all-at, all-append, shuffled-all, shuffled-any}
 use Rattle.queue.proofs.read.FeesLaws.{the-turn, rec-is, known-at}
 use Rattle.queue.proofs.read.LinksBitLaws.{or-no, or-group, spread, joined-none, joined-to, joined-then}
 

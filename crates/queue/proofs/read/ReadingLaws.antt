@@ -6,9 +6,9 @@ use Rattle.queue.specs.Codec.{cases, Got, fail, got, decs, encs, beC, pa
 use Rattle.queue.specs.bytes.PutAs.{Put}
 use Rattle.queue.specs.theorems.Plain.{opt-plain, terms-plain, place-plain, ids-plain, id-plain, rec-plain, body-plain, head-plain}
 use Rattle.queue.specs.paper.Kinds.{newest}
-use Rattle.queue.specs.layout.FrameCodec.{recK, recC, idC, termsK, termsC, labelC, placeC, bodyC}
+use Rattle.queue.specs.layout.FrameCodec.{recK, recC, idC, termsK, termsC, labelC, placeC, bodyC, spans-id}
 use Rattle.queue.specs.bytes.ReaderAs.{isGot, valOf, whole, listAt}
-use Rattle.queue.specs.bytes.ReaderLaws.{false-true, spans-id, spans-vec}
+use Rattle.queue.specs.bytes.ReaderLaws.{false-true, spans-vec}
 use Rattle.queue.specs.bytes.ViewAs.{view}
 use Rattle.queue.specs.layout.FormsCodec.{formC, afterIn, turn-in}
 use Rattle.queue.specs.Areas.{readArea}

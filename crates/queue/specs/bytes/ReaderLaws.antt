@@ -1,8 +1,7 @@
 -- The laws by which readers are put together.
-use Rattle.queue.specs.Prelude.{_≡_, refl, ap, sym, _∙_, Bool, true, false, _&&_, Option, none, some, List, [], _∷_, ℕ, zero, suc, _+_, _-_, _*_, _^_, _≤_, _<_, arith, add-assoc, add-zero, add-suc, pow-suc, zero-mul, suc-mul, add-one, length, drop, getD, length-drop, length-append, drop-cons, lt-ltb}
+use Rattle.queue.specs.Prelude.{_≡_, refl, ap, sym, _∙_, Bool, true, false, _&&_, Option, none, some, List, [], _∷_, ℕ, zero, suc, _+_, _-_, _*_, _^_, _≤_, _<_, arith, add-assoc, add-zero, add-suc, pow-suc, zero-mul, suc-mul, add-one, length, drop, getD, length-drop, length-append, drop-cons, lt-ltb, _++_}
 use Rattle.queue.specs.Codec.{Bytes, Got, fail, got, _>>=_, bind-got, Codec, cases, byteDec, byteC, beDec, beC, pairDec, pairC, mapC, optDec, optC, decs, vecC, countedC, All, encs, be-length, vec-bwd}
 use Rattle.queue.specs.bytes.ReaderAs.{Reads, Span, flagDec, flagC, Counted, OptSpan, isGot, valOf, restOf, whole, listAt, behind}
-use Rattle.queue.specs.layout.FrameCodec.{idC}
 
 pub false-true : {X : Type 0} → false ≡ true → X
 false-true e = let z : _≡_ {A = ℕ} 0 1 = cc in absurd (omega arith)
@@ -170,10 +169,6 @@ pub spans-vec : {A : Type 0} {𝓐 : Codec A} {m : ℕ} → Spans 𝓐 m → (k 
 unfolding vecC
 spans-vec x k = record { size = λ l h. vec-size x l (h .0) ∙ rw (h .1); all = vec-all x k }
 
-pub spans-id : Spans idC 32
-unfolding idC
-spans-id = spans-vec spans-byte 32
-
 -- ---- counted items
 pub counted : {A : Type 0} {𝓐 : Codec A} {s : Bytes} {at w size len start next : ℕ} {ok : Bool} → Spans 𝓐 size → Counted s at w size ok len start next
     → Reads (countedC 𝓐 w) s at ok next (λ l. (length l ≡ len) × (decs 𝓐 len (drop start s) ≡ got l (drop next s)) × (start ≤ length s))
@@ -247,3 +242,11 @@ turn {A} {𝓐} {s} n {at} {next} {ok} {W} h w p x = cases ok
 pub none-left : {A : Type 0} (𝓐 : Codec A) (s : Bytes) (n at : ℕ) → n ≡ 0 → (listAt 𝓐 n s at ≡ []) × (whole 𝓐 n s at ≡ true) × (behind 𝓐 n s at ≡ drop at s)
 unfolding whole listAt behind decs
 none-left 𝓐 s n at z = rw z (refl, refl, refl)
+
+pub values : {A : Type 0} (𝓐 : Codec A) (n : ℕ) (s : Bytes) (at : ℕ) → whole 𝓐 n s at ≡ true → drop at s ≡ encs 𝓐 (listAt 𝓐 n s at) ++ behind 𝓐 n s at
+unfolding whole listAt behind
+values {A} 𝓐 n s at w = go (decs 𝓐 n (drop at s)) refl w
+  where
+    go : (o : Got (List A)) → decs 𝓐 n (drop at s) ≡ o → isGot o ≡ true → drop at s ≡ encs 𝓐 (valOf o) ++ restOf o
+    go fail p w = false-true w
+    go (got l r) p w = vec-bwd 𝓐 n (drop at s) l r p .0

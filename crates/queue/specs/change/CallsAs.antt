@@ -56,8 +56,3 @@ CancelTold s id o next out = (q : Queue) → readArea s ≡ some q → o ≡ tol
 
 abbrev pub ExpireTold : Bytes → ℕ → ℕ → Outcome → Bytes → Bytes → Type 0
 ExpireTold s now height o next out = (q : Queue) → readArea s ≡ some q → o ≡ told idsBytes next out (expire now height q)
-
-pub record AreaIn (s : Bytes) (a : Area) : Type 0 where
-  pub q : Queue
-  pub is : readArea s ≡ some q
-  pub read : AreaAs s a q

@@ -1,17 +1,14 @@
 -- Finishing and forgetting, as the code goes.
-use Rattle.queue.specs.Prelude.{_≡_, Bool, false, List, ℕ, _+_, ltb, leb, eqb}
+use Rattle.queue.specs.Prelude.{_≡_, Bool, false, List, ℕ, ltb, leb, eqb}
 use Rattle.queue.specs.Codec.{All}
-use Rattle.queue.specs.layout.FrameAs.{factsOf}
-use Rattle.queue.specs.check.RulesAs.{dueF, aboveF}
+use Rattle.queue.specs.check.RulesAs.{dueF}
 use Rattle.queue.specs.paper.Records.{Id, Rec}
-use Rattle.queue.specs.paper.Lists.{count}
 use Rattle.queue.specs.paper.Ids.{cmpL}
 use Rattle.queue.specs.paper.Sound.{holder?}
 use Rattle.queue.specs.paper.Changing.{named?, due?, higher}
 use Rattle.queue.specs.declared.layout.frame.Seen.{Seen}
 use Rattle.queue.specs.declared.change.finish.Change.{Change}
 use Rattle.queue.specs.declared.change.finish.Change.the-variants.{Named, Due}
-use Rattle.queue.specs.check.NumbersAs.{newAbove}
 
 -- the records that a call finishes; the same of a record that was read
 unfoldable pub picked : Change → Id → Rec → Bool
@@ -38,7 +35,3 @@ endReason (Due t h) = 2
 -- floor parts the tombstones of l: those that stay have at least its number
 abbrev pub Floors : ℕ → ℕ → List Rec → Type 0
 Floors t floor l = All (λ r. holder? r ≡ false → ltb (higher (r .finish) l) t ≡ leb floor (r .finish)) l
-
--- how many tombstones have a number above x, once m more are finished
-unfoldable pub above : ℕ → ℕ → List Rec → ℕ → ℕ
-above num m l x = count (λ r. aboveF x (factsOf r)) l + newAbove num m x

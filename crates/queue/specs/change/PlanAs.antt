@@ -1,12 +1,12 @@
 -- What becomes of an area's records: a row for each record that changes, by rising places, and the records that come of the rows.
 use Rattle.queue.specs.Prelude.{_≡_, Bool, cond, _&&_, _||_, Option, none, some, _⊎_, List, [], _∷_, _++_, ℕ, _+_, _-_, _*_, _/_, _%_, _≤_, _<_, leb, eqb, length, take, drop, getD}
+use Rattle.queue.specs.check.AreaAs.{AreaIn}
 use Rattle.queue.specs.layout.FrameAs.{termsAt, factsOf, limitsIn}
 use Rattle.queue.specs.bytes.PutAs.{beLast}
 use Rattle.queue.specs.layout.FrameCodec.{recC}
 use Rattle.queue.specs.layout.FormsCodec.{queueC}
 use Rattle.queue.specs.layout.HeadAs.{queueOf, MarksFit}
 use Rattle.queue.specs.theorems.Arguments as arguments
-use Rattle.queue.specs.change.CallsAs.{AreaIn}
 use Rattle.queue.specs.change.FinishAs.{picked, endState, endReason}
 use Rattle.queue.specs.read.FindAs.{recsIn}
 use Rattle.queue.specs.change.TouchAs.{entryIn}

@@ -1,11 +1,11 @@
 -- Reconciliation as the code goes, and what its parts ask and say.
 use Rattle.queue.specs.Prelude.{_≡_, Bool, false, cond, not, _||_, some, _⊎_, List, _∷_, _++_, ℕ, _+_, _≤_, min, ltb, leb, length}
+use Rattle.queue.specs.check.NumbersAs.{above}
 use Rattle.queue.specs.layout.FrameCodec.{recC}
 use Rattle.queue.specs.bytes.ReaderAs.{listAt}
 use Rattle.queue.specs.layout.FormsCodec.{formC}
 use Rattle.queue.specs.check.AreaAs.{recordsOf}
 use Rattle.queue.specs.check.RulesAs.{sum}
-use Rattle.queue.specs.change.FinishAs.{above}
 use Rattle.queue.specs.Codec.{All}
 use Rattle.queue.specs.bytes.PutAs.{beLast}
 use Rattle.queue.specs.Areas.{readArea}

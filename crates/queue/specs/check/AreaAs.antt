@@ -72,3 +72,8 @@ pub record AreaAs (s : Bytes) (x : Area) (q : Queue) : Type 0 where
 pub record AreaIs (s : Bytes) (x : Area) : Type 0 where
   pub good : x .ok ≡ true → (q : Queue) × (readArea s ≡ some q) × AreaAs s x q
   pub bad : x .ok ≡ false → readArea s ≡ none
+
+pub record AreaIn (s : Bytes) (a : Area) : Type 0 where
+  pub q : Queue
+  pub is : readArea s ≡ some q
+  pub read : AreaAs s a q

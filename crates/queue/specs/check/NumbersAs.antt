@@ -1,5 +1,7 @@
 -- The finish numbers of tombstones in a table, and what is said of them.
 use Rattle.queue.specs.Prelude.{_≡_, Bool, true, false, cond, List, [], _∷_, _++_, ℕ, _≤_, _+_, _-_, ltb, eqb}
+use Rattle.queue.specs.check.RulesAs.{aboveF}
+use Rattle.queue.specs.layout.FrameAs.{factsOf}
 use Rattle.queue.specs.paper.Records.{Rec}
 use Rattle.queue.specs.paper.Lists.{count}
 use Rattle.queue.specs.paper.Sound.{holder?}
@@ -33,3 +35,7 @@ pub record Steps (v : List ℕ) (r : ℕ) : Type 0 where
 -- of the m numbers after num, how many are above x
 unfoldable pub newAbove : ℕ → ℕ → ℕ → ℕ
 newAbove num m x = cond (ltb x num) m (cond (ltb x (num + m)) (num + m - x) 0)
+
+-- how many tombstones have a number above x, once m more are finished
+unfoldable pub above : ℕ → ℕ → List Rec → ℕ → ℕ
+above num m l x = count (λ r. aboveF x (factsOf r)) l + newAbove num m x

@@ -2,6 +2,7 @@
 use Rattle.queue.specs.Prelude.{_≡_, refl, Bool, true, cond, not, _&&_, Option, none, some, List, [], _∷_, _++_, ℕ, _+_, _-_, _%_, _^_, _<_, arith, ltb, leb, eqb, lt-ltb, le-ltb, ltb-true, ltb-false, leb-true, le-leb, eqb-true, eq-eqb}
 use Rattle.queue.specs.Basics.{or-cases}
 use Rattle.queue.specs.Codec.{Got, fail, got, no-got, if-got, cases, Codec, byteC, beC, pairC, mapC, optC, vecC, countedC}
+use Rattle.queue.specs.bytes.ReaderLaws.{Spans, spans-byte, spans-vec}
 use Rattle.queue.specs.layout.Choice.{pickC, sinceC, guardC, viaC, thenC}
 use Rattle.queue.specs.Lists.{and-true}
 use Rattle.queue.specs.paper.Records.{Bytes, Id, Limits, Terms, Held, Rec}
@@ -229,3 +230,7 @@ limitsC = limitsK newest
 
 abbrev pub headC : Codec Head
 headC = headK newest
+
+pub spans-id : Spans idC 32
+unfolding idC
+spans-id = spans-vec spans-byte 32

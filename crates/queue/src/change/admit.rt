@@ -50,7 +50,7 @@ ghost use Rattle.queue.specs.bytes.PutAs.{Put};
 ghost use Rattle.queue.specs.layout.FrameCodec.{recC};
 ghost use Rattle.queue.specs.layout.HeadAs.{tipOf};
 ghost use Rattle.queue.specs.change.AdmitAs.{newOf, optLen, labelSize, termsLen, heldLen, newLen, newTerms, heldLent, TermsFit, HeldFit, WithFrom, WithTo, PendingsAre, FullIs, RoomIs, FreeIs, entryNewLen, argsOf, NumbersFit, AskedIn, AskedIs, LentIds, ReadIs, CrossIs, TipFor, KnownAt, OldTold, NewTold, FoundTold, ListsAre, FlagsRight};
-ghost use Rattle.queue.specs.change.CallsAs.{AreaIn};
+ghost use Rattle.queue.specs.check.AreaAs.{AreaIn};
 ghost use Rattle.queue.specs.read.ReadingAs.{Here};
 ghost use Rattle.queue.specs.read.FindAs.{recsIn, SpotIn};
 ghost use Rattle.queue.specs.change.WriteAs.{HeadIn};

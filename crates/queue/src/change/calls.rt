@@ -40,7 +40,8 @@ ghost use Rattle.queue.specs.layout.FormsCodec.{formC};
 ghost use Rattle.queue.specs.change.FinishAs.{picked};
 ghost use Rattle.queue.specs.paper.Lists.{filter, map, concat, count};
 ghost use Rattle.queue.specs.paper.Records.{Rec};
-ghost use Rattle.queue.specs.change.CallsAs.{endBytes, idIf, pickedIds, FoundIn, HeldIn, AreaIn, CancelTold, ExpireTold};
+ghost use Rattle.queue.specs.change.CallsAs.{endBytes, idIf, pickedIds, FoundIn, HeldIn, CancelTold, ExpireTold};
+ghost use Rattle.queue.specs.check.AreaAs.{AreaIn};
 ghost use Rattle.queue.specs.Checked.{outcome, written, setCursorOf, cancelOf, expireOf};
 ghost use Rattle.queue.specs.paper.Calls.{settleShape?, settleOf};
 

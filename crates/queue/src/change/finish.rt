@@ -32,10 +32,11 @@ ghost use Rattle.queue.specs.paper.Lists.{count};
 ghost use Rattle.queue.specs.paper.Sound.{holder?, tombstones};
 ghost use mathlib.Core.Logic.{_⊎_};
 ghost use Rattle.queue.specs.check.RulesAs.{sum};
-ghost use Rattle.queue.specs.change.CallsAs.{AreaIn};
+ghost use Rattle.queue.specs.check.AreaAs.{AreaIn};
 ghost use Rattle.queue.specs.read.FindAs.{recsIn};
 ghost use Rattle.queue.specs.change.PlanAs.{Planned, endedL};
-ghost use Rattle.queue.specs.change.FinishAs.{pickedS, picked, endWhat, above};
+ghost use Rattle.queue.specs.change.FinishAs.{pickedS, picked, endWhat};
+ghost use Rattle.queue.specs.check.NumbersAs.{above};
 
 // Which records a call finishes: the one of an id, or those that are due.
 pub enum Change {

@@ -21,7 +21,7 @@ ghost use mathlib.Core.Bool.{true, false};
 ghost use Prim.Native.Nat.{_+_, _≤_, _<_};
 ghost use lib.ListN.{length, take, set};
 ghost use Rattle.queue.specs.Codec.{All};
-ghost use Rattle.queue.specs.change.CallsAs.{AreaIn};
+ghost use Rattle.queue.specs.check.AreaAs.{AreaIn};
 ghost use Rattle.queue.specs.change.PlanAs.{Planned};
 ghost use Rattle.queue.specs.read.SelectAs.{idAt};
 ghost use Rattle.queue.specs.change.TouchAs.{InEntry};

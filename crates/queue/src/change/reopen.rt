@@ -26,7 +26,7 @@ ghost use lib.ListN.{length, take};
 ghost use Rattle.queue.specs.layout.FrameCodec.{recC};
 ghost use Rattle.queue.specs.layout.RecordsAs.{RecordsIn, recsAt};
 ghost use Rattle.queue.specs.layout.FormsCodec.{formC};
-ghost use Rattle.queue.specs.change.CallsAs.{AreaIn};
+ghost use Rattle.queue.specs.check.AreaAs.{AreaIn};
 ghost use Rattle.queue.specs.change.ReopenAs.{IdsRise, idsAt, listedS, again, AgainFrom, AgainTo, ReopenTold};
 ghost use Rattle.queue.specs.change.PlanAs.{Planned};
 ghost use Rattle.queue.specs.read.FindAs.{recsIn};

@@ -1,7 +1,7 @@
 -- Filled from its answers by tools/proofkit.py: change those, and fill it again.
 use Prim.Native.Nat.{_+_, _-_, _/_}
 use Rattle.queue.proofs.bytes.ViewLaws.{view-long}
-use Rattle.queue.proofs.change.LentFindLaws.{Finding, find-end, find-here, find-high, find-low, find-room, finding, ids-many}
+use Rattle.queue.proofs.layout.RisingLaws.{Finding, find-end, find-here, find-high, find-low, find-room, finding, ids-many}
 use Rattle.queue.specs.bytes.ViewAs.{view}
 use Rattle.queue.specs.change.ReopenAs.{idsAt}
 use borrow.Author.Needs.{needs}

@@ -1,8 +1,8 @@
 -- Filled from its answers by tools/proofkit.py: change those, and fill it again.
 use Prim.Native.Nat.{_+_, _-_, _/_}
 use Rattle.queue.proofs.bytes.ViewLaws.{view-long}
-use Rattle.queue.proofs.change.LentFindLaws.{Finding, finding}
 use Rattle.queue.proofs.change.TouchLaws.{entries-many, entry-end, entry-here, entry-high, entry-low, entry-room}
+use Rattle.queue.proofs.layout.RisingLaws.{Finding, finding}
 use Rattle.queue.specs.change.TouchAs.{entryIds}
 use borrow.Author.Needs.{needs}
 use mathlib.Core.Path.{_∙_, sym}

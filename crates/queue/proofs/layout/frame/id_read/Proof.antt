@@ -1,6 +1,6 @@
 -- Filled from its answers by tools/proofkit.py: change those, and fill it again.
 use Rattle.queue.proofs.layout.FrameLaws.{id-good, span-bad}
-use Rattle.queue.specs.bytes.ReaderLaws.{spans-id}
+use Rattle.queue.specs.layout.FrameCodec.{spans-id}
 use borrow.Author.Needs.{needs}
 use Rattle.queue.proofs.layout.frame.id_read.Statement.{statement}
 use Rattle.queue.proofs.layout.frame.id_read.Tie as tie
