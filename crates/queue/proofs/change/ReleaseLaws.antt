@@ -303,12 +303,6 @@ module _ (m : Limits) (height window : ℕ) (s : Bytes) where
       let i = walk-columns (seen + 1) (bytes + bytesAt s p) a b c (omega arith) (omega arith) in
       ap (λ l. cond (leb window (height - x) || (leb (m .P) seen || ltb (m .B) (bytes + bytesAt s p))) (p ∷ l) l) i
 
-pub place-yes : {out : Bool} {g q : ℕ} {d : List ℕ} → out ≡ true → PlaceAdded out g q d (g + 1) (set d g q)
-place-yes t = record { yes = λ _. (refl, refl); no = λ f. false-true (sym f ∙ t) }
-
-pub place-no : {out : Bool} {g q : ℕ} {d : List ℕ} → out ≡ false → PlaceAdded out g q d g d
-place-no f = record { yes = λ t. false-true (sym f ∙ t); no = λ _. (refl, refl) }
-
 pub stands-at : (s : Bytes) (l : List ℕ) (j : ℕ) → All (RecStands s) l → j < length l → RecStands s (getD l j 0)
 stands-at s l j h k = all-at (RecStands s) l j h k
 
