@@ -12,5 +12,6 @@ pub mod FeesWalkLaws
 pub mod FeesSearchLaws
 pub mod FeesLaws
 pub mod LinksBitLaws
+pub mod LinksNameLaws
 pub mod LinksLaws
 pub mod ParentsLaws

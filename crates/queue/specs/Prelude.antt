@@ -10,7 +10,7 @@ pub use native.Mathlib.Nat.{add-assoc, add-suc, add-zero, div-add-mod', div-div-
 pub use native.Mathlib.Numerals.{add-one, unary-clauses}
 pub use lib.Dec.{eqb, leb, lit<, ltb}
 pub use lib.Arith.{bin-ind, digits-div, digits-lt, digits-mod}
-pub use lib.Bits.{and-le-l, and-le-r, bitOr, or-add-and, or-comm, or-self, or-step, or-zero-r}
+pub use lib.Bits.{and-le-l, and-le-r, bitOr, block-half, block-odd, or-add-and, or-comm, or-self, or-step, or-zero-r, shifted-half}
 pub use lib.Pow.{pow-pos}
 pub use lib.ListN.{List·getD-append, List·getD-eq-default, drop, drop-of-length-le, getD, getD-replicate, length, length-append, length-drop, length-replicate, length-set, length-take, replicate, replicate-append-replicate, set, take, take-append-drop}
 pub use lib.Seq.{drop-append-le, drop-append-seam, drop-at, drop-cons, drop-drop, drop-nil, drop-set-add, drop-set-lt, ext-getD, getD-append-add, getD-at, getD-drop, getD-set-other, getD-set-same, getD-take, length-take-le, set-append-left, set-comm, set-getD, set-out, sets, sets-eq, take-add, take-all, take-append-seam, take-at, take-set-le, take-suc, take-suc-set, take-take}

@@ -1,17 +1,14 @@
--- The bits of words: one more is set, the lines of rows, the rows that a line names. Assumes nothing.
-use Rattle.queue.specs.Prelude.{_≡_, refl, ap, sym, _∙_, Bool, true, false, cond, _&&_, _||_, List, _∷_, ℕ, zero, suc, _+_, _-_, _*_, _/_, _%_, _^_, _≤_, _<_, max, arith, pow-suc, mod-lt, div-add-mod', div-lt-iff-lt-mul, max-zero, mul-comm, add-zero, suc-mul, mul-le-mul-right, add-one, ltb, leb, eqb, digits-div, digits-mod, bitOr, or-zero-r, length, getD, set, length-set, getD-set-same, getD-set-other, eqb-true, eqb-false, eq-eqb, ne-eqb, ltb-true, ltb-false, lt-ltb, le-ltb, leb-true, leb-false, le-leb, lt-leb}
+-- The bits of words: joined, moved up, one taken away; the lines of rows, the rows that a line names. Assumes nothing.
+use Rattle.queue.specs.Prelude.{_≡_, refl, ap, ap₂, sym, _∙_, Bool, true, false, cond, not, _&&_, _||_, List, _∷_, ℕ, zero, suc, _+_, _-_, _*_, _/_, _%_, _^_, _≤_, _<_, max, arith, le-of-suc-le-suc, pow-suc, mod-lt, div-add-mod', div-lt-iff-lt-mul, mul-comm, add-zero, suc-mul, mul-le-mul-right, add-one, ltb, leb, eqb, digits-div, digits-mod, bitOr, length, getD, set, getD-set-same, getD-set-other, eqb-true, eqb-false, eq-eqb, ne-eqb, ltb-true, ltb-false, lt-ltb, le-ltb, leb-true, leb-false, le-leb, lt-leb}
+use Rattle.queue.specs.Prelude.{block-half, block-odd, shifted-half}
 use Rattle.queue.specs.Basics.{any-append}
 use Rattle.queue.specs.Codec.{cases}
-use Rattle.queue.specs.check.SuspectsAs.{noR}
+use Rattle.queue.specs.bytes.ReaderLaws.{false-true}
 use Rattle.queue.specs.paper.Lists.{any?}
-use Rattle.queue.specs.read.LinksAs.{bitL, bitAt, Joined, inLine, ones, wordOnes, kidsOf}
+use Rattle.queue.specs.read.LinksAs.{bitL, bitAt, Joined, ones, wordOnes, kidsOf}
 use Rattle.queue.proofs.check.FilterLaws.{or-half, or-odd}
 
 -- ---- a word
-or-right : (a : Bool) → (a || true) ≡ true
-or-right true = refl
-or-right false = refl
-
 pub or-no : (a : Bool) → (a || false) ≡ a
 or-no true = refl
 or-no false = refl
@@ -20,13 +17,9 @@ pub or-group : (a b c : Bool) → ((a || b) || c) ≡ (a || (b || c))
 or-group true b c = refl
 or-group false b c = refl
 
-and-yes : (a : Bool) → a ≡ (a && true)
+pub and-yes : (a : Bool) → a ≡ (a && true)
 and-yes true = refl
 and-yes false = refl
-
-and-no : (a b : Bool) → ((a && false) && b) ≡ false
-and-no true b = refl
-and-no false b = refl
 
 pub spread : (a b c : Bool) → ((a && c) || (b && c)) ≡ ((a || b) && c)
 spread true true true = refl
@@ -46,12 +39,82 @@ max-one zero h = refl
 max-one (suc zero) h = refl
 max-one (suc (suc a)) h = absurd (let z : ⊥ = omega arith in z)
 
-pub bit-or : (x m k : ℕ) → bitL (bitOr x (2 ^ m)) k ≡ (bitL x k || eqb k m)
+bit-none : (k : ℕ) → bitL 0 k ≡ false
 unfolding bitL
-bit-or x zero zero = rw (or-odd x 1, max-one (x % 2) (mod-lt x (omega arith))) (sym (or-right (eqb (x % 2) 1)))
-bit-or x zero (suc k) = rw (or-half x 1, or-zero-r (x / 2), ne-eqb (suc k) 0 (λ e. let z : ⊥ = omega arith in z)) (sym (or-no (bitL (x / 2) k)))
-bit-or x (suc m) zero = rw (or-odd x (2 ^ suc m), even-pow m, max-zero (x % 2), ne-eqb 0 (suc m) (λ e. let z : ⊥ = omega arith in z)) (sym (or-no (eqb (x % 2) 1)))
-bit-or x (suc m) (suc k) = rw (or-half x (2 ^ suc m), half-pow m, lib.Dec.eqb·suc-suc k m) (bit-or (x / 2) m k)
+bit-none zero = refl
+bit-none (suc k) = bit-none k
+
+pub bit-one : (m k : ℕ) → bitL (2 ^ m) k ≡ eqb k m
+unfolding bitL
+bit-one zero zero = refl
+bit-one zero (suc k) = bit-none k ∙ sym (ne-eqb (suc k) 0 (λ e. let z : ⊥ = omega arith in z))
+bit-one (suc m) zero = rw (even-pow m) (sym (ne-eqb 0 (suc m) (λ e. let z : ⊥ = omega arith in z)))
+bit-one (suc m) (suc k) = rw (half-pow m, lib.Dec.eqb·suc-suc k m) (bit-one m k)
+
+pub bits-or : (x y k : ℕ) → bitL (bitOr x y) k ≡ (bitL x k || bitL y k)
+unfolding bitL
+bits-or x y zero = rw (or-odd x y) (odd-max (x % 2) (y % 2) (mod-lt x (omega arith)) (mod-lt y (omega arith)))
+  where
+    odd-max : (a b : ℕ) → a < 2 → b < 2 → eqb (max a b) 1 ≡ (eqb a 1 || eqb b 1)
+    odd-max zero zero g h = refl
+    odd-max zero (suc zero) g h = refl
+    odd-max (suc zero) zero g h = refl
+    odd-max (suc zero) (suc zero) g h = refl
+    odd-max (suc (suc a)) b g h = absurd (let z : ⊥ = omega arith in z)
+    odd-max zero (suc (suc b)) g h = absurd (let z : ⊥ = omega arith in z)
+    odd-max (suc zero) (suc (suc b)) g h = absurd (let z : ⊥ = omega arith in z)
+bits-or x y (suc k) = rw (or-half x y) (bits-or (x / 2) (y / 2) k)
+
+-- the lowest m bits
+bit-block : (m a r k : ℕ) → k < m → bitL (a * 2 ^ m + r) k ≡ bitL r k
+unfolding bitL
+bit-block zero a r k h = absurd (let z : ⊥ = omega arith in z)
+bit-block (suc m) a r zero h = rw (block-odd a m r)
+bit-block (suc m) a r (suc k) h = rw (block-half a m r) (bit-block m a (r / 2) k (le-of-suc-le-suc h))
+
+pub bit-low : (m x k : ℕ) → k < m → bitL (x % 2 ^ m) k ≡ bitL x k
+bit-low m x k h = sym (bit-block m (x / 2 ^ m) (x % 2 ^ m) k h) ∙ ap (λ (y : ℕ). bitL y k) (div-add-mod' x (2 ^ m))
+
+pub bit-sum : (m a k i : ℕ) → k < m → i < m → bitL (a * 2 ^ m + 2 ^ k) i ≡ eqb i k
+bit-sum m a k i g h = bit-block m a (2 ^ k) i h ∙ bit-one k i
+
+pub bit-high : (m x k : ℕ) → x < 2 ^ m → m ≤ k → bitL x k ≡ false
+unfolding bitL
+bit-high zero x k h g = ap (λ (y : ℕ). bitL y k) (let z : x ≡ 0 = omega arith in z) ∙ bit-none k
+bit-high (suc m) x zero h g = absurd (let z : ⊥ = omega arith in z)
+bit-high (suc m) x (suc k) h g = bit-high m (x / 2) k (div-lt-iff-lt-mul (let z : 0 < 2 = omega arith in z) .1 (rw (pow-suc 2 m) at h)) (le-of-suc-le-suc g)
+
+-- bits that are moved up
+pub bit-under : (s x k : ℕ) → k < s → bitL (x * 2 ^ s) k ≡ false
+bit-under s x k h = ap (λ (y : ℕ). bitL y k) (sym (add-zero (x * 2 ^ s))) ∙ bit-block s x 0 k h ∙ bit-none k
+
+pub bit-up : (s x k : ℕ) → bitL (x * 2 ^ s) (s + k) ≡ bitL x k
+unfolding bitL
+bit-up zero x k = ap₂ bitL (let z : x * 1 ≡ x = omega arith in z) (let z : 0 + k ≡ k = omega arith in z)
+bit-up (suc s) x k = ap (bitL (x * 2 ^ suc s)) (let z : suc s + k ≡ suc (s + k) = omega arith in z) ∙ ap (λ (y : ℕ). bitL y (s + k)) (shifted-half x s) ∙ bit-up s x k
+
+-- one bit taken away
+bit-most : (k x : ℕ) → bitL x k ≡ true → 2 ^ k ≤ x
+bit-most k x t = cases (ltb x (2 ^ k)) (λ u. false-true (sym (bit-high k x k (ltb-true x (2 ^ k) u) (omega arith)) ∙ t)) (λ u. ltb-false x (2 ^ k) u)
+
+pub bit-minus : (k x : ℕ) → bitL x k ≡ true → (i : ℕ) → bitL (x - 2 ^ k) i ≡ (bitL x i && not (eqb i k))
+unfolding bitL
+bit-minus zero x t zero =
+    let o = eqb-true (x % 2) 1 t in
+    let e : x - 1 ≡ x / 2 * 2 + 0 = let d = div-add-mod' x 2 in omega arith in
+    rw (o, e, digits-mod (x / 2) (let z : 0 < 2 = omega arith in z))
+bit-minus zero x t (suc i) =
+    let o = eqb-true (x % 2) 1 t in
+    let e : x - 1 ≡ x / 2 * 2 + 0 = let d = div-add-mod' x 2 in omega arith in
+    rw (e, digits-div (x / 2) (let z : 0 < 2 = omega arith in z), ne-eqb (suc i) 0 (λ q. let z : ⊥ = omega arith in z)) (and-yes (bitL (x / 2) i))
+bit-minus (suc k) x t i = last (λ n. bit-minus k (x / 2) t n) i
+  where
+    half : x - 2 ^ suc k ≡ (x / 2 - 2 ^ k) * 2 + x % 2
+    half = let d = div-add-mod' x 2 in let p = pow-suc 2 k in let q = bit-most k (x / 2) t in omega arith
+
+    last : ((n : ℕ) → bitL (x / 2 - 2 ^ k) n ≡ (bitL (x / 2) n && not (eqb n k))) → (i : ℕ) → bitL (x - 2 ^ suc k) i ≡ (bitL x i && not (eqb i (suc k)))
+    last f zero = rw (half, digits-mod (x / 2 - 2 ^ k) (mod-lt x (let z : 0 < 2 = omega arith in z)), ne-eqb 0 (suc k) (λ q. let z : ⊥ = omega arith in z)) (and-yes (eqb (x % 2) 1))
+    last f (suc i) = rw (half, digits-div (x / 2 - 2 ^ k) (mod-lt x (let z : 0 < 2 = omega arith in z)), lib.Dec.eqb·suc-suc i k) (f i)
 
 -- ---- a line for each row
 -- the place of a word, and nothing else, says its row and its place in the line
@@ -65,36 +128,31 @@ sixty = omega arith
 word-in : (w j : ℕ) → j < 64 * w → j / 64 < w
 word-in w j h = div-lt-iff-lt-mul sixty .1 (let e = mul-comm 64 w in omega arith)
 
-same-bit : (j k : ℕ) → j / 64 ≡ k / 64 → eqb (j % 64) (k % 64) ≡ eqb j k
-same-bit j k e = cases (eqb (j % 64) (k % 64))
-    (λ t. let f = eqb-true (j % 64) (k % 64) t in t ∙ sym (eq-eqb j k (sym (div-add-mod' j 64) ∙ rw (e, f) (div-add-mod' k 64))))
-    (λ t. t ∙ sym (ne-eqb j k (λ g. eqb-false (j % 64) (k % 64) t (ap (λ (x : ℕ). x % 64) g))))
+-- two numbers in one block of n: their places there say whether they are the same
+pub same-place : (n j k : ℕ) → j / n ≡ k / n → eqb (j % n) (k % n) ≡ eqb j k
+same-place n j k e = cases (eqb (j % n) (k % n))
+    (λ t. let f = eqb-true (j % n) (k % n) t in t ∙ sym (eq-eqb j k (sym (div-add-mod' j n) ∙ rw (e, f) (div-add-mod' k n))))
+    (λ t. t ∙ sym (ne-eqb j k (λ g. eqb-false (j % n) (k % n) t (ap (λ (x : ℕ). x % n) g))))
 
-module _ (bits : List ℕ) (w row j : ℕ) (in-row : row * w + w ≤ length bits) (in-line : j < 64 * w) where
+module _ (bits : List ℕ) (w row a : ℕ) (in-row : row * w + w ≤ length bits) (in-line : a < w) where
   abbrev cell : ℕ
-  cell = row * w + j / 64
+  cell = row * w + a
 
-  cell-in : cell < length bits
-  cell-in = let z = word-in w j in-line in omega arith
-
-  pub set-bit : (i k : ℕ) → k < 64 * w → bitAt (set bits cell (bitOr (getD bits cell 0) (2 ^ (j % 64)))) w i k ≡ (bitAt bits w i k || (eqb k j && eqb i row))
+  pub set-word : (x i k : ℕ) → k < 64 * w → bitAt (set bits cell (bitOr (getD bits cell 0) x)) w i k ≡ (bitAt bits w i k || (eqb i row && (eqb (k / 64) a && bitL x (k % 64))))
   unfolding bitAt
-  set-bit i k h =
-      let x = bitOr (getD bits cell 0) (2 ^ (j % 64)) in
-      cases (eqb (i * w + k / 64) cell)
+  set-word x i k h = cases (eqb (i * w + k / 64) cell)
       (λ t.
       let e = eqb-true (i * w + k / 64) cell t in
-      let u = apart-cells w i row (word-in w k h) (word-in w j in-line) e in
-      rw (e, getD-set-same bits cell x 0 cell-in, bit-or (getD bits cell 0) (j % 64) (k % 64), same-bit k j (u .1), eq-eqb i row (u .0))
-      (ap (λ (b : Bool). bitL (getD bits cell 0) (k % 64) || b) (and-yes (eqb k j))))
+      let u = apart-cells w i row (word-in w k h) in-line e in
+      rw (e, getD-set-same bits cell (bitOr (getD bits cell 0) x) 0 (let z : cell < length bits = omega arith in z), bits-or (getD bits cell 0) x (k % 64), eq-eqb i row (u .0), eq-eqb (k / 64) a (u .1)))
       (λ t.
       let e = eqb-false (i * w + k / 64) cell t in
-      rw (getD-set-other bits cell (i * w + k / 64) x 0 e, other e) (sym (or-no (bitL (getD bits (i * w + k / 64) 0) (k % 64)))))
+      rw (getD-set-other bits cell (i * w + k / 64) (bitOr (getD bits cell 0) x) 0 e, other e) (sym (or-no (bitL (getD bits (i * w + k / 64) 0) (k % 64)))))
     where
-      other : (i * w + k / 64 ≡ cell → ⊥) → (eqb k j && eqb i row) ≡ false
-      other e = cases (eqb k j)
-          (λ t. cases (eqb i row)
-          (λ u. absurd (e (rw (eqb-true k j t, eqb-true i row u))))
+      other : (i * w + k / 64 ≡ cell → ⊥) → (eqb i row && (eqb (k / 64) a && bitL x (k % 64))) ≡ false
+      other e = cases (eqb i row)
+          (λ t. cases (eqb (k / 64) a)
+          (λ u. absurd (e (rw (eqb-true i row t, eqb-true (k / 64) a u))))
           (λ u. rw (t, u)))
           (λ t. rw t)
 
@@ -111,11 +169,7 @@ joined-then {w} {a} {b} {c} {f} {g} {h} x y k = record {
   is = λ i j p q. y .is i j (rw (x .size) p) q ∙ ap (λ (z : Bool). z || g i j) (x .is i j p q) ∙ or-group (bitAt a w i j) (f i j) (g i j) ∙ ap (λ (z : Bool). bitAt a w i j || z) (k i j);
 }
 
--- ---- one row's bit
-pub no-is : (x : ℕ) → x % 4294967296 ≡ noR x
-unfolding noR
-no-is x = refl
-
+-- ---- where lines stand
 pub pos-of : (m : ℕ) → (m ≡ 0 → ⊥) → 0 < m
 pos-of zero n = absurd (n refl)
 pos-of (suc m) n = omega arith
@@ -129,55 +183,6 @@ lines-room a b w e h f = rw (e, f) h
 
 pub line-next : {o : ℕ} (i w : ℕ) → o ≡ i * w → o + w ≡ (i + 1) * w
 line-next {o} i w e = rw add-one (let z = suc-mul i w in omega arith)
-
-module _ (bits : List ℕ) (w start row x : ℕ) (found : Bool) (e : start ≡ row * w) (fits : start + w ≤ length bits) where
-  abbrev rowNew : ℕ → ℕ → Bool
-  rowNew i j = (found && eqb (noR x) (suc j)) && inLine row i j
-
-  pub row-off : found ≡ false → Joined w bits bits rowNew
-  row-off u = joined-none (λ i j _. rw u)
-
-  pub row-zero : noR x ≡ 0 → Joined w bits bits rowNew
-  row-zero u = joined-none (λ i j _. rw (u, ne-eqb 0 (suc j) (λ q. let z : ⊥ = omega arith in z)) (and-no found (inLine row i j)))
-
-  pub row-own : {m j₀ : ℕ} → m ≡ noR x → 0 < m → j₀ ≡ m - 1 → j₀ ≡ row → Joined w bits bits rowNew
-  row-own {m} {j₀} g p f q = joined-none (λ i j _. cases (eqb j row)
-      (λ u. rw u (and-last (found && eqb (noR x) (suc j)) (eqb i row)))
-      (λ u. rw (ne-eqb (noR x) (suc j) (λ z. eqb-false j row u (let y : j ≡ row = omega arith in y))) (and-no found (inLine row i j))))
-    where
-      and-last : (a b : Bool) → (a && (b && false)) ≡ false
-      and-last true true = refl
-      and-last true false = refl
-      and-last false b = refl
-
-  pub row-wide : {m j₀ a : ℕ} → m ≡ noR x → 0 < m → j₀ ≡ m - 1 → a ≡ j₀ / 64 → w ≤ a → Joined w bits bits rowNew
-  row-wide {m} {j₀} {a} g p f q h = joined-none (λ i j k. rw (ne-eqb (noR x) (suc j) (λ z.
-      let y : j₀ ≡ j = omega arith in
-      let v : j / 64 < w = word-in w j k in
-      let u : a ≡ j / 64 = q ∙ ap (λ (n : ℕ). n / 64) y in
-      let o : ⊥ = omega arith in o)) (and-no found (inLine row i j)))
-
-  pub row-set : {m j₀ a c p y : ℕ} {bits′ : List ℕ} → m ≡ noR x → 0 < m → found ≡ true → j₀ ≡ m - 1 → (j₀ ≡ row → ⊥) → a ≡ j₀ / 64 → a < w → p ≡ start + a → c ≡ j₀ % 64 → y ≡ 2 ^ c
-      → bits′ ≡ set bits p (bitOr (getD bits p 0) y) → Joined w bits bits′ rowNew
-  row-set {m} {j₀} {a} {c} {p} {y} {bits′} g pos t f n q h at c′ y′ is =
-      let inl : j₀ < 64 * w = line-of j₀ (let u : j₀ / 64 < w = rw q at h in u) in
-      let inr : row * w + w ≤ length bits = rw e at fits in
-      let cell-is : p ≡ row * w + j₀ / 64 = at ∙ rw (e, q) in
-      let b : bits′ ≡ set bits (row * w + j₀ / 64) (bitOr (getD bits (row * w + j₀ / 64) 0) (2 ^ (j₀ % 64))) = is ∙ rw (cell-is, y′, c′) in
-      record {
-        size = ap length b ∙ length-set bits (row * w + j₀ / 64) _;
-        is = λ i j _ k. ap (λ (z : List ℕ). bitAt z w i j) b ∙ set-bit bits w row j₀ inr inl i j k ∙ ap (λ (z : Bool). bitAt bits w i j || z) (new-is i j);
-      }
-    where
-      line-of : (j : ℕ) → j / 64 < w → j < 64 * w
-      line-of j h = let z = div-lt-iff-lt-mul sixty .0 h in let o = mul-comm 64 w in omega arith
-
-      new-is : (i j : ℕ) → (eqb j j₀ && eqb i row) ≡ rowNew i j
-      new-is i j = cases (eqb j j₀)
-          (λ u. let v = eqb-true j j₀ u in
-          rw (u, t, eq-eqb (noR x) (suc j) (let z : noR x ≡ suc j = omega arith in z), ne-eqb j row (λ z. n (sym v ∙ z))) (and-yes (eqb i row)))
-          (λ u. let v = eqb-false j j₀ u in
-          rw (u, t, ne-eqb (noR x) (suc j) (λ z. v (let y : j ≡ j₀ = omega arith in y))))
 
 -- ---- the rows that a line names
 ones-any : (n x j k : ℕ) → any? (eqb k) (ones n x j) ≡ ((leb j k && ltb k (j + n)) && bitL x (k - j))

@@ -1,12 +1,12 @@
 -- Rows for what records want, in slots and in a table, and the bits that come of them. Assumes nothing.
-use Rattle.queue.specs.Prelude.{_≡_, refl, ap, sym, _∙_, Bool, true, false, not, _&&_, _||_, List, [], _∷_, _++_, ℕ, zero, suc, _+_, _-_, _/_, _%_, _≤_, _<_, arith, le-of-suc-le-suc, add-one, ltb, leb, eqb, length, drop, take, getD, set, length-set, length-take, List·getD-eq-default, length-take-le, drop-drop, getD-set-same, getD-set-other, take-suc, take-suc-set, take-all, getD-take, eqb-true, eqb-false, eq-eqb, ne-eqb, ltb-true, ltb-false, lt-ltb, le-ltb, leb-true, le-leb, lt-leb, not-true, not-false}
+use Rattle.queue.specs.Prelude.{_≡_, refl, ap, sym, _∙_, Bool, true, false, not, _&&_, _||_, List, [], _∷_, _++_, ℕ, zero, suc, _+_, _-_, _*_, _/_, _%_, _≤_, _<_, arith, le-of-suc-le-suc, add-one, mod-lt, bitOr, ltb, leb, eqb, length, drop, take, getD, set, length-set, length-take, digits-div, digits-mod, List·getD-eq-default, drop-drop, drop-set-lt, getD-set-same, getD-set-other, take-suc, take-suc-set, take-all, getD-take, eqb-true, eqb-false, eq-eqb, ltb-true, ltb-false, lt-ltb, le-ltb, leb-true, le-leb, lt-leb, not-true, not-false}
 use Rattle.queue.specs.Basics.{among-append, any-append}
 use Rattle.queue.specs.Codec.{All, cases}
 use Rattle.queue.specs.bytes.Parts.{part}
 use Rattle.queue.specs.Lists.{and-true, and-both}
 use Rattle.queue.specs.bytes.OrderLaws.{same-is, or-false}
 use Rattle.queue.specs.layout.FrameCodec.{idC}
-use Rattle.queue.specs.bytes.ViewAs.{view}
+use Rattle.queue.specs.bytes.ViewAs.{view, view-fits}
 use Rattle.queue.specs.bytes.ReaderAs.{Reads, whole, listAt}
 use Rattle.queue.specs.bytes.ReaderLaws.{none-left, false-true}
 use Rattle.queue.specs.layout.FrameAs.{factsOf, SeenAs}
@@ -17,7 +17,7 @@ use Rattle.queue.specs.paper.Records.{Bytes, Id, Rec}
 use Rattle.queue.specs.paper.Ids.{cmpL, same?}
 use Rattle.queue.specs.paper.Lists.{any?, all?}
 use Rattle.queue.specs.paper.Sound.{inputs, outputs, reads, wanted, among?}
-use Rattle.queue.specs.read.LinksAs.{Again, Thinner, Thinned, wantsAt, outsAt, Short, Joined, hit, inLine, Zero, Cleared, Slotted, RowsHold, Rowed, Linked, outputsLinked, Begins}
+use Rattle.queue.specs.read.LinksAs.{sign, names, OutsIs, OutsTo, Again, Thinner, Thinned, wantsAt, outsAt, Short, Joined, hit, inLine, Zero, Cleared, Slotted, RowsHold, Rowed, Linked, outputsLinked, Begins}
 use Rattle.queue.specs.declared.layout.frame.Seen.{Seen}
 use Rattle.queue.proofs.layout.TurnLaws.{Scan, start, here, on, ReadsRec}
 use Rattle.queue.proofs.check.FilterLaws.{mark-size, mark-here, mark-old, slot-in}
@@ -25,6 +25,7 @@ use Rattle.queue.proofs.check.SuspectsRowLaws.{id-long, any-none, any-s
 use Rattle.queue.proofs.check.SuspectsLaws.{id-bytes, all-at, all-append, shuffled-all, shuffled-any}
 use Rattle.queue.proofs.read.FeesLaws.{the-turn, rec-is, known-at}
 use Rattle.queue.proofs.read.LinksBitLaws.{or-no, or-group, spread, joined-none, joined-to, joined-then}
+use Rattle.queue.proofs.read.LinksNameLaws.{sign-pos, names-sign, names-none, names-or, join-number, join-place}
 
 -- ---- zeros
 pub zero-go : (v : List ℕ) (i : ℕ) → ((j : ℕ) → j < i → getD v j 0 ≡ 0) → (j : ℕ) → j < i + 1 → getD (set v i 0) j 0 ≡ 0
@@ -81,15 +82,10 @@ meets-same s y x n e f h k p q r =
     r ∙ rw (p ∙ sym (id-long false s y (omega arith)), q ∙ sym (id-long false s x (omega arith))) (meets-is s y x n refl)
 
 -- what a row of record j with the id y says
-row-says : (s : Bytes) (w j : ℕ) (y : Id) → idR false s w ≡ y → noR w ≡ suc j → (i : ℕ) (z : Id) → hit s i z w ≡ (eqb i j && same? z y)
+row-says : (s : Bytes) (w j : ℕ) (y : Id) → idR false s w ≡ y → noR w ≡ sign j → (i : ℕ) (z : Id) → hit s i z w ≡ (eqb i j && same? z y)
 unfolding hit later
-row-says s w j y e n i z = rw (e, n, lt-ltb 0 (suc j) (omega arith), flip) (swap (same? z y) (eqb i j))
+row-says s w j y e n i z = rw (e, n, lt-ltb 0 (sign j) (sign-pos j), names-sign j i) (swap (same? z y) (eqb i j))
   where
-    flip : eqb (suc j) (suc i) ≡ eqb i j
-    flip = cases (eqb i j)
-        (λ t. let q = eqb-true i j t in eq-eqb (suc j) (suc i) (ap suc (sym q)) ∙ sym t)
-        (λ t. let q = eqb-false i j t in ne-eqb (suc j) (suc i) (λ u. q (let o : i ≡ j = omega arith in o)) ∙ sym t)
-
     swap : (a b : Bool) → ((a && true) && b) ≡ (b && a)
     swap true true = refl
     swap true false = refl
@@ -99,9 +95,27 @@ row-says s w j y e n i z = rw (e, n, lt-ltb 0 (suc j) (omega arith), flip) (swap
 hit-id : (s : Bytes) (j : ℕ) (z : Id) (x : ℕ) → hit s j z x ≡ true → (z ≡ idR false s x) × (0 < noR x)
 unfolding hit later
 hit-id s j z x e =
-    let a = and-true (same? z (idR false s x) && ltb 0 (noR x)) (eqb (noR x) (suc j)) e in
+    let a = and-true (same? z (idR false s x) && ltb 0 (noR x)) (names (noR x) j) e in
     let b = and-true (same? z (idR false s x)) (ltb 0 (noR x)) (a .0) in
     (same-is z (idR false s x) (b .0), ltb-true 0 (noR x) (b .1))
+
+hit-is : (s : Bytes) (j : ℕ) (z : Id) (x : ℕ) → hit s j z x ≡ (same? z (idR false s x) && names (noR x) j)
+unfolding hit later
+hit-is s j z x = cases (ltb 0 (noR x))
+    (λ t. rw t (yes (same? z (idR false s x)) (names (noR x) j)))
+    (λ t. let e = ltb-false 0 (noR x) t in rw (t, ap (λ (n : ℕ). names n j) (let o : noR x ≡ 0 = omega arith in o) ∙ names-none j) (no (same? z (idR false s x))))
+  where
+    yes : (a b : Bool) → ((a && true) && b) ≡ (a && b)
+    yes true b = refl
+    yes false b = refl
+
+    no : (a : Bool) → ((a && false) && false) ≡ (a && false)
+    no true = refl
+    no false = refl
+
+no-small : (x : ℕ) → noR x < 4294967296
+unfolding noR
+no-small x = mod-lt x (omega arith)
 
 hit-later : (s : Bytes) (j : ℕ) (z : Id) (x : ℕ) → later false s z 0 x ≡ false → hit s j z x ≡ false
 unfolding hit
@@ -246,7 +260,7 @@ rowing s j b c at slots t rows h w = record {
 }
 
 module _ {s : Bytes} {j : ℕ} {b : Bytes} {c at : ℕ} {slots₀ t₀ rows₀ : List ℕ} {i left : ℕ} {slots t : List ℕ} (v : List ℕ) (k : ℕ) (x : Rowing s j b c at slots₀ t₀ rows₀ i left slots t (take k v)) where
-  pub rowing-go : {next : ℕ} {ok : Bool} {y : Id} {h : ℕ} (w : ℕ) {r : ℕ} {slots′ t′ v′ : List ℕ} → 0 < left → Reads idC b i ok next (λ a. a ≡ y) → h ≡ hashAll y → idR false s w ≡ part 32 b i → noR w ≡ suc j
+  pub rowing-go : {next : ℕ} {ok : Bool} {y : Id} {h : ℕ} (w : ℕ) {r : ℕ} {slots′ t′ v′ : List ℕ} → 0 < left → Reads idC b i ok next (λ a. a ≡ y) → h ≡ hashAll y → idR false s w ≡ part 32 b i → noR w ≡ sign j
       → 0 < length slots → 0 < length t → k < length v → Slotted h w k slots t v r slots′ t′ v′ → Rowing s j b c at slots₀ t₀ rows₀ next (left - 1) slots′ t′ (take r v′)
   rowing-go {next} {ok} {y} {h} w {r} {slots′} {t′} {v′} p rd e f n a d l g =
       let u = here (x .scan) p rd in
@@ -295,8 +309,14 @@ module _ (s : Bytes) (at : List ℕ) (i : ℕ) {m : ℕ} {ok : Bool} {y : Seen} 
   pub ins-here : (y .at ≤ length (view false s (getD at i 0))) × (whole idC (y .facts .ins) (view false s (getD at i 0)) (y .at) ≡ true)
   ins-here = (its .insIn, its .insAll)
 
-  pub outs-here : (y .outs ≤ length (view false s (getD at i 0))) × (whole idC (y .facts .outs) (view false s (getD at i 0)) (y .outs) ≡ true)
-  outs-here = (its .outsIn, its .outsAll)
+  outs-are : listAt idC (y .facts .outs) (view false s (getD at i 0)) (y .outs) ≡ outsAt s at i
+  outs-are = its .outsList ∙ ap (λ (r : Rec). outputs (r .body)) (sym (rec-is s (getD at i 0) (stands .stands) rd))
+
+  pub outs-small : length s < 4294967296 → (y .outs < 4294967296) × (y .facts .outs < 4294967296)
+  outs-small l = (omega (arith, its .outsIn, view-fits false s (getD at i 0)), omega (arith, its .small .outs))
+
+  pub outs-noted : {c : ℕ} → c / 4294967296 ≡ y .outs → c % 4294967296 ≡ y .facts .outs → OutsIs s (getD at i 0) c
+  outs-noted e f = record { within = rw e (its .outsIn); all = rw (e, f) (its .outsAll); list = rw (e, f) outs-are }
 
   pub reads-here : (y .reads ≤ length (view false s (getD at i 0))) × (whole idC (y .facts .reads) (view false s (getD at i 0)) (y .reads) ≡ true)
   reads-here = (its .readsIn, its .readsAll)
@@ -306,9 +326,6 @@ module _ (s : Bytes) (at : List ℕ) (i : ℕ) {m : ℕ} {ok : Bool} {y : Seen} 
     where
       two : {a a′ b b′ : List Id} → a ≡ a′ → b ≡ b′ → a ++ b ≡ a′ ++ b′
       two e f = cc
-
-  pub outs-are : listAt idC (y .facts .outs) (view false s (getD at i 0)) (y .outs) ≡ outsAt s at i
-  outs-are = its .outsList ∙ ap (λ (r : Rec). outputs (r .body)) (sym (rec-is s (getD at i 0) (stands .stands) rd))
 
   pub wants-few : All (Short s) at → (y .facts .ins ≤ 128) × (y .facts .reads ≤ 128)
   unfolding factsOf
@@ -324,6 +341,27 @@ module _ (s : Bytes) (at : List ℕ) (i : ℕ) {m : ℕ} {ok : Bool} {y : Seen} 
       all-get [] i a h = absurd (let z : ⊥ = omega arith in z)
       all-get (p ∷ l) zero a h = a .0
       all-get (p ∷ l) (suc i) a h = all-get l i (a .1) (le-of-suc-le-suc h)
+
+-- ---- where outputs stand
+pub outs-start : (s : Bytes) (at cs : List ℕ) → OutsTo s at cs 0
+outs-start s at cs = record { each = λ i h. absurd (let z : ⊥ = omega arith in z) }
+
+pub outs-go : {s : Bytes} {at cs : List ℕ} {b c : ℕ} → OutsTo s at cs b → b < length cs → OutsIs s (getD at b 0) c → OutsTo s at (set cs b c) (b + 1)
+outs-go {s} {at} {cs} {b} {c} x l o = record {
+  each = λ i h. cases (eqb i b)
+      (λ t. let e = eqb-true i b t in rw (e, getD-set-same cs b c 0 l) o)
+      (λ t. let e = eqb-false i b t in rw (getD-set-other cs b i c 0 e) (x .each i (under i b e h)));
+}
+  where
+    under : (i b : ℕ) → (i ≡ b → ⊥) → i < b + 1 → i < b
+    under i b e h = cases (ltb i b) (λ t. ltb-true i b t) (λ t. let k = ltb-false i b t in absurd (e (let z : i ≡ b = omega arith in z)))
+
+pub outs-less : {s : Bytes} {at cs : List ℕ} (n m : ℕ) → n ≤ m → OutsTo s at cs m → OutsTo s at cs n
+outs-less n m h x = record { each = λ i k. x .each i (omega arith) }
+
+-- a place and a number in one
+pub packed : (a n : ℕ) {c : ℕ} → n < 4294967296 → c ≡ a * 4294967296 + n → (c / 4294967296 ≡ a) × (c % 4294967296 ≡ n)
+packed a n h e = (ap (λ (x : ℕ). x / 4294967296) e ∙ digits-div a h, ap (λ (x : ℕ). x % 4294967296) e ∙ digits-mod a h)
 
 -- ---- rows for the records from a on
 abbrev pub wantedIn : Bytes → List ℕ → ℕ → ℕ → ℕ → Id → Bool
@@ -412,7 +450,7 @@ module _ (s : Bytes) (v : List ℕ) (y : ℕ) (ny : noR y ≡ 0) where
             any-at p (x ∷ l) (suc i) e h = any-at p l i (or-false (p x) (any? p l) e .1) (le-of-suc-le-suc h)
 
     pub run-go : {found : Bool} {bits′ : List ℕ} → k < length v → found ≡ later false s (idR false s y) 0 (getD v k 0)
-        → Joined w bits bits′ (λ i j. (found && eqb (noR (getD v k 0)) (suc j)) && inLine row i j) → Running s v y w row bits₀ (k + 1) bits′
+        → Joined w bits bits′ (λ i j. (found && names (noR (getD v k 0)) j) && inLine row i j) → Running s v y w row bits₀ (k + 1) bits′
     unfolding hit
     run-go {found} {bits′} h e g = record {
       within = omega arith;
@@ -457,8 +495,8 @@ module _ (s : Bytes) (y h : ℕ) (slots t v : List ℕ) (e : h ≡ hashAll (idR 
       false-true (sym m ∙ ap (marked t) (e ∙ ap hashAll (q .0)) ∙ z))
       (λ w. w))
 
-  module _ {w : ℕ} (row : ℕ) {bits bits′ : List ℕ} {found : Bool} {x₀ : ℕ} (is : x₀ ≡ at-slot) (f : found ≡ later false s (idR false s y) 0 x₀) (g : Joined w bits bits′ (λ i j. (found && eqb (noR x₀) (suc j)) && inLine row i j)) where
-    slot-bits : (j : ℕ) → (found && eqb (noR x₀) (suc j)) ≡ hit s j (idR false s y) at-slot
+  module _ {w : ℕ} (row : ℕ) {bits bits′ : List ℕ} {found : Bool} {x₀ : ℕ} (is : x₀ ≡ at-slot) (f : found ≡ later false s (idR false s y) 0 x₀) (g : Joined w bits bits′ (λ i j. (found && names (noR x₀) j) && inLine row i j)) where
+    slot-bits : (j : ℕ) → (found && names (noR x₀) j) ≡ hit s j (idR false s y) at-slot
     unfolding hit
     slot-bits j = rw (f, is)
 
@@ -543,34 +581,65 @@ pub lines-end : {w : ℕ} (i : ℕ) {s : Bytes} (at : List ℕ) {slots t v bits�
 unfolding linesTo outputsLinked
 lines-end i at e x = record { by = λ own o. joined-to (λ k j. rw e) (x .by own o) }
 
--- ---- rows that stand again
-hit-same : (s : Bytes) (j : ℕ) (z : Id) (x y : ℕ) → idR false s x ≡ idR false s y → noR x ≡ noR y → hit s j z x ≡ hit s j z y
-unfolding hit later
-hit-same s j z x y e f = rw (e, f)
+-- ---- rows that are joined
+id-join : (s : Bytes) (w x : ℕ) → idR false s (bitOr w (noR x)) ≡ idR false s w
+unfolding idR
+id-join s w x = rw (join-place w (noR x) (no-small x))
 
-pub again-is : {s : Bytes} {v : List ℕ} {k x : ℕ} {c : ℕ} {b : Bool} → (k ≡ 0 → ⊥) → c ≡ cmpL (idR false s (getD v (k - 1) 0)) (idR false s x) → b ≡ (eqb c 1 && eqb (getD v (k - 1) 0 % 4294967296) (x % 4294967296)) → b ≡ true → Again s v k x
+-- a row with the number of another one too, of the same id and group, says what both say
+hit-join : (s : Bytes) (j : ℕ) (z : Id) (w x : ℕ) → idR false s w ≡ idR false s x → noR w / 65536 ≡ noR x / 65536 → hit s j z (bitOr w (noR x)) ≡ (hit s j z w || hit s j z x)
+hit-join s j z w x e f =
+    hit-is s j z (bitOr w (noR x))
+    ∙ rw (id-join s w x, join-number w (noR x) (no-small x), names-or (noR w) (noR x) j f) (out (same? z (idR false s w)) (names (noR w) j) (names (noR x) j))
+    ∙ sym (two (hit-is s j z w) (hit-is s j z x ∙ ap (λ (i : Id). same? z i && names (noR x) j) (sym e)))
+  where
+    out : (p a b : Bool) → (p && (a || b)) ≡ ((p && a) || (p && b))
+    out true a b = refl
+    out false a b = refl
+
+    two : {a a′ b b′ : Bool} → a ≡ a′ → b ≡ b′ → (a || b) ≡ (a′ || b′)
+    two p q = cc
+
+pub again-is : {s : Bytes} {v : List ℕ} {k x : ℕ} {c : ℕ} {b : Bool} → (k ≡ 0 → ⊥) → c ≡ cmpL (idR false s (getD v (k - 1) 0)) (idR false s x)
+    → b ≡ (eqb c 1 && eqb (getD v (k - 1) 0 % 4294967296 / 65536) (x % 4294967296 / 65536)) → b ≡ true → Again s v k x
 unfolding noR
 again-is {s} {v} {k} {x} {c} {b} n e f t =
-    let u = and-true (eqb c 1) (eqb (getD v (k - 1) 0 % 4294967296) (x % 4294967296)) (sym f ∙ t) in
-    record { some = pos k n; id = same-is (idR false s (getD v (k - 1) 0)) (idR false s x) (eq-eqb (cmpL (idR false s (getD v (k - 1) 0)) (idR false s x)) 1 (sym e ∙ eqb-true c 1 (u .0))); number = eqb-true _ _ (u .1) }
+    let u = and-true (eqb c 1) (eqb (getD v (k - 1) 0 % 4294967296 / 65536) (x % 4294967296 / 65536)) (sym f ∙ t) in
+    record { some = pos k n; id = same-is (idR false s (getD v (k - 1) 0)) (idR false s x) (eq-eqb (cmpL (idR false s (getD v (k - 1) 0)) (idR false s x)) 1 (sym e ∙ eqb-true c 1 (u .0))); group = eqb-true _ _ (u .1) }
   where
     pos : (k : ℕ) → (k ≡ 0 → ⊥) → 0 < k
     pos zero n = absurd (n refl)
     pos (suc k) n = omega arith
 
-pub thinner-not : {s : Bytes} (v : List ℕ) (k x : ℕ) → k < length v → Again s v k x → Thinner s v k x k v
-thinner-not {s} v k x h a = record {
-  size = refl;
-  up = omega arith;
-  rest = refl;
-  same = λ j i. cases (hit s j i x)
-      (λ t. let q : k - 1 < k = let z = a .some in omega arith in
-      let g : hit s j i (getD (take k v) (k - 1) 0) ≡ true = ap (hit s j i) (getD-take k v (k - 1) 0 q) ∙ hit-same s j i (getD v (k - 1) 0) x (a .id) (a .number) ∙ t in
-      let y = any-some (hit s j i) (take k v) (k - 1) (omega (arith, length-take-le k v (omega arith))) g in
-      rw (t, y))
-      (λ t. rw t (sym (or-no (any? (hit s j i) (take k v)))));
-  some = λ p e _. e;
-}
+-- the row x goes into the last of k rows
+pub thinner-joins : {s : Bytes} (v : List ℕ) (k x : ℕ) {n : ℕ} {v′ : List ℕ} → k < length v → Again s v k x → n ≡ noR x → v′ ≡ set v (k - 1) (bitOr (getD v (k - 1) 0) n) → Thinner s v k x k v′
+thinner-joins {s} v k x {n} {v′} h a m e =
+    let w = getD v (k - 1) 0 in
+    let l : suc (k - 1) ≡ k = let z = a .some in omega arith in
+    let is : v′ ≡ set v (k - 1) (bitOr w (noR x)) = e ∙ ap (λ (n : ℕ). set v (k - 1) (bitOr w n)) m in
+    let was : take k v ≡ take (k - 1) v ++ (w ∷ []) = ap (λ (n : ℕ). take n v) (sym l) ∙ take-suc v (k - 1) 0 (let z = a .some in omega arith) in
+    let now : take k v′ ≡ take (k - 1) v ++ (bitOr w (noR x) ∷ []) = ap (take k) is ∙ ap (λ (n : ℕ). take n (set v (k - 1) (bitOr w (noR x)))) (sym l) ∙ take-suc-set v (k - 1) (bitOr w (noR x)) (let z = a .some in omega arith) in
+    record {
+      size = ap length is ∙ length-set v (k - 1) (bitOr w (noR x));
+      up = omega arith;
+      rest = ap (drop (k + 1)) is ∙ drop-set-lt (k + 1) v (k - 1) (bitOr w (noR x)) (omega arith);
+      same = λ j i.
+          ap (any? (hit s j i)) now ∙ any-append (hit s j i) (take (k - 1) v) (bitOr w (noR x) ∷ [])
+          ∙ ap (λ (q : Bool). any? (hit s j i) (take (k - 1) v) || (q || false)) (hit-join s j i w x (a .id) (a .group))
+          ∙ mix (any? (hit s j i) (take (k - 1) v)) (hit s j i w) (hit s j i x)
+          ∙ ap (λ (q : Bool). q || hit s j i x) (sym (ap (any? (hit s j i)) was ∙ any-append (hit s j i) (take (k - 1) v) (w ∷ [])));
+      some = λ p b c.
+          let P : ℕ → Bool = λ y. p (idR false s y) in
+          let u = and-true (all? P (take (k - 1) v)) (all? P (w ∷ [])) (sym (all-append P (take (k - 1) v) (w ∷ [])) ∙ ap (all? P) (sym was) ∙ b) in
+          let q : P (bitOr w (noR x)) ≡ true = ap p (id-join s w x ∙ a .id) ∙ c in
+          ap (all? P) now ∙ all-append P (take (k - 1) v) (bitOr w (noR x) ∷ []) ∙ and-both (all? P (take (k - 1) v)) (all? P (bitOr w (noR x) ∷ [])) (u .0) (and-both (P (bitOr w (noR x))) true q refl);
+    }
+  where
+    mix : (a b c : Bool) → (a || ((b || c) || false)) ≡ ((a || (b || false)) || c)
+    mix true b c = refl
+    mix false true c = refl
+    mix false false true = refl
+    mix false false false = refl
 
 pub thinner-new : {s : Bytes} (v : List ℕ) (k x : ℕ) {v′ : List ℕ} → k < length v → v′ ≡ set v k x → Thinner s v k x (k + 1) v′
 thinner-new {s} v k x {v′} h e =
@@ -580,7 +649,9 @@ thinner-new {s} v k x {v′} h e =
       up = omega arith;
       rest = ap (drop (k + 1)) e ∙ rw add-one (drop-set v k x);
       same = λ j i. ap (any? (hit s j i)) t ∙ any-append (hit s j i) (take k v) (x ∷ []) ∙ ap (λ (q : Bool). any? (hit s j i) (take k v) || q) (or-no (hit s j i x));
-      some = λ p a b. ap (all? p) t ∙ all-append p (take k v) (x ∷ []) ∙ rw (a, b);
+      some = λ p a b.
+          let P : ℕ → Bool = λ y. p (idR false s y) in
+          ap (all? P) t ∙ all-append P (take k v) (x ∷ []) ∙ and-both (all? P (take k v)) (all? P (x ∷ [])) a (and-both (P x) true b refl);
     }
   where
     drop-set : (v : List ℕ) (k x : ℕ) → drop (suc k) (set v k x) ≡ drop (suc k) v
@@ -614,8 +685,9 @@ thinning-go {s} {v₀} {i} {k} {v} {r} {v′} x h g =
         same = λ j z. g .same j z ∙ ap (λ (b : Bool). b || hit s j z (getD v i 0)) (x .thin .same j z) ∙ ap (λ (n : ℕ). any? (hit s j z) (take i v₀) || hit s j z n) here
             ∙ sym (ap (any? (hit s j z)) tk ∙ any-append (hit s j z) (take i v₀) (getD v₀ i 0 ∷ []) ∙ ap (λ (q : Bool). any? (hit s j z) (take i v₀) || q) (or-no (hit s j z (getD v₀ i 0))));
         some = λ p e.
-            let u = and-true (all? p (take i v₀)) (all? p (getD v₀ i 0 ∷ [])) (sym (all-append p (take i v₀) (getD v₀ i 0 ∷ [])) ∙ ap (all? p) (sym tk) ∙ e) in
-            g .some p (x .thin .some p (u .0)) (ap p here ∙ and-true (p (getD v₀ i 0)) true (u .1) .0);
+            let P : ℕ → Bool = λ y. p (idR false s y) in
+            let u = and-true (all? P (take i v₀)) (all? P (getD v₀ i 0 ∷ [])) (sym (all-append P (take i v₀) (getD v₀ i 0 ∷ [])) ∙ ap (all? P) (sym tk) ∙ e) in
+            g .some p (x .thin .some p (u .0)) (ap P here ∙ and-true (P (getD v₀ i 0)) true (u .1) .0);
       };
     }
   where
@@ -632,7 +704,7 @@ held-thin : {s : Bytes} {slots t v z : List ℕ} {own : ℕ → Id → Bool} →
 held-thin {s} {slots} {t} n x = record {
   has = λ j i. ap (λ (b : Bool). any? (hit s j i) slots || b) (n .same j i) ∙ x .has j i;
   placed = x .placed;
-  noted = n .some (λ y. marked t (hashAll (idR false s y))) (x .noted);
+  noted = n .some (λ y. marked t (hashAll y)) (x .noted);
 }
 
 pub linked-thin : {w : ℕ} {s : Bytes} (at : List ℕ) {slots t v v′ z bits bits′ : List ℕ} → Shuffled v v′ → Thinned s v′ z → Linked w s slots t z bits bits′ (outputsLinked s at) → Linked w s slots t v bits bits′ (outputsLinked s at)

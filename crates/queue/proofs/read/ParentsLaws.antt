@@ -1,5 +1,6 @@
 -- The counters' loops, and that the list they make is the parents-first order. Assumes nothing.
-use Rattle.queue.specs.Prelude.{_≡_, refl, ap, sym, _∙_, subst, Bool, true, false, cond, not, _&&_, _||_, some, List, [], _∷_, _++_, append-assoc, append-nil, ℕ, zero, suc, _+_, _-_, _*_, _/_, _%_, _^_, _≤_, _<_, arith, pow-suc, suc-mul, zero-mul, mul-le-mul-right, mul-comm, le-of-suc-le-suc, div-lt-iff-lt-mul, add-one, ltb, eqb, length, take, drop, getD, set, replicate, length-set, length-append, length-replicate, getD-replicate, take-append-drop, getD-set-same, getD-set-other, set-out, set-getD, take-suc-set, ext-getD, length-take-le, eqb-true, eqb-false, eq-eqb, ne-eqb, ltb-true, ltb-false, lt-ltb, le-ltb, not-true, not-false}
+use Rattle.queue.specs.Prelude.{_≡_, refl, ap, sym, _∙_, subst, Bool, true, false, cond, not, _&&_, _||_, some, List, [], _∷_, _++_, append-assoc, append-nil, ℕ, zero, suc, _+_, _-_, _*_, _/_, _%_, _^_, _≤_, _<_, arith, pow-suc, pow-succ', pow-pos, div-one, div-add-mod', div-div-eq-div-mul, digits-mod, add-zero, suc-mul, zero-mul, mul-le-mul-right, mul-comm, le-of-suc-le-suc, div-lt-iff-lt-mul, add-one, ltb, eqb, length, take, drop, getD, set, replicate, length-set, length-append, length-replicate, getD-replicate, take-append-drop, getD-set-same, getD-set-other, set-out, set-getD, take-suc-set, ext-getD, length-take-le, eqb-true, eqb-false, eq-eqb, ne-eqb, ltb-true, ltb-false, lt-ltb, le-ltb, not-true, not-false}
+use Rattle.queue.specs.Prelude.{block-half, block-odd}
 use Rattle.queue.specs.Codec as codec
 use Rattle.queue.specs.Codec.{All, cases}
 use Rattle.queue.specs.Lists.{Pairwise, and-true, all-map, sub-all}
@@ -18,7 +19,7 @@ use Rattle.queue.specs.read.FeesAs.{noRec, recAt, recOfRow, Known}
 use Rattle.queue.specs.read.fees.Laws as laws
 use Rattle.queue.specs.read.parents.Counters.{firstOne, raise, lower, counted, picks, start, byCounters, Kids, rowsAt}
 use Rattle.queue.specs.read.parents.CounterLaws.{lower-length, raise-length, counted-length, by-counters}
-use Rattle.queue.specs.read.LinksAs.{wantsAt, outsAt, Modest, Short, Named, bitL, bitAt, Joined, Zero, outputsLinked, ones, wordOnes, kidsOf, Few, Clear, Lowered}
+use Rattle.queue.specs.read.LinksAs.{Ones, wantsAt, outsAt, Modest, Short, Named, bitL, bitAt, Joined, Zero, outputsLinked, ones, wordOnes, kidsOf, Few, Clear, Lowered}
 use Rattle.queue.specs.paper.Records.{Bytes, Id, Rec, Queue}
 use Rattle.queue.specs.paper.Lists.{any?, sort, map, concat}
 use Rattle.queue.specs.paper.Ids.{same?}
@@ -172,6 +173,21 @@ module _ (g : List ℕ → List ℕ → List ℕ) (st : List ℕ → ℕ → Lis
 
     pub sweep-end : y ≡ 0 → cs ≡ g (ones 64 x base) cs₀
     sweep-end e = sym (nil cs) ∙ ap (λ (l : List ℕ). g l cs) (sym (ones-none (base + 64 - j) j)) ∙ ap (λ (z : ℕ). g (ones (base + 64 - j) z j) cs) (sym e) ∙ w .same
+
+  -- bits that are all 0 change nothing
+  pub sweep-skip : (n : ℕ) {x base : ℕ} {cs₀ : List ℕ} {y j : ℕ} {cs : List ℕ} → Sweep x base cs₀ y j cs → 0 < y → y % 2 ^ n ≡ 0 → Sweep x base cs₀ (y / 2 ^ n) (j + n) cs
+  sweep-skip zero {y = y} {j = j} w h e = rw (div-one y, add-zero j) w
+  sweep-skip (suc n) {x} {base} {cs₀} {y} {j} {cs} w h e =
+      let q : ℕ = y / 2 ^ suc n in
+      let d : y ≡ q * 2 ^ suc n + 0 = sym (div-add-mod' y (2 ^ suc n)) ∙ ap (λ (r : ℕ). q * 2 ^ suc n + r) e in
+      let even : y % 2 ≡ 0 = ap (λ (r : ℕ). r % 2) d ∙ block-odd q n 0 in
+      let half : y / 2 ≡ q * 2 ^ n + 0 = ap (λ (r : ℕ). r / 2) d ∙ block-half q n 0 in
+      let rest : y / 2 % 2 ^ n ≡ 0 = ap (λ (r : ℕ). r % 2 ^ n) half ∙ digits-mod q (pow-pos n) in
+      let one : Sweep x base cs₀ (y / 2) (j + 1) cs = sweep-go w h (rw even) in
+      let all = sweep-skip n one (let a = div-add-mod' y 2 in omega arith) rest in
+      let to : y / 2 / 2 ^ n ≡ y / 2 ^ suc n = div-div-eq-div-mul y 2 (2 ^ n) ∙ ap (λ (r : ℕ). y / r) (sym (pow-succ' 2 n)) in
+      let on : j + 1 + n ≡ j + suc n = omega arith in
+      rw (to, on) at all
 
   g-append : (a b cs : List ℕ) → g (a ++ b) cs ≡ g b (g a cs)
   g-append [] b cs = ap (g b) (sym (nil cs))
@@ -358,9 +374,6 @@ module _ {at bits : List ℕ} {w : ℕ} {cs₀ : List ℕ} {len : ℕ} {cs picke
           same = rw (p, d .is, add-one m, take-suc-set picked m (getD at i 0) (omega (arith, v .room)), append-assoc, ← (add-one m)) y;
         }
 
-ones-size : (cs₀ : List ℕ) {cs : List ℕ} → cs ≡ replicate (length cs₀) 1 → length cs ≡ length cs₀
-ones-size cs₀ e = ap length e ∙ length-replicate (length cs₀) 1
-
 -- ---- the answer's bytes
 module _ (s out : Bytes) (picked : List ℕ) (all : All (λ p. p + 33 ≤ length s) picked) where
   ids-many : length (map (idAt s) picked) ≡ length picked
@@ -496,12 +509,12 @@ module _ (s : Bytes) (at : List ℕ) (named : Named s at) where
     within-of (i ∷ l) h = (known-at s at i (named .known) (h .0) .within, within-of l (h .1))
 
     -- the counters after the rows were set to 1, and after they were counted
-    module _ (cs₀ : List ℕ) {cs₁ : List ℕ} (even : length at ≡ length cs₀) (few : length at ≤ 2048) (narrow : w ≤ 32) (ones : cs₁ ≡ replicate (length cs₀) 1) where
+    module _ {n : ℕ} {cs₁ : List ℕ} (all-ones : Ones n cs₁) (even : length at ≡ n) (few : length at ≤ 2048) (narrow : w ≤ 32) where
       many-1 : length cs₁ ≡ length at
-      many-1 = ones-size cs₀ ones ∙ sym even
+      many-1 = ap length (all-ones .is) ∙ length-replicate n 1 ∙ sym even
 
       pub with-count : (length cs₁ * w ≤ length bits′) × (w ≤ 32) × (length cs₁ ≤ 2048) × Few 1 cs₁
-      with-count = (lines-room (length cs₁) (length at) w many-1 fits (x .size), narrow, omega (arith, many-1), few-ones (length cs₀) ones)
+      with-count = (lines-room (length cs₁) (length at) w many-1 fits (x .size), narrow, omega (arith, many-1), few-ones n (all-ones .is))
 
       module _ {cs₂ : List ℕ} (sums : cs₂ ≡ counted (kidsOf bits′ w) 0 (length cs₁) cs₁) where
         many-2 : length cs₂ ≡ length at
@@ -515,7 +528,7 @@ module _ (s : Bytes) (at : List ℕ) (named : Named s at) where
 
         pub with-picked : {l : List ℕ} → l ≡ map (placeAt at) (picks (kidsOf bits′ w) (length cs₂) cs₂) → l ≡ map (placeAt at) (byCounters (kidsOf bits′ w) (length at))
         with-picked e =
-            let a : cs₁ ≡ replicate (length at) 1 = ones ∙ ap (λ (n : ℕ). replicate n 1) (sym even) in
+            let a : cs₁ ≡ replicate (length at) 1 = all-ones .is ∙ ap (λ (n : ℕ). replicate n 1) (sym even) in
             let b : cs₂ ≡ counted (kidsOf bits′ w) 0 (length at) (replicate (length at) 1) = sums ∙ rw (many-1, a) in
             e ∙ rw (many-2, b)
 

@@ -1,8 +1,11 @@
 -- Who waits for whom, as the code goes: rows for the ids that records want, a bit for each pair of rows of the selection.
-use Rattle.queue.specs.Prelude.{_≡_, Bool, true, false, cond, not, _&&_, _||_, List, [], _∷_, _++_, ℕ, zero, suc, _+_, _-_, _*_, _/_, _%_, _≤_, _<_, ltb, eqb, length, getD, set, take, drop}
+use Rattle.queue.specs.Prelude.{_≡_, Bool, true, false, cond, not, _&&_, _||_, List, [], _∷_, _++_, ℕ, zero, suc, _+_, _-_, _*_, _/_, _%_, _^_, _≤_, _<_, ltb, eqb, length, getD, set, take, drop, replicate}
 use Rattle.queue.specs.check.FilterAs.{slotL, marked, markL, hashAll}
 use Rattle.queue.specs.check.SuspectsAs.{idR, noR, later, InOrder, Cut}
 use Rattle.queue.specs.Codec.{All}
+use Rattle.queue.specs.layout.FrameCodec.{idC}
+use Rattle.queue.specs.bytes.ViewAs.{view}
+use Rattle.queue.specs.bytes.ReaderAs.{whole, listAt}
 use Rattle.queue.specs.Lists.{Pairwise}
 use Rattle.queue.specs.read.FeesAs.{recAt, Known}
 use Rattle.queue.specs.paper.Records.{Bytes, Id, Rec}
@@ -46,11 +49,24 @@ pub record Joined (w : ℕ) (bits bits′ : List ℕ) (new : ℕ → ℕ → Boo
   pub size : length bits′ ≡ length bits
   pub is : (i j : ℕ) → i * w + w ≤ length bits → j < 64 * w → bitAt bits′ w i j ≡ (bitAt bits w i j || new i j)
 
--- ---- rows: a row's number is that of the record that wants its id, and 1; a row with the number 0 is none
+-- ---- rows: a row's number names records that want its id, some of 16 that stand together; a row with the number 0 is none
+
+-- the number of one record: its group of 16 records, and its bit there
+unfoldable pub sign : ℕ → ℕ
+sign m = m / 16 * 65536 + 2 ^ (m % 16)
+
+-- the number n names record j
+unfoldable pub names : ℕ → ℕ → Bool
+names n j = eqb (n / 65536) (j / 16) && bitL n (j % 16)
+
+-- the bits r name, in the group of n, all that n names but one row
+pub record Others (n row r : ℕ) : Type 0 where
+  pub small : r < 65536
+  pub is : (j : ℕ) → (eqb (n / 65536) (j / 16) && bitL r (j % 16)) ≡ (names n j && not (eqb j row))
 
 -- the row x says that record j wants the id z
 unfoldable pub hit : Bytes → ℕ → Id → ℕ → Bool
-hit s j z x = later false s z 0 x && eqb (noR x) (suc j)
+hit s j z x = later false s z 0 x && names (noR x) j
 
 -- in the line of a row, that of another
 abbrev pub inLine : ℕ → ℕ → ℕ → Bool
@@ -80,24 +96,24 @@ pub record Rowed (s : Bytes) (j : ℕ) (ids : List Id) (slots t rows slots′ t�
   pub sizes : (length slots′ ≡ length slots) × (length t′ ≡ length t)
   pub by : (own : ℕ → Id → Bool) → RowsHold s slots t rows own → RowsHold s slots′ t′ rows′ (λ i z. own i z || (eqb i j && among? z ids))
 
--- the row before place k of v has the id and the number of x
+-- the row before place k of v has the id and the group of x
 pub record Again (s : Bytes) (v : List ℕ) (k x : ℕ) : Type 0 where
   pub some : 0 < k
   pub id : idR false s (getD v (k - 1) 0) ≡ idR false s x
-  pub number : noR (getD v (k - 1) 0) ≡ noR x
+  pub group : noR (getD v (k - 1) 0) / 65536 ≡ noR x / 65536
 
--- z has some of the rows v, and says the same
+-- z says what the rows v say, and has no other ids
 pub record Thinned (s : Bytes) (v z : List ℕ) : Type 0 where
   pub same : (j : ℕ) (i : Id) → any? (hit s j i) z ≡ any? (hit s j i) v
-  pub some : (p : ℕ → Bool) → all? p v ≡ true → all? p z ≡ true
+  pub some : (p : Id → Bool) → all? (λ x. p (idR false s x)) v ≡ true → all? (λ x. p (idR false s x)) z ≡ true
 
--- the row x behind the first k of v, or not
+-- the row x behind the first k of v, or in the last of these
 pub record Thinner (s : Bytes) (v : List ℕ) (k x r : ℕ) (v′ : List ℕ) : Type 0 where
   pub size : length v′ ≡ length v
   pub up : r ≤ k + 1
   pub rest : drop (k + 1) v′ ≡ drop (k + 1) v
   pub same : (j : ℕ) (i : Id) → any? (hit s j i) (take r v′) ≡ (any? (hit s j i) (take k v) || hit s j i x)
-  pub some : (p : ℕ → Bool) → all? p (take k v) ≡ true → p x ≡ true → all? p (take r v′) ≡ true
+  pub some : (p : Id → Bool) → all? (λ x. p (idR false s x)) (take k v) ≡ true → p (idR false s x) ≡ true → all? (λ x. p (idR false s x)) (take r v′) ≡ true
 
 -- bits that come of the rows, whatever these say
 pub record Linked (w : ℕ) (s : Bytes) (slots t rows bits bits′ : List ℕ) (new : (ℕ → Id → Bool) → ℕ → ℕ → Bool) : Type 0 where
@@ -106,6 +122,16 @@ pub record Linked (w : ℕ) (s : Bytes) (slots t rows bits bits′ : List ℕ) (
 -- in the line of row i the bit of j: another one, which wants an output of i
 unfoldable pub outputsLinked : Bytes → List ℕ → (ℕ → Id → Bool) → ℕ → ℕ → Bool
 outputsLinked s at own i j = ltb i (length at) && (any? (own j) (outsAt s at i) && not (eqb j i))
+
+-- c says where the outputs of the record at place p stand, and how many there are
+pub record OutsIs (s : Bytes) (p c : ℕ) : Type 0 where
+  pub within : c / 4294967296 ≤ length (view false s p)
+  pub all : whole idC (c % 4294967296) (view false s p) (c / 4294967296) ≡ true
+  pub list : listAt idC (c % 4294967296) (view false s p) (c / 4294967296) ≡ outputs (recAt s p .body)
+
+-- so do the first n of cs, of the records at the first n places
+pub record OutsTo (s : Bytes) (at cs : List ℕ) (n : ℕ) : Type 0 where
+  pub each : (i : ℕ) → i < n → OutsIs s (getD at i 0) (getD cs i 0)
 
 -- the bits of all lines, put into a table without any: the bit of j in the line of i says that j, another one, wants an output of i
 pub record LinksIn (w : ℕ) (s : Bytes) (at bits : List ℕ) : Type 0 where
@@ -135,6 +161,10 @@ unfoldable pub kidsOf : List ℕ → ℕ → ℕ → List ℕ
 kidsOf bits w i = wordOnes bits w (i * w) 0
 
 -- ---- counters
+
+-- n of them, each 1
+pub record Ones (n : ℕ) (cs : List ℕ) : Type 0 where
+  pub is : cs ≡ replicate n 1
 
 -- none is above b
 pub record Few (b : ℕ) (cs : List ℕ) : Type 0 where

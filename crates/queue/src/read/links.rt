@@ -21,8 +21,8 @@ use crate::layout::frame::id_read;
 use crate::layout::frame::rec_at;
 ghost use mathlib.Core.Path.{_≡_};
 ghost use mathlib.Core.Bool.{true, false, _&&_};
-ghost use Prim.Native.Nat.{suc, _+_, _*_, _≤_, _<_};
-ghost use lib.Dec.{ltb, leb, eqb};
+ghost use Prim.Native.Nat.{_+_, _*_, _/_, _%_, _≤_, _<_};
+ghost use lib.Dec.{ltb, leb};
 ghost use lib.ListN.{length, take};
 ghost use Rattle.queue.specs.Codec.{All};
 ghost use Rattle.queue.specs.layout.FrameCodec.{idC};
@@ -30,7 +30,7 @@ ghost use Rattle.queue.specs.bytes.ViewAs.{view};
 ghost use Rattle.queue.specs.bytes.ReaderAs.{whole, listAt};
 ghost use Rattle.queue.specs.check.SuspectsAs.{idR, noR, later, InOrder};
 ghost use Rattle.queue.specs.read.FeesAs.{Known};
-ghost use Rattle.queue.specs.read.LinksAs.{wantsAt, Short, Joined, hit, inLine, Zero, Cleared, Slotted, RowsHold, Rowed, Begins, Again, Thinner, Thinned, Linked, outputsLinked, LinksIn};
+ghost use Rattle.queue.specs.read.LinksAs.{wantsAt, sign, names, Others, OutsTo, Short, Joined, hit, inLine, Zero, Cleared, Slotted, RowsHold, Rowed, Begins, Again, Thinner, Thinned, Linked, outputsLinked, LinksIn};
 ghost use Rattle.queue.specs.paper.Lists.{any?};
 ghost use Rattle.queue.specs.paper.Sound.{among?};
 ghost use Rattle.queue.specs.check.FilterAs.{hashAll};
@@ -78,6 +78,14 @@ fn keep_row(slots: &mut [u64], t: &mut [u64], v: &mut [u64], k: usize, h: u64, w
     k + 1
 }
 
+// What rows of record number m have as their number: its group of 16 records, and its bit there.
+fn sign_of(m: u64) -> u64
+    requires { ⌜ m < 2048 ⌝ }
+    ensures { λ r. ⌜ (r ≡ sign m) × (r < 4294967296) ⌝ }
+{
+    m / 16 * 65536 + bit(m % 16)
+}
+
 // Rows for the c ids at offset `at` of the frame at base, which record number m wants.
 fn keep_ids(
     s: &[u8],
@@ -90,17 +98,18 @@ fn keep_ids(
     v: &mut [u64],
     k: usize,
 ) -> usize
-    requires { ⌜ (at ≤ length (view false (now s) base)) × (whole idC c (view false (now s) base) at ≡ true) × (length (now s) < 4294967296) × (m < 4294967295) × (0 < length (now slots)) × (0 < length (now t)) × (k + c ≤ length (now v)) ⌝ }
+    requires { ⌜ (at ≤ length (view false (now s) base)) × (whole idC c (view false (now s) base) at ≡ true) × (length (now s) < 4294967296) × (m < 2048) × (0 < length (now slots)) × (0 < length (now t)) × (k + c ≤ length (now v)) ⌝ }
     ensures { λ r. ⌜ Rowed (now (s .entry)) m (listAt idC c (view false (now (s .entry)) base) at) (now (slots .entry)) (now (t .entry)) (take k (now (v .entry))) (now (slots .exit)) (now (t .exit)) (take r (now (v .exit))) × (r ≤ k + c) ⌝ }
 {
     let mut i = at;
     let mut left = c;
     let mut n = k;
+    let g = sign_of(m);
     while 0 < left {
         let x = id_read(s, false, base, i);
         let id = x.id;
         let h = hash_all(id);
-        let w = row_at(s, false, base, i, m + 1);
+        let w = row_at(s, false, base, i, g);
         n = keep_row(slots, t, v, n, h, w);
         i = x.next;
         left = left - 1;
@@ -108,17 +117,27 @@ fn keep_ids(
     n
 }
 
-// Rows for what the records from row a on want, for as many records as there is room.
+// A place and a number in one.
+fn pack(a: usize, n: u64) -> u64
+    requires { ⌜ (a < 4294967296) × (n < 4294967296) ⌝ }
+    ensures { λ r. ⌜ (r / 4294967296 ≡ a) × (r % 4294967296 ≡ n) ⌝ }
+{
+    a as u64 * 4294967296 + n
+}
+
+// Rows for what the records from row a on want, for as many records as there is room. Where their outputs stand goes into cs, so that
+// no record is read twice where there is room for all.
 fn keep_rows(
     s: &[u8],
     at: &[usize],
     a: usize,
+    cs: &mut [u64],
     slots: &mut [u64],
     t: &mut [u64],
     v: &mut [u64],
 ) -> Batch
-    requires { ⌜ All (Known (now s)) (now at) × All (Short (now s)) (now at) × (length (now s) < 4294967296) × (a < length (now at)) × (length (now at) ≤ 2048) × (256 ≤ length (now v)) × (0 < length (now slots)) × (0 < length (now t)) × Zero (now slots) ⌝ }
-    ensures { λ r. ⌜ RowsHold (now (s .entry)) (now (slots .exit)) (now (t .exit)) (take (r .len) (now (v .exit))) (λ j z. (leb a j && ltb j (r .next)) && among? z (wantsAt (now (s .entry)) (now (at .entry)) j)) × (a < r .next) × (r .next ≤ length (now (at .entry))) × (r .len ≤ length (now (v .entry))) ⌝ }
+    requires { ⌜ All (Known (now s)) (now at) × All (Short (now s)) (now at) × (length (now s) < 4294967296) × (a < length (now at)) × (length (now at) ≤ 2048) × (256 ≤ length (now v)) × (0 < length (now slots)) × (0 < length (now t)) × Zero (now slots) × (length (now at) ≡ length (now cs)) × OutsTo (now s) (now at) (now cs) a ⌝ }
+    ensures { λ r. ⌜ RowsHold (now (s .entry)) (now (slots .exit)) (now (t .exit)) (take (r .len) (now (v .exit))) (λ j z. (leb a j && ltb j (r .next)) && among? z (wantsAt (now (s .entry)) (now (at .entry)) j)) × (a < r .next) × (r .next ≤ length (now (at .entry))) × (r .len ≤ length (now (v .entry))) × OutsTo (now (s .entry)) (now (at .entry)) (now (cs .exit)) (r .next) ⌝ }
 {
     let mut b = a;
     let mut k: usize = 0;
@@ -131,9 +150,24 @@ fn keep_rows(
         let f = x.facts;
         k = keep_ids(s, p, x.at, f.ins, b as u64, slots, t, v, k);
         k = keep_ids(s, p, x.reads, f.reads, b as u64, slots, t, v, k);
+        cs[b] = pack(x.outs, f.outs);
         b += 1;
     }
     Batch { next: b, len: k }
+}
+
+// Where the outputs of the records from row `from` on stand.
+fn note_outs(s: &[u8], at: &[usize], from: usize, cs: &mut [u64])
+    requires { ⌜ All (Known (now s)) (now at) × (length (now s) < 4294967296) × (length (now at) ≡ length (now cs)) × (length (now at) ≤ 2048) × (from ≤ length (now at)) × OutsTo (now s) (now at) (now cs) from ⌝ }
+    ensures { λ _. ⌜ OutsTo (now (s .entry)) (now (at .entry)) (now (cs .exit)) (length (now (at .entry))) ⌝ }
+{
+    let mut i = from;
+    while i < at.len() {
+        let x = rec_at(s, at[i]);
+        let f = x.facts;
+        cs[i] = pack(x.outs, f.outs);
+        i += 1;
+    }
 }
 
 // Has the row x a number, and the id of y? Two ids are compared without an early way out; rows too near the end have none.
@@ -156,29 +190,39 @@ fn is_row_of(s: &[u8], y: u64, x: u64) -> bool
     same_id(a, b)
 }
 
-// The bit of the record that the row x is for, in a line that is not its own.
+// The bits of the group of n, without that of record number j.
+fn others(n: u64, j: u64) -> u64
+    ensures { λ r. ⌜ Others n j r ⌝ }
+{
+    let m = n % 65536;
+    if j / 16 != n / 65536 {
+        return m;
+    }
+    let b = bit(j % 16);
+    if m / b % 2 == 0 {
+        return m;
+    }
+    m - b
+}
+
+// The bits of the records that the row x is for, in a line: that of the line's own row stays out.
 fn link_row(bits: &mut [u64], l: Line, found: bool, x: u64)
     requires { ⌜ (l .start ≡ l .row * l .width) × (l .start + l .width ≤ length (now bits)) ⌝ }
-    ensures { λ _. ⌜ Joined (l .width) (now (bits .entry)) (now (bits .exit)) (λ i j. (found && eqb (noR x) (suc j)) && inLine (l .row) i j) ⌝ }
+    ensures { λ _. ⌜ Joined (l .width) (now (bits .entry)) (now (bits .exit)) (λ i j. (found && names (noR x) j) && inLine (l .row) i j) ⌝ }
 {
     if !found {
         return;
     }
-    let m = x % 4294967296;
-    if m == 0 {
-        return;
-    }
-    let j = m - 1;
-    if j == l.row as u64 {
-        return;
-    }
-    let a = j / 64;
+    let n = x % 4294967296;
+    let g = n / 65536;
+    let a = g / 4;
     if l.width as u64 <= a {
         return;
     }
+    let y = others(n, l.row as u64);
     let p = l.start + a as usize;
     let b = bits[p];
-    bits[p] = b | bit(j % 64);
+    bits[p] = b | y * bit(g % 4 * 16);
 }
 
 // The bits for the rows of v with the id of y. In order, these stand behind each other from `from` on.
@@ -269,6 +313,7 @@ fn link_ids(
 fn link_all(
     s: &[u8],
     at: &[usize],
+    cs: &[u64],
     slots: &[u64],
     t: &[u64],
     v: &[u64],
@@ -276,27 +321,37 @@ fn link_all(
     bits: &mut [u64],
     w: usize,
 )
-    requires { ⌜ All (Known (now s)) (now at) × (length (now s) < 4294967296) × (0 < length (now slots)) × (0 < length (now t)) × (ordered ≡ true → InOrder false (now s) (now v)) × (length (now at) * w ≤ length (now bits)) × (length (now at) ≤ 2048) ⌝ }
+    requires { ⌜ OutsTo (now s) (now at) (now cs) (length (now at)) × (length (now at) ≡ length (now cs)) × (length (now s) < 4294967296) × (0 < length (now slots)) × (0 < length (now t)) × (ordered ≡ true → InOrder false (now s) (now v)) × (length (now at) * w ≤ length (now bits)) × (length (now at) ≤ 2048) ⌝ }
     ensures { λ _. ⌜ Linked w (now (s .entry)) (now (slots .entry)) (now (t .entry)) (now (v .entry)) (now (bits .entry)) (now (bits .exit)) (outputsLinked (now (s .entry)) (now (at .entry))) ⌝ }
 {
     let mut i: usize = 0;
     let mut o: usize = 0;
     while i < at.len() {
         let p = at[i];
-        let x = rec_at(s, p);
-        let f = x.facts;
+        let c = cs[i];
         let l = Line {
             width: w,
             start: o,
             row: i,
         };
-        link_ids(s, p, x.outs, f.outs, slots, t, v, ordered, bits, l);
+        link_ids(
+            s,
+            p,
+            (c / 4294967296) as usize,
+            c % 4294967296,
+            slots,
+            t,
+            v,
+            ordered,
+            bits,
+            l,
+        );
         o += w;
         i += 1;
     }
 }
 
-// Has the last of the first k rows the id and the number of x?
+// Has the last of the first k rows the id and the group of x?
 fn is_again(s: &[u8], v: &[u64], k: usize, x: u64) -> bool
     requires { ⌜ k ≤ length (now v) ⌝ }
     ensures { λ r. ⌜ (r ≡ true → Again (now (s .entry)) (now (v .entry)) k x) ⌝ }
@@ -307,24 +362,26 @@ fn is_again(s: &[u8], v: &[u64], k: usize, x: u64) -> bool
     let w = v[k - 1];
     both(
         cmp_rows(s, false, w, x) == 1,
-        w % 4294967296 == x % 4294967296,
+        w % 4294967296 / 65536 == x % 4294967296 / 65536,
     )
 }
 
-// The row x behind k others, unless it stands there; returns how many there are then.
+// The row x behind k others, or its number into the last of these; returns how many there are then.
 fn add_once(s: &[u8], v: &mut [u64], k: usize, x: u64) -> usize
     requires { ⌜ k < length (now v) ⌝ }
     ensures { λ r. ⌜ Thinner (now (s .entry)) (now (v .entry)) k x r (now (v .exit)) ⌝ }
 {
     if is_again(s, v, k, x) {
+        let w = v[k - 1];
+        v[k - 1] = w | x % 4294967296;
         return k;
     }
     v[k] = x;
     k + 1
 }
 
-// The rows of v, which is in order, without those that stand there again: an id that one record wants often costs no more. How many
-// are left, at the front.
+// The rows of v, which is in order: those of one id and one group become one. An id that one record wants often costs no more, and
+// one that all want a row for 16 records. How many are left, at the front.
 fn thin(s: &[u8], v: &mut [u64]) -> usize
     ensures { λ r. ⌜ Thinned (now (s .entry)) (now (v .entry)) (take r (now (v .exit))) × (r ≤ length (now (v .entry))) ⌝ }
 {
@@ -343,57 +400,62 @@ fn thin(s: &[u8], v: &mut [u64]) -> usize
 fn link_ordered(
     s: &[u8],
     at: &[usize],
+    cs: &[u64],
     slots: &[u64],
     t: &[u64],
     v: &[u64],
     bits: &mut [u64],
     w: usize,
 )
-    requires { ⌜ All (Known (now s)) (now at) × (length (now s) < 4294967296) × (0 < length (now slots)) × (0 < length (now t)) × (length (now at) * w ≤ length (now bits)) × (length (now at) ≤ 2048) ⌝ }
+    requires { ⌜ OutsTo (now s) (now at) (now cs) (length (now at)) × (length (now at) ≡ length (now cs)) × (length (now s) < 4294967296) × (0 < length (now slots)) × (0 < length (now t)) × (length (now at) * w ≤ length (now bits)) × (length (now at) ≤ 2048) ⌝ }
     ensures { λ _. ⌜ Linked w (now (s .entry)) (now (slots .entry)) (now (t .entry)) (now (v .entry)) (now (bits .entry)) (now (bits .exit)) (outputsLinked (now (s .entry)) (now (at .entry))) ⌝ }
 {
     let o = in_order(s, false, v);
-    link_all(s, at, slots, t, v, o, bits, w);
+    link_all(s, at, cs, slots, t, v, o, bits, w);
 }
 
-// The rows of v are put in order first, and each is left once.
+// The rows of v are put in order first, and joined.
 fn link_block(
     s: &[u8],
     at: &[usize],
+    cs: &[u64],
     slots: &[u64],
     t: &[u64],
     v: &mut [u64],
     bits: &mut [u64],
     w: usize,
 )
-    requires { ⌜ All (Known (now s)) (now at) × (length (now s) < 4294967296) × (0 < length (now slots)) × (0 < length (now t)) × (length (now at) * w ≤ length (now bits)) × (length (now at) ≤ 2048) ⌝ }
+    requires { ⌜ OutsTo (now s) (now at) (now cs) (length (now at)) × (length (now at) ≡ length (now cs)) × (length (now s) < 4294967296) × (0 < length (now slots)) × (0 < length (now t)) × (length (now at) * w ≤ length (now bits)) × (length (now at) ≤ 2048) ⌝ }
     ensures { λ _. ⌜ Linked w (now (s .entry)) (now (slots .entry)) (now (t .entry)) (now (v .entry)) (now (bits .entry)) (now (bits .exit)) (outputsLinked (now (s .entry)) (now (at .entry))) ⌝ }
 {
     order_rows(s, Order::Ids(false), v);
     let n = thin(s, v);
-    link_ordered(s, at, slots, t, &v[..n], bits, w);
+    link_ordered(s, at, cs, slots, t, &v[..n], bits, w);
 }
 
-// The bits of all pairs of rows: that of j in the line of i, where another record j wants an output of i. The slots are empty at first.
+// The bits of all pairs of rows: that of j in the line of i, where another record j wants an output of i. The slots are empty at first; cs is for where
+// outputs stand.
 pub fn links(
     s: &[u8],
     at: &[usize],
+    cs: &mut [u64],
     slots: &mut [u64],
     t: &mut [u64],
     v: &mut [u64],
     bits: &mut [u64],
     w: usize,
 )
-    requires { ⌜ All (Known (now s)) (now at) × All (Short (now s)) (now at) × (length (now s) < 4294967296) × (length (now at) ≤ 2048) × (256 ≤ length (now v)) × (0 < length (now slots)) × (0 < length (now t)) × (length (now at) * w ≤ length (now bits)) × Zero (now slots) × Zero (now bits) ⌝ }
+    requires { ⌜ All (Known (now s)) (now at) × All (Short (now s)) (now at) × (length (now s) < 4294967296) × (length (now at) ≤ 2048) × (256 ≤ length (now v)) × (0 < length (now slots)) × (0 < length (now t)) × (length (now at) * w ≤ length (now bits)) × Zero (now slots) × Zero (now bits) × (length (now at) ≡ length (now cs)) ⌝ }
     ensures { λ _. ⌜ LinksIn w (now (s .entry)) (now (at .entry)) (now (bits .exit)) ⌝ }
 {
     let mut a: usize = 0;
     while a < at.len() {
         clear(slots, 0 < a);
         clear(t, 0 < a);
-        let b = keep_rows(s, at, a, slots, t, v);
+        let b = keep_rows(s, at, a, cs, slots, t, v);
+        note_outs(s, at, b.next, cs);
         let n = b.len;
-        link_block(s, at, slots, t, &mut v[..n], bits, w);
+        link_block(s, at, cs, slots, t, &mut v[..n], bits, w);
         a = b.next;
     }
 }

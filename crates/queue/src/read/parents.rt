@@ -17,7 +17,7 @@ use crate::refusal;
 ghost use mathlib.Core.Path.{_≡_};
 ghost use mathlib.Core.Bool.{false, cond};
 ghost use Prim.Native.Nat.{_+_, _-_, _*_, _≤_, _<_};
-ghost use lib.ListN.{length, take, getD, set, replicate};
+ghost use lib.ListN.{length, take, getD, set};
 ghost use Rattle.queue.specs.Codec.{All};
 ghost use Rattle.queue.specs.layout.FrameCodec.{recC};
 ghost use Rattle.queue.specs.layout.FormsCodec.{formC};
@@ -28,14 +28,14 @@ ghost use Rattle.queue.specs.Checked.{written};
 ghost use Rattle.queue.specs.read.SelectAs.{rows, Even, ahead?, idAt, chosen};
 ghost use Rattle.queue.specs.read.FeesAs.{recAt, recOfRow};
 ghost use Rattle.queue.specs.read.parents.Counters.{firstOne, raise, lower, counted, picks};
-ghost use Rattle.queue.specs.read.LinksAs.{Few, Clear, Lowered, ones, wordOnes, kidsOf, Named, Modest};
+ghost use Rattle.queue.specs.read.LinksAs.{Ones, Few, Clear, Lowered, ones, wordOnes, kidsOf, Named, Modest};
 ghost use Rattle.queue.specs.paper.Lists.{map, sort};
 ghost use Rattle.queue.specs.paper.Reading.{first?};
 ghost use Rattle.queue.specs.paper.Calls.{toldOut, idsBytes};
 ghost use Rattle.queue.specs.paper.Parents.{waitsFor?, parentsFirst, parentsFirstOf};
 
 fn fill_ones(cs: &mut [u64])
-    ensures { λ _. ⌜ now (cs .exit) ≡ replicate (length (now (cs .entry))) 1 ⌝ }
+    ensures { λ _. ⌜ Ones (length (now (cs .entry))) (now (cs .exit)) ⌝ }
 {
     let n = cs.len();
     let mut i: usize = 0;
@@ -89,9 +89,14 @@ fn raise_word(cs: &mut [u64], x: u64, base: usize, most: u64)
     let mut y = x;
     let mut j = base;
     while 0 < y {
-        raise_if(cs, y % 2 == 1, j);
-        y = y / 2;
-        j += 1;
+        if y % 256 == 0 {
+            y = y / 256;
+            j += 8;
+        } else {
+            raise_if(cs, y % 2 == 1, j);
+            y = y / 2;
+            j += 1;
+        }
     }
 }
 
@@ -104,9 +109,14 @@ fn lower_word(cs: &mut [u64], x: u64, base: usize, from: usize) -> usize
     let mut j = base;
     let mut f = from;
     while 0 < y {
-        f = lower_if(cs, y % 2 == 1, j, f);
-        y = y / 2;
-        j += 1;
+        if y % 256 == 0 {
+            y = y / 256;
+            j += 8;
+        } else {
+            f = lower_if(cs, y % 2 == 1, j, f);
+            y = y / 2;
+            j += 1;
+        }
     }
     f
 }
@@ -221,7 +231,7 @@ fn parents_few(s: &[u8], at: &[usize], cs: &mut [u64], w: usize, out: &mut [u8])
     let mut v = [0u64; 1024];
     let mut bits = [0u64; 4096];
     let mut picked = [0usize; 512];
-    links(s, at, &mut slots, &mut t, &mut v, &mut bits, w);
+    links(s, at, cs, &mut slots, &mut t, &mut v, &mut bits, w);
     fill_ones(cs);
     count_rows(&bits, w, cs);
     let r = list_rows(at, &bits, w, cs, &mut picked);
@@ -238,7 +248,7 @@ fn parents_some(s: &[u8], at: &[usize], cs: &mut [u64], w: usize, out: &mut [u8]
     let mut v = [0u64; 4096];
     let mut bits = [0u64; 16384];
     let mut picked = [0usize; 1024];
-    links(s, at, &mut slots, &mut t, &mut v, &mut bits, w);
+    links(s, at, cs, &mut slots, &mut t, &mut v, &mut bits, w);
     fill_ones(cs);
     count_rows(&bits, w, cs);
     let r = list_rows(at, &bits, w, cs, &mut picked);
@@ -255,7 +265,7 @@ fn parents_many(s: &[u8], at: &[usize], cs: &mut [u64], w: usize, out: &mut [u8]
     let mut v = [0u64; 32768];
     let mut bits = [0u64; 65536];
     let mut picked = [0usize; 2048];
-    links(s, at, &mut slots, &mut t, &mut v, &mut bits, w);
+    links(s, at, cs, &mut slots, &mut t, &mut v, &mut bits, w);
     fill_ones(cs);
     count_rows(&bits, w, cs);
     let r = list_rows(at, &bits, w, cs, &mut picked);

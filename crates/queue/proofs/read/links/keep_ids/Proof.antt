@@ -8,7 +8,6 @@ use borrow.Author.Needs.{needs}
 use lib.ListN.{length, take}
 use mathlib.Core.Bool.{false}
 use mathlib.Core.Path.{_∙_, _≡_, refl}
-use native.Mathlib.Numerals.{add-one}
 use native.Mathlib.Omega.{arith}
 use Rattle.queue.proofs.read.links.keep_ids.Statement.{statement}
 use Rattle.queue.proofs.read.links.keep_ids.Tie as tie
@@ -18,15 +17,19 @@ use Rattle.queue.proofs.check.filter.hash_all.Reads as hash-all-reads
 use Rattle.queue.proofs.check.suspects.row_at.Reads as row-at-reads
 use Rattle.queue.proofs.layout.frame.id_read.Reads as id-read-reads
 use Rattle.queue.proofs.read.links.keep_row.Reads as keep-row-reads
+use Rattle.queue.proofs.read.links.sign_of.Reads as sign-of-reads
 
 abbrev Inv-loop : tie.InvT-loop
-Inv-loop s base at c m slots₀ t₀ v₀ k i₀ left₀ n₀ slots t v i left n = Rowing s m (view false s base) c at slots₀ t₀ (take k v₀) i left slots t (take n v) × (n + left ≤ k + c) × (length v ≡ length v₀)
+Inv-loop s base at c m slots₀ t₀ v₀ k i₀ left₀ n₀ g slots t v i left n = Rowing s m (view false s base) c at slots₀ t₀ (take k v₀) i left slots t (take n v) × (n + left ≤ k + c) × (length v ≡ length v₀)
 
 abbrev μ-loop : tie.MeasureT-loop
-μ-loop s base at c m slots₀ t₀ v₀ k i₀ left₀ n₀ slots t v i left n = left
+μ-loop s base at c m slots₀ t₀ v₀ k i₀ left₀ n₀ g slots t v i left n = left
+
+sign-of-requires : tie.Need-sign-of-requires Inv-loop μ-loop
+sign-of-requires c κs = c .before .before .before .before .pre .3
 
 loop-holds : tie.Need-loop-holds Inv-loop μ-loop
-loop-holds c = (rowing (c .before .before .before .before .args .s .now) (c .before .before .before .before .args .m) _ _ _ _ _ _ (c .before .before .before .before .pre .0) (c .before .before .before .before .pre .1), omega arith, refl)
+loop-holds c = (rowing (c .before .before .before .before .before .args .s .now) (c .before .before .before .before .before .args .m) _ _ _ _ _ _ (c .before .before .before .before .before .pre .0) (c .before .before .before .before .before .pre .1), omega arith, refl)
 
 id-read-requires : tie.Need-id-read-requires Inv-loop μ-loop
 id-read-requires c κs = search needs
@@ -34,14 +37,11 @@ id-read-requires c κs = search needs
 hash-all-requires : tie.Need-hash-all-requires Inv-loop μ-loop
 hash-all-requires c κs = search needs
 
-add-row-at : tie.Need-add-row-at Inv-loop μ-loop
-add-row-at c = omega (arith, c .before .before .before .before .before .before .before .before .before .pre .3)
-
 row-at-requires : tie.Need-row-at-requires Inv-loop μ-loop
-row-at-requires c κs = (id-bytes (here (c .before .before .before .before .loop .inv .0 .scan) (c .before .before .before .loop-test .taken) (c .before .before .id-read .ensures)) .1, c .before .before .before .before .before .before .before .before .before .pre .2, omega (arith, c .before .before .before .before .before .before .before .before .before .pre .3))
+row-at-requires c κs = (id-bytes (here (c .before .before .before .before .loop .inv .0 .scan) (c .before .before .before .loop-test .taken) (c .before .before .id-read .ensures)) .1, c .before .before .before .before .before .before .before .before .before .before .pre .2, c .before .before .before .before .before .sign-of .ensures .1)
 
 keep-row-requires : tie.Need-keep-row-requires Inv-loop μ-loop
-keep-row-requires c κs = (omega (arith, c .before .before .before .before .before .before .before .before .before .before .before .before .before .pre .4, c .before .before .before .before .before .before .before .before .loop .inv .0 .sizes .0), omega (arith, c .before .before .before .before .before .before .before .before .before .before .before .before .before .pre .5, c .before .before .before .before .before .before .before .before .loop .inv .0 .sizes .1), omega (arith, c .before .before .before .before .before .before .before .before .before .before .before .before .before .pre .6, c .before .before .before .before .before .before .before .before .loop .inv .1, c .before .before .before .before .before .before .before .before .loop .inv .2, c .before .before .before .before .before .before .before .loop-test .taken))
+keep-row-requires c κs = (omega (arith, c .before .before .before .before .before .before .before .before .before .before .before .before .before .before .pre .4, c .before .before .before .before .before .before .before .before .loop .inv .0 .sizes .0), omega (arith, c .before .before .before .before .before .before .before .before .before .before .before .before .before .before .pre .5, c .before .before .before .before .before .before .before .before .loop .inv .0 .sizes .1), omega (arith, c .before .before .before .before .before .before .before .before .before .before .before .before .before .before .pre .6, c .before .before .before .before .before .before .before .before .loop .inv .1, c .before .before .before .before .before .before .before .before .loop .inv .2, c .before .before .before .before .before .before .before .loop-test .taken))
 
 sub-left : tie.Need-sub-left Inv-loop μ-loop
 sub-left c = omega (arith, c .before .before .before .before .before .before .before .before .before .before .before .before .before .before .loop-test .taken)
@@ -51,7 +51,7 @@ loop-less c = omega (arith, c .before .before .before .before .before .before .b
 
 loop-again : tie.Need-loop-again Inv-loop μ-loop
 loop-again c = let z = kept-sizes (c .before .before .before .before .before .before .before .before .before .before .before .before .before .before .before .loop .slots) (c .before .before .before .before .before .before .before .before .before .before .before .before .before .before .before .loop .t) (c .before .before .before .before .before .before .before .before .before .before .before .before .before .before .before .loop .v) (c .before .before .before .before .before .before .before .before .before .before .before .hash-all .result) (c .before .before .before .before .before .before .before .before .before .before .row-at .result) (c .before .before .before .before .before .before .before .before .before .before .before .before .before .before .before .loop .n) (c .before .before .before .before .before .before .keep-row .ensures) in
-    (rowing-go (c .before .before .before .before .before .before .before .before .before .before .before .before .before .before .before .loop .v) (c .before .before .before .before .before .before .before .before .before .before .before .before .before .before .before .loop .n) (c .before .before .before .before .before .before .before .before .before .before .before .before .before .before .before .loop .inv .0) (c .before .before .before .before .before .before .before .before .before .before .row-at .result) (c .before .before .before .before .before .before .before .before .before .before .before .before .before .before .loop-test .taken) (c .before .before .before .before .before .before .before .before .before .before .before .before .before .id-read .ensures) (c .before .before .before .before .before .before .before .before .before .before .before .hash-all .ensures) (c .before .before .before .before .before .before .before .before .before .before .row-at .ensures .0) (c .before .before .before .before .before .before .before .before .before .before .row-at .ensures .1 ∙ add-one (c .before .before .before .before .before .before .before .before .before .before .before .before .before .before .before .before .before .before .before .before .args .m)) (omega (arith, c .before .before .before .before .before .before .before .before .before .before .before .before .before .before .before .before .before .before .before .before .pre .4, c .before .before .before .before .before .before .before .before .before .before .before .before .before .before .before .loop .inv .0 .sizes .0)) (omega (arith, c .before .before .before .before .before .before .before .before .before .before .before .before .before .before .before .before .before .before .before .before .pre .5, c .before .before .before .before .before .before .before .before .before .before .before .before .before .before .before .loop .inv .0 .sizes .1)) (omega (arith, c .before .before .before .before .before .before .before .before .before .before .before .before .before .before .before .before .before .before .before .before .pre .6, c .before .before .before .before .before .before .before .before .before .before .before .before .before .before .before .loop .inv .1, c .before .before .before .before .before .before .before .before .before .before .before .before .before .before .before .loop .inv .2, c .before .before .before .before .before .before .before .before .before .before .before .before .before .before .loop-test .taken)) (c .before .before .before .before .before .before .keep-row .ensures), omega (arith, z .2, c .before .before .before .before .before .before .before .before .before .before .before .before .before .before .before .loop .inv .1, c .before .before .before .before .before .before .before .before .before .before .before .before .before .before .loop-test .taken), z .3 ∙ c .before .before .before .before .before .before .before .before .before .before .before .before .before .before .before .loop .inv .2)
+    (rowing-go (c .before .before .before .before .before .before .before .before .before .before .before .before .before .before .before .loop .v) (c .before .before .before .before .before .before .before .before .before .before .before .before .before .before .before .loop .n) (c .before .before .before .before .before .before .before .before .before .before .before .before .before .before .before .loop .inv .0) (c .before .before .before .before .before .before .before .before .before .before .row-at .result) (c .before .before .before .before .before .before .before .before .before .before .before .before .before .before .loop-test .taken) (c .before .before .before .before .before .before .before .before .before .before .before .before .before .id-read .ensures) (c .before .before .before .before .before .before .before .before .before .before .before .hash-all .ensures) (c .before .before .before .before .before .before .before .before .before .before .row-at .ensures .0) (c .before .before .before .before .before .before .before .before .before .before .row-at .ensures .1 ∙ c .before .before .before .before .before .before .before .before .before .before .before .before .before .before .before .before .sign-of .ensures .0) (omega (arith, c .before .before .before .before .before .before .before .before .before .before .before .before .before .before .before .before .before .before .before .before .before .pre .4, c .before .before .before .before .before .before .before .before .before .before .before .before .before .before .before .loop .inv .0 .sizes .0)) (omega (arith, c .before .before .before .before .before .before .before .before .before .before .before .before .before .before .before .before .before .before .before .before .before .pre .5, c .before .before .before .before .before .before .before .before .before .before .before .before .before .before .before .loop .inv .0 .sizes .1)) (omega (arith, c .before .before .before .before .before .before .before .before .before .before .before .before .before .before .before .before .before .before .before .before .before .pre .6, c .before .before .before .before .before .before .before .before .before .before .before .before .before .before .before .loop .inv .1, c .before .before .before .before .before .before .before .before .before .before .before .before .before .before .before .loop .inv .2, c .before .before .before .before .before .before .before .before .before .before .before .before .before .before .loop-test .taken)) (c .before .before .before .before .before .before .keep-row .ensures), omega (arith, z .2, c .before .before .before .before .before .before .before .before .before .before .before .before .before .before .before .loop .inv .1, c .before .before .before .before .before .before .before .before .before .before .before .before .before .before .loop-test .taken), z .3 ∙ c .before .before .before .before .before .before .before .before .before .before .before .before .before .before .before .loop .inv .2)
 
 same-length : tie.Need-same-length Inv-loop μ-loop
 same-length c = c .before .loop .inv .0 .sizes .0
@@ -71,10 +71,10 @@ keep-ids-spec =
     (tie.spec
     Inv-loop
     μ-loop
+    sign-of-requires
     loop-holds
     id-read-requires
     hash-all-requires
-    add-row-at
     row-at-requires
     keep-row-requires
     sub-left

@@ -38,7 +38,7 @@ same-length : tie.Need-same-length Inv-loop μ-loop
 same-length c = c .before .loop .inv .0
 
 returns : tie.Need-returns Inv-loop μ-loop
-returns c = one-end (c .before .loop .cs) (c .before .loop .i) _ (c .before .loop .inv .0) (omega (arith, c .loop-test .left)) (c .before .loop .inv .1)
+returns c = record { is = one-end (c .before .loop .cs) (c .before .loop .i) _ (c .before .loop .inv .0) (omega (arith, c .loop-test .left)) (c .before .loop .inv .1) }
 
 pub fill-ones-spec : {M : Type 1} → statement M
 fill-ones-spec =

@@ -1,6 +1,6 @@
 -- Filled from its answers by tools/proofkit.py: change those, and fill it again.
 use Prim.Native.Nat.{_+_, _-_}
-use Rattle.queue.proofs.read.ParentsLaws.{Sweep, down, lower-cons, lower-nil, sweep-end, sweep-go, sweep-room, sweep-start}
+use Rattle.queue.proofs.read.ParentsLaws.{Sweep, down, lower-cons, lower-nil, sweep-end, sweep-go, sweep-room, sweep-skip, sweep-start}
 use Rattle.queue.specs.read.LinksAs.{Clear}
 use Rattle.queue.specs.read.parents.Counters.{lower}
 use borrow.Author.Needs.{needs}
@@ -22,17 +22,26 @@ abbrev μ-loop : tie.MeasureT-loop
 loop-holds : tie.Need-loop-holds Inv-loop μ-loop
 loop-holds c = (sweep-start lower down lower-nil lower-cons (c .before .args .x) (c .before .args .base) _ (omega (arith, c .before .good)), λ q. q, refl)
 
+add-j : tie.Need-add-j Inv-loop μ-loop
+add-j c = let w = sweep-skip lower down lower-nil lower-cons 8 (c .before .before .loop .inv .0) (c .before .loop-test .taken) (c .if1 .taken) in omega (arith, w .high, c .before .before .before .before .pre)
+
+loop-less : tie.Need-loop-less Inv-loop μ-loop
+loop-less c = let w = sweep-skip lower down lower-nil lower-cons 8 (c .before .before .loop .inv .0) (c .before .loop-test .taken) (c .if1 .taken) in omega (arith, w .high)
+
+loop-again : tie.Need-loop-again Inv-loop μ-loop
+loop-again c = (let w = sweep-skip lower down lower-nil lower-cons 8 (c .before .before .loop .inv .0) (c .before .loop-test .taken) (c .if1 .taken) in w, c .before .before .loop .inv .1, c .before .before .loop .inv .2)
+
 lower-if-requires : tie.Need-lower-if-requires Inv-loop μ-loop
 lower-if-requires c κs = search needs
 
-add-j : tie.Need-add-j Inv-loop μ-loop
-add-j c = let r = sweep-room lower down lower-nil lower-cons (c .before .before .before .before .before .loop .inv .0) (c .before .before .before .before .loop-test .taken) in omega (arith, r, c .before .before .before .before .before .before .before .pre)
+add-j-2 : tie.Need-add-j-2 Inv-loop μ-loop
+add-j-2 c = let r = sweep-room lower down lower-nil lower-cons (c .before .before .before .before .before .before .loop .inv .0) (c .before .before .before .before .before .loop-test .taken) in omega (arith, r, c .before .before .before .before .before .before .before .before .pre)
 
-loop-less : tie.Need-loop-less Inv-loop μ-loop
-loop-less c = let r = sweep-room lower down lower-nil lower-cons (c .before .before .before .before .before .loop .inv .0) (c .before .before .before .before .loop-test .taken) in omega (arith, r)
+loop-less-2 : tie.Need-loop-less-2 Inv-loop μ-loop
+loop-less-2 c = let r = sweep-room lower down lower-nil lower-cons (c .before .before .before .before .before .before .loop .inv .0) (c .before .before .before .before .before .loop-test .taken) in omega (arith, r)
 
-loop-again : tie.Need-loop-again Inv-loop μ-loop
-loop-again c = (sweep-go lower down lower-nil lower-cons (c .before .before .before .before .before .loop .inv .0) (c .before .before .before .before .loop-test .taken) (c .before .before .lower-if .ensures .is), λ q. c .before .before .lower-if .ensures .clear (c .before .before .before .before .before .loop .inv .1 q), omega (arith, c .before .before .before .before .before .loop .inv .2))
+loop-again-2 : tie.Need-loop-again-2 Inv-loop μ-loop
+loop-again-2 c = (sweep-go lower down lower-nil lower-cons (c .before .before .before .before .before .before .loop .inv .0) (c .before .before .before .before .before .loop-test .taken) (c .before .before .lower-if .ensures .is), λ q. c .before .before .lower-if .ensures .clear (c .before .before .before .before .before .before .loop .inv .1 q), omega (arith, c .before .before .before .before .before .before .loop .inv .2))
 
 same-length : tie.Need-same-length Inv-loop μ-loop
 same-length c = c .before .loop .inv .2
@@ -47,9 +56,12 @@ lower-word-spec =
     Inv-loop
     μ-loop
     loop-holds
-    lower-if-requires
     add-j
     loop-less
     loop-again
+    lower-if-requires
+    add-j-2
+    loop-less-2
+    loop-again-2
     same-length
     returns)
