@@ -1,6 +1,7 @@
 -- Small laws of booleans and lists that several files use, each said once. Assumes nothing.
-use Rattle.queue.specs.Prelude.{_≡_, refl, ap, sym, _∙_, Bool, true, false, _&&_, _||_, List, [], _∷_, _++_, append-assoc, ℕ, _+_, arith, zero-add, suc-add, ltb, length, drop, set, length-append, drop-drop, drop-at, lt-ltb}
+use Rattle.queue.specs.Prelude.{_≡_, refl, ap, sym, _∙_, Bool, true, false, _&&_, _||_, List, [], _∷_, _++_, append-assoc, ℕ, zero, suc, _+_, _<_, arith, zero-add, suc-add, ltb, length, drop, set, getD, length-append, drop-drop, drop-at, lt-ltb}
 use Rattle.queue.specs.Codec.{cases}
+use Rattle.queue.specs.bytes.OrderLaws.{or-false}
 use Rattle.queue.specs.paper.Records.{Id}
 use Rattle.queue.specs.paper.Lists.{any?, count}
 use Rattle.queue.specs.paper.Ids.{same?}
@@ -41,6 +42,19 @@ pub or-cases : {X : Type 0} (a b : Bool) → (a || b) ≡ true → (a ≡ true �
 or-cases true b e f g = f refl
 or-cases false b e f g = g e
 
+pub and-or : (a b c : Bool) → (a && (b || c)) ≡ ((a && b) || (a && c))
+and-or true b c = refl
+and-or false b c = refl
+
+pub or-and : (a b c d : Bool) → ((a || (b && c)) || (b && d)) ≡ (a || (b && (c || d)))
+or-and true b c d = refl
+or-and false true c d = refl
+or-and false false c d = refl
+
+pub and-off : (a b : Bool) → (a && (false && b)) ≡ false
+and-off true b = refl
+and-off false b = refl
+
 -- ---- parts of a list
 pub join-four : {A : Type 0} (a b c d : List A) → (a ++ (b ++ c)) ++ d ≡ a ++ (b ++ (c ++ d))
 join-four a b c d = simp append-assoc
@@ -68,6 +82,15 @@ any-count p [] = refl
 any-count p (x ∷ l) = cases (p x)
     (λ t. rw t (sym (lt-ltb 0 (1 + count p l) (omega arith))))
     (λ t. rw (t, zero-add) (any-count p l))
+
+pub any-same : {A : Type 0} (p q : A → Bool) → ((a : A) → p a ≡ q a) → (l : List A) → any? p l ≡ any? q l
+any-same p q f [] = refl
+any-same p q f (a ∷ l) = rw (f a, any-same p q f l)
+
+pub any-at : (p : ℕ → Bool) (l : List ℕ) (i : ℕ) → any? p l ≡ false → i < length l → p (getD l i 0) ≡ false
+any-at p [] i e h = absurd (let z : ⊥ = omega arith in z)
+any-at p (x ∷ l) zero e h = or-false (p x) (any? p l) e .0
+any-at p (x ∷ l) (suc i) e h = any-at p l i (or-false (p x) (any? p l) e .1) (omega arith)
 
 pub among-append : (i : Id) (a b : List Id) → among? i (a ++ b) ≡ (among? i a || among? i b)
 among-append i [] b = refl

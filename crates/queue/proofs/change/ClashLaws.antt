@@ -1,6 +1,6 @@
 -- The laws of lent ids in a table: their rows, bisection by id, the loops, and that it is the clash. Assumes nothing.
 use Rattle.queue.specs.Prelude.{_≡_, refl, ap, sym, _∙_, Bool, true, false, _||_, List, [], _∷_, _++_, ℕ, _+_, _-_, _/_, _≤_, _<_, arith, add-one, ltb, eqb, length, take, getD, set, take-suc-set, eqb-false, ltb-true, ltb-false}
-use Rattle.queue.specs.Basics.{any-count, any-append, or-more}
+use Rattle.queue.specs.Basics.{any-count, any-append, or-more, any-same}
 use Rattle.queue.specs.Codec.{cases}
 use Rattle.queue.specs.bytes.Parts.{part}
 use Rattle.queue.specs.bytes.OrderLaws.{cmp-self, same-is, same-sym}
@@ -175,17 +175,13 @@ module _ {A : Type 0} where
       mix false true false d = refl
       mix false false c d = refl
 
-  any-ext : (p q : A → Bool) → ((a : A) → p a ≡ q a) → (l : List A) → any? p l ≡ any? q l
-  any-ext p q e [] = refl
-  any-ext p q e (a ∷ l) = rw (e a, any-ext p q e l)
-
   any-never : (l : List A) → any? (λ a. false) l ≡ false
   any-never [] = refl
   any-never (a ∷ l) = any-never l
 
 any-swap : (a b : List Id) → any? (λ i. among? i b) a ≡ any? (λ z. among? z a) b
 any-swap [] b = sym (any-never b)
-any-swap (x ∷ a) b = rw (any-swap a b) (ap (λ (k : Bool). k || any? (λ z. among? z a) b) (any-ext (same? x) (λ z. same? z x) (λ z. same-sym x z) b) ∙ sym (any-or (λ z. same? z x) (λ z. among? z a) b))
+any-swap (x ∷ a) b = rw (any-swap a b) (ap (λ (k : Bool). k || any? (λ z. among? z a) b) (any-same (same? x) (λ z. same? z x) (λ z. same-sym x z) b) ∙ sym (any-or (λ z. same? z x) (λ z. among? z a) b))
 
 pub meets-clash : (read : Bool) (ids : List Id) (l : List Rec) → meetsIds read ids l ≡ clashes read ids l
 unfolding meetsIds anyOf clashes

@@ -1,9 +1,10 @@
 -- The rank of a released record, by rows in the order of their ids. Assumes nothing.
 use Rattle.queue.specs.Prelude.{_≡_, refl, ap, sym, _∙_, Bool, true, false, _&&_, List, [], _∷_, ℕ, zero, suc, _+_, _≤_, _<_, arith, ltb, eqb, length, getD, set, take, getD-set-same, getD-set-other, drop-drop, eq-eqb, ne-eqb, eqb-true, eqb-false, ltb-true, ltb-false, lt-ltb}
+use Rattle.queue.specs.Basics.{any-at}
 use Rattle.queue.proofs.check.SuspectsLaws.{shuffled-any}
 use Rattle.queue.specs.Codec.{cases}
 use Rattle.queue.specs.Lists.{and-true}
-use Rattle.queue.specs.bytes.OrderLaws.{cmp-self, same-is, or-true, or-false}
+use Rattle.queue.specs.bytes.OrderLaws.{cmp-self, same-is, or-true}
 use Rattle.queue.specs.bytes.ReaderLaws.{false-true}
 use Rattle.queue.specs.bytes.Parts.{part}
 use Rattle.queue.specs.bytes.ViewAs.{view}
@@ -61,11 +62,6 @@ map-many s (a ∷ g) = ap suc (map-many s g)
 any-by : {X : Type 0} (p : ℕ → Bool) (v : List ℕ) → any? p v ≡ true → ((i : ℕ) → i < length v → p (getD v i 0) ≡ true → X) → X
 any-by p [] e k = false-true e
 any-by p (x ∷ v) e k = or-true (p x) (any? p v) e (λ t. k 0 (omega arith) t) (λ _ t. any-by p v t (λ i h. k (suc i) (omega arith)))
-
-any-at : (p : ℕ → Bool) (v : List ℕ) (i : ℕ) → any? p v ≡ false → i < length v → p (getD v i 0) ≡ false
-any-at p [] i e h = absurd (let z : ⊥ = omega arith in z)
-any-at p (x ∷ v) zero e h = or-false (p x) (any? p v) e .0
-any-at p (x ∷ v) (suc i) e h = any-at p v i (or-false (p x) (any? p v) e .1) (omega arith)
 
 module _ (s : Bytes) (gone rows : List ℕ) (g : Ranked s gone rows) (y : ℕ) {b : ℕ} (z : Id) (c : Cut false s rows y b b) (ez : idR false s y ≡ z) (en : noR y ≡ 0) where
   abbrev ids : List Id

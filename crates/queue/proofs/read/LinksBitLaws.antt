@@ -1,7 +1,6 @@
 -- The bits of words: joined, moved up, one taken away; the lines of rows, the rows that a line names. Assumes nothing.
-use Rattle.queue.specs.Prelude.{_≡_, refl, ap, ap₂, sym, _∙_, Bool, true, false, cond, not, _&&_, _||_, List, _∷_, ℕ, zero, suc, _+_, _-_, _*_, _/_, _%_, _^_, _≤_, _<_, max, arith, le-of-suc-le-suc, pow-suc, mod-lt, div-add-mod', div-lt-iff-lt-mul, mul-comm, add-zero, suc-mul, mul-le-mul-right, add-one, ltb, leb, eqb, digits-div, digits-mod, bitOr, length, getD, set, getD-set-same, getD-set-other, eqb-true, eqb-false, eq-eqb, ne-eqb, ltb-true, ltb-false, lt-ltb, le-ltb, leb-true, leb-false, le-leb, lt-leb}
-use Rattle.queue.specs.Prelude.{block-half, block-odd, shifted-half}
-use Rattle.queue.specs.Basics.{any-append}
+use Rattle.queue.specs.Prelude.{_≡_, refl, ap, ap₂, sym, _∙_, Bool, true, false, cond, not, _&&_, _||_, List, _∷_, ℕ, zero, suc, _+_, _-_, _*_, _/_, _%_, _^_, _≤_, _<_, max, arith, le-of-suc-le-suc, pow-suc, mod-lt, div-add-mod', div-lt-iff-lt-mul, mul-comm, add-zero, suc-mul, mul-le-mul-right, add-one, ltb, leb, eqb, digits-div, digits-mod, bitOr, length, getD, set, getD-set-same, getD-set-other, eqb-true, eqb-false, eq-eqb, ne-eqb, ltb-true, ltb-false, lt-ltb, le-ltb, leb-true, leb-false, le-leb, lt-leb, block-half, block-odd, shifted-half}
+use Rattle.queue.specs.Basics.{any-append, or-assoc}
 use Rattle.queue.specs.Codec.{cases}
 use Rattle.queue.specs.bytes.ReaderLaws.{false-true}
 use Rattle.queue.specs.paper.Lists.{any?}
@@ -12,10 +11,6 @@ use Rattle.queue.proofs.check.FilterLaws.{or-half, or-odd}
 pub or-no : (a : Bool) → (a || false) ≡ a
 or-no true = refl
 or-no false = refl
-
-pub or-group : (a b c : Bool) → ((a || b) || c) ≡ (a || (b || c))
-or-group true b c = refl
-or-group false b c = refl
 
 pub and-yes : (a : Bool) → a ≡ (a && true)
 and-yes true = refl
@@ -166,7 +161,7 @@ joined-to {w} {bits} {bits′} {new} {new′} f x = record { size = x .size; is 
 pub joined-then : {w : ℕ} {a b c : List ℕ} {f g h : ℕ → ℕ → Bool} → Joined w a b f → Joined w b c g → ((i j : ℕ) → (f i j || g i j) ≡ h i j) → Joined w a c h
 joined-then {w} {a} {b} {c} {f} {g} {h} x y k = record {
   size = y .size ∙ x .size;
-  is = λ i j p q. y .is i j (rw (x .size) p) q ∙ ap (λ (z : Bool). z || g i j) (x .is i j p q) ∙ or-group (bitAt a w i j) (f i j) (g i j) ∙ ap (λ (z : Bool). bitAt a w i j || z) (k i j);
+  is = λ i j p q. y .is i j (rw (x .size) p) q ∙ ap (λ (z : Bool). z || g i j) (x .is i j p q) ∙ or-assoc (bitAt a w i j) (f i j) (g i j) ∙ ap (λ (z : Bool). bitAt a w i j || z) (k i j);
 }
 
 -- ---- where lines stand

@@ -1,10 +1,10 @@
 -- Rows for what records want, in slots and in a table, and the bits that come of them. Assumes nothing.
 use Rattle.queue.specs.Prelude.{_≡_, refl, ap, sym, _∙_, Bool, true, false, not, _&&_, _||_, List, [], _∷_, _++_, ℕ, zero, suc, _+_, _-_, _*_, _/_, _%_, _≤_, _<_, arith, le-of-suc-le-suc, add-one, mod-lt, bitOr, ltb, leb, eqb, length, drop, take, getD, set, length-set, length-take, digits-div, digits-mod, List·getD-eq-default, drop-drop, drop-set-lt, getD-set-same, getD-set-other, take-suc, take-suc-set, take-all, getD-take, eqb-true, eqb-false, eq-eqb, ltb-true, ltb-false, lt-ltb, le-ltb, leb-true, le-leb, lt-leb, not-true, not-false}
-use Rattle.queue.specs.Basics.{among-append, any-append}
+use Rattle.queue.specs.Basics.{among-append, any-append, or-assoc, or-same, join-same, and-or, and-off, or-and, any-at, any-same}
 use Rattle.queue.specs.Codec.{All, cases}
 use Rattle.queue.specs.bytes.Parts.{part}
 use Rattle.queue.specs.Lists.{and-true, and-both}
-use Rattle.queue.specs.bytes.OrderLaws.{same-is, or-false}
+use Rattle.queue.specs.bytes.OrderLaws.{same-is}
 use Rattle.queue.specs.layout.FrameCodec.{idC}
 use Rattle.queue.specs.bytes.ViewAs.{view, view-fits}
 use Rattle.queue.specs.bytes.ReaderAs.{Reads, whole, listAt}
@@ -24,7 +24,7 @@ use Rattle.queue.proofs.check.FilterLaws.{mark-size, mark-here, mark-ol
 use Rattle.queue.proofs.check.SuspectsRowLaws.{id-long, any-none, any-some, later-no, later-yes, later-behind, rising}
 use Rattle.queue.proofs.check.SuspectsLaws.{id-bytes, all-at, all-append, shuffled-all, shuffled-any}
 use Rattle.queue.proofs.read.FeesLaws.{the-turn, rec-is, known-at}
-use Rattle.queue.proofs.read.LinksBitLaws.{or-no, or-group, spread, joined-none, joined-to, joined-then}
+use Rattle.queue.proofs.read.LinksBitLaws.{or-no, spread, joined-none, joined-to, joined-then}
 use Rattle.queue.proofs.read.LinksNameLaws.{sign-pos, names-sign, names-none, names-or, join-number, join-place}
 
 -- ---- zeros
@@ -138,10 +138,6 @@ all-mono p q f [] e = refl
 all-mono p q f (x ∷ l) e = let u = and-true (p x) (all? p l) e in and-both (q x) (all? q l) (f x (u .0)) (all-mono p q f l (u .1))
 
 module _ {A : Type 0} where
-  pub any-same : (p q : A → Bool) → ((x : A) → p x ≡ q x) → (l : List A) → any? p l ≡ any? q l
-  any-same p q f [] = refl
-  any-same p q f (x ∷ l) = rw (f x, any-same p q f l)
-
   any-either : (p q : A → Bool) (l : List A) → (any? p l || any? q l) ≡ any? (λ x. p x || q x) l
   any-either p q [] = refl
   any-either p q (x ∷ l) = mix (p x) (q x) (any? p l) (any? q l) ∙ ap (λ (b : Bool). (p x || q x) || b) (any-either p q l)
@@ -270,15 +266,10 @@ module _ {s : Bytes} {j : ℕ} {b : Bytes} {c at : ℕ} {slots₀ t₀ rows₀ :
       record {
         scan = on (x .scan) tt p u refl;
         done = λ o. x .done o || same? o y;
-        split = λ o. x .split o ∙ ap (λ (k : List Id). x .done o || among? o k) (u .list) ∙ ap (λ (k : Id). x .done o || (same? o k || among? o (listAt idC (left - 1) b next))) (u .is) ∙ sym (or-group (x .done o) (same? o y) (among? o (listAt idC (left - 1) b next)));
+        split = λ o. x .split o ∙ ap (λ (k : List Id). x .done o || among? o k) (u .list) ∙ ap (λ (k : Id). x .done o || (same? o k || among? o (listAt idC (left - 1) b next))) (u .is) ∙ sym (or-assoc (x .done o) (same? o y) (among? o (listAt idC (left - 1) b next)));
         sizes = (z .0 ∙ x .sizes .0, z .1 ∙ x .sizes .1);
-        by = λ own o. held-to (λ i z. ap (λ (q : Bool). (own i z || (eqb i j && x .done z)) || q) (row-says s w j y q n i z) ∙ join (own i z) (eqb i j) (x .done z) (same? z y)) (held-more s slots t v h w k m a d l g (x .by own o));
+        by = λ own o. held-to (λ i z. ap (λ (q : Bool). (own i z || (eqb i j && x .done z)) || q) (row-says s w j y q n i z) ∙ or-and (own i z) (eqb i j) (x .done z) (same? z y)) (held-more s slots t v h w k m a d l g (x .by own o));
       }
-    where
-      join : (a b c d : Bool) → ((a || (b && c)) || (b && d)) ≡ (a || (b && (c || d)))
-      join true b c d = refl
-      join false true c d = refl
-      join false false c d = refl
 
   pub rowing-end : left ≡ 0 → Rowed s j (listAt idC c b at) slots₀ t₀ rows₀ slots t (take k v)
   rowing-end e = record {
@@ -290,13 +281,8 @@ module _ {s : Bytes} {j : ℕ} {b : Bytes} {c at : ℕ} {slots₀ t₀ rows₀ :
 pub rowed-both : {s : Bytes} {j : ℕ} (a b : List Id) {slots t rows slots₁ t₁ rows₁ slots₂ t₂ rows₂ : List ℕ} → Rowed s j a slots t rows slots₁ t₁ rows₁ → Rowed s j b slots₁ t₁ rows₁ slots₂ t₂ rows₂ → Rowed s j (a ++ b) slots t rows slots₂ t₂ rows₂
 rowed-both {s} {j} a b x y = record {
   sizes = (y .sizes .0 ∙ x .sizes .0, y .sizes .1 ∙ x .sizes .1);
-  by = λ own o. held-to (λ i z. mix (own i z) (eqb i j) (among? z a) (among? z b) ∙ ap (λ (q : Bool). own i z || (eqb i j && q)) (sym (among-append z a b))) (y .by (λ i z. own i z || (eqb i j && among? z a)) (x .by own o));
+  by = λ own o. held-to (λ i z. or-and (own i z) (eqb i j) (among? z a) (among? z b) ∙ ap (λ (q : Bool). own i z || (eqb i j && q)) (sym (among-append z a b))) (y .by (λ i z. own i z || (eqb i j && among? z a)) (x .by own o));
 }
-  where
-    mix : (o e p q : Bool) → ((o || (e && p)) || (e && q)) ≡ (o || (e && (p || q)))
-    mix true e p q = refl
-    mix false true p q = refl
-    mix false false p q = refl
 
 -- ---- a record that stands at a place, as it was read
 module _ (s : Bytes) (at : List ℕ) (i : ℕ) {m : ℕ} {ok : Bool} {y : Seen} (all : All (Known s) at) (h : i < length at) (rd : ReadsRec false s (getD at i 0) ok m y) where
@@ -322,10 +308,7 @@ module _ (s : Bytes) (at : List ℕ) (i : ℕ) {m : ℕ} {ok : Bool} {y : Seen} 
   reads-here = (its .readsIn, its .readsAll)
 
   pub wants-are : listAt idC (y .facts .ins) (view false s (getD at i 0)) (y .at) ++ listAt idC (y .facts .reads) (view false s (getD at i 0)) (y .reads) ≡ wantsAt s at i
-  wants-are = two (its .insList) (its .readsList) ∙ ap (λ (r : Rec). wanted (r .body)) (sym (rec-is s (getD at i 0) (stands .stands) rd))
-    where
-      two : {a a′ b b′ : List Id} → a ≡ a′ → b ≡ b′ → a ++ b ≡ a′ ++ b′
-      two e f = cc
+  wants-are = join-same (its .insList) (its .readsList) ∙ ap (λ (r : Rec). wanted (r .body)) (sym (rec-is s (getD at i 0) (stands .stands) rd))
 
   pub wants-few : All (Short s) at → (y .facts .ins ≤ 128) × (y .facts .reads ≤ 128)
   unfolding factsOf
@@ -444,11 +427,6 @@ module _ (s : Bytes) (v : List ℕ) (y : ℕ) (ny : noR y ≡ 0) where
             any-by-front p [] (suc k) t = false-true t
             any-by-front p (x ∷ l) (suc k) t = cases (p x) (λ u. rw u) (λ u. rw u (any-by-front p l k (rw u at t)))
 
-            any-at : (p : ℕ → Bool) (l : List ℕ) (i : ℕ) → any? p l ≡ false → i < length l → p (getD l i 0) ≡ false
-            any-at p [] i e h = absurd (let z : ⊥ = omega arith in z)
-            any-at p (x ∷ l) zero e h = or-false (p x) (any? p l) e .0
-            any-at p (x ∷ l) (suc i) e h = any-at p l i (or-false (p x) (any? p l) e .1) (le-of-suc-le-suc h)
-
     pub run-go : {found : Bool} {bits′ : List ℕ} → k < length v → found ≡ later false s (idR false s y) 0 (getD v k 0)
         → Joined w bits bits′ (λ i j. (found && names (noR (getD v k 0)) j) && inLine row i j) → Running s v y w row bits₀ (k + 1) bits′
     unfolding hit
@@ -531,7 +509,7 @@ module _ {w row : ℕ} {s b : Bytes} {c at : ℕ} {slots t v bits₀ : List ℕ}
       record {
         scan = on (x .scan) tt p u refl;
         done = λ f. x .done f || f y;
-        split = λ f. x .split f ∙ ap (λ (k : List Id). x .done f || any? f k) (u .list) ∙ ap (λ (k : Id). x .done f || (f k || any? f (listAt idC (left - 1) b next))) (u .is) ∙ sym (or-group (x .done f) (f y) (any? f (listAt idC (left - 1) b next)));
+        split = λ f. x .split f ∙ ap (λ (k : List Id). x .done f || any? f k) (u .list) ∙ ap (λ (k : Id). x .done f || (f k || any? f (listAt idC (left - 1) b next))) (u .is) ∙ sym (or-assoc (x .done f) (f y) (any? f (listAt idC (left - 1) b next)));
         size = n ∙ x .size;
         by = λ own o. joined-then (x .by own o) (g .by own o) (λ i j. ap (λ (k : Id). (x .done (own j) && inLine row i j) || (own j k && inLine row i j)) q ∙ spread (x .done (own j)) (own j y) (inLine row i j));
       }
@@ -563,12 +541,8 @@ lines-go {w} i s at {ids} e x y = record {
         let n : eqb j i ≡ eqb j k = rw q in
         rw (t, z, n, le-ltb k i (omega arith), lt-ltb k (i + 1) (omega arith)))
         (λ t. let q = eqb-false k i t in
-        rw (t, upto q, off (any? (own j) ids) (not (eqb j i))) ((or-no (ltb k (i + 1) && (any? (own j) (outsAt s at k) && not (eqb j k))))))
+        rw (t, upto q, and-off (any? (own j) ids) (not (eqb j i))) ((or-no (ltb k (i + 1) && (any? (own j) (outsAt s at k) && not (eqb j k))))))
       where
-        off : (a b : Bool) → (a && (false && b)) ≡ false
-        off true b = refl
-        off false b = refl
-
         upto : (k ≡ i → ⊥) → ltb k i ≡ ltb k (i + 1)
         upto q = cases (ltb k i)
             (λ t. let h = ltb-true k i t in t ∙ sym (lt-ltb k (i + 1) (omega arith)))
@@ -590,15 +564,8 @@ id-join s w x = rw (join-place w (noR x) (no-small x))
 hit-join : (s : Bytes) (j : ℕ) (z : Id) (w x : ℕ) → idR false s w ≡ idR false s x → noR w / 65536 ≡ noR x / 65536 → hit s j z (bitOr w (noR x)) ≡ (hit s j z w || hit s j z x)
 hit-join s j z w x e f =
     hit-is s j z (bitOr w (noR x))
-    ∙ rw (id-join s w x, join-number w (noR x) (no-small x), names-or (noR w) (noR x) j f) (out (same? z (idR false s w)) (names (noR w) j) (names (noR x) j))
-    ∙ sym (two (hit-is s j z w) (hit-is s j z x ∙ ap (λ (i : Id). same? z i && names (noR x) j) (sym e)))
-  where
-    out : (p a b : Bool) → (p && (a || b)) ≡ ((p && a) || (p && b))
-    out true a b = refl
-    out false a b = refl
-
-    two : {a a′ b b′ : Bool} → a ≡ a′ → b ≡ b′ → (a || b) ≡ (a′ || b′)
-    two p q = cc
+    ∙ rw (id-join s w x, join-number w (noR x) (no-small x), names-or (noR w) (noR x) j f) (and-or (same? z (idR false s w)) (names (noR w) j) (names (noR x) j))
+    ∙ sym (or-same (hit-is s j z w) (hit-is s j z x ∙ ap (λ (i : Id). same? z i && names (noR x) j) (sym e)))
 
 pub again-is : {s : Bytes} {v : List ℕ} {k x : ℕ} {c : ℕ} {b : Bool} → (k ≡ 0 → ⊥) → c ≡ cmpL (idR false s (getD v (k - 1) 0)) (idR false s x)
     → b ≡ (eqb c 1 && eqb (getD v (k - 1) 0 % 4294967296 / 65536) (x % 4294967296 / 65536)) → b ≡ true → Again s v k x
@@ -722,12 +689,8 @@ blocks-start w s at bits = joined-none (λ i j _. none i j)
     no-any j [] = refl
     no-any j (z ∷ l) = ap (λ (q : Bool). (q && among? z (wantsAt s at j)) || any? (wantedTo s at 0 j) l) (le-ltb j 0 (omega arith)) ∙ no-any j l
 
-    off : (a b : Bool) → (a && (false && b)) ≡ false
-    off true b = refl
-    off false b = refl
-
     none : (i j : ℕ) → (ltb i (length at) && (any? (wantedTo s at 0 j) (outsAt s at i) && not (eqb j i))) ≡ false
-    none i j = ap (λ (q : Bool). ltb i (length at) && (q && not (eqb j i))) (no-any j (outsAt s at i)) ∙ off (ltb i (length at)) (not (eqb j i))
+    none i j = ap (λ (q : Bool). ltb i (length at) && (q && not (eqb j i))) (no-any j (outsAt s at i)) ∙ and-off (ltb i (length at)) (not (eqb j i))
 
 pub blocks-end : {w : ℕ} (a : ℕ) (s : Bytes) (at : List ℕ) {bits bits′ : List ℕ} → a ≡ length at → Joined w bits bits′ (outputsLinked s at (wantedTo s at a)) → Joined w bits bits′ (outputsLinked s at (wantedTo s at (length at)))
 blocks-end a s at e x = rw (← e) x

@@ -1,6 +1,6 @@
 -- Numbers of rows, which name some of 16 records, and the bits that come of one. Assumes nothing.
-use Rattle.queue.specs.Prelude.{_≡_, refl, ap, sym, _∙_, Bool, true, false, not, _&&_, _||_, List, ℕ, zero, suc, _+_, _-_, _*_, _/_, _%_, _^_, _≤_, _<_, arith, mod-lt, div-add-mod', div-div-eq-div-mul, mul-le-mul, ltb, eqb, digits-div, digits-mod, bitOr, or-self, or-zero-r, pow-pos, length, getD, set, length-set, eqb-true, eqb-false, eq-eqb, ne-eqb, ltb-true, ltb-false}
-use Rattle.queue.specs.Prelude.{div-eq-of-lt, mod-eq-of-lt, or-shr, or-mod, pow-lt, pow-mono}
+use Rattle.queue.specs.Prelude.{_≡_, refl, ap, sym, _∙_, Bool, true, false, not, _&&_, _||_, List, ℕ, zero, suc, _+_, _-_, _*_, _/_, _%_, _^_, _≤_, _<_, arith, mod-lt, div-add-mod', div-div-eq-div-mul, mul-le-mul, ltb, eqb, digits-div, digits-mod, bitOr, or-self, or-zero-r, pow-pos, length, getD, set, length-set, eqb-true, eqb-false, eq-eqb, ne-eqb, ltb-true, ltb-false, div-eq-of-lt, mod-eq-of-lt, or-shr, or-mod, pow-lt, pow-mono}
+use Rattle.queue.specs.Basics.{and-or}
 use Rattle.queue.specs.Codec.{cases}
 use Rattle.queue.specs.check.SuspectsAs.{noR}
 use Rattle.queue.specs.read.LinksAs.{bitL, bitAt, sign, names, Others, Joined, inLine}
@@ -45,11 +45,7 @@ pub names-or : (a b j : ℕ) → a / 65536 ≡ b / 65536 → names (bitOr a b) j
 unfolding names
 names-or a b j e =
     let g : bitOr a b / 65536 ≡ a / 65536 = or-shr a b 16 ∙ ap (bitOr (a / 65536)) (sym e) ∙ or-self (a / 65536) in
-    rw (g, ← e, bits-or a b (j % 16)) (out (eqb (a / 65536) (j / 16)) (bitL a (j % 16)) (bitL b (j % 16)))
-  where
-    out : (p a b : Bool) → (p && (a || b)) ≡ ((p && a) || (p && b))
-    out true a b = refl
-    out false a b = refl
+    rw (g, ← e, bits-or a b (j % 16)) (and-or (eqb (a / 65536) (j / 16)) (bitL a (j % 16)) (bitL b (j % 16)))
 
 -- a number joined to a row
 pub join-number : (w n : ℕ) → n < 4294967296 → noR (bitOr w n) ≡ bitOr (noR w) n

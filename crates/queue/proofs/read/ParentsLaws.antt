@@ -1,6 +1,6 @@
 -- The counters' loops, and that the list they make is the parents-first order. Assumes nothing.
-use Rattle.queue.specs.Prelude.{_≡_, refl, ap, sym, _∙_, subst, Bool, true, false, cond, not, _&&_, _||_, some, List, [], _∷_, _++_, append-assoc, append-nil, ℕ, zero, suc, _+_, _-_, _*_, _/_, _%_, _^_, _≤_, _<_, arith, pow-suc, pow-succ', pow-pos, div-one, div-add-mod', div-div-eq-div-mul, digits-mod, add-zero, suc-mul, zero-mul, mul-le-mul-right, mul-comm, le-of-suc-le-suc, div-lt-iff-lt-mul, add-one, ltb, eqb, length, take, drop, getD, set, replicate, length-set, length-append, length-replicate, getD-replicate, take-append-drop, getD-set-same, getD-set-other, set-out, set-getD, take-suc-set, ext-getD, length-take-le, eqb-true, eqb-false, eq-eqb, ne-eqb, ltb-true, ltb-false, lt-ltb, le-ltb, not-true, not-false}
-use Rattle.queue.specs.Prelude.{block-half, block-odd}
+use Rattle.queue.specs.Prelude.{_≡_, refl, ap, sym, _∙_, subst, Bool, true, false, cond, not, _&&_, _||_, some, List, [], _∷_, _++_, append-assoc, append-nil, ℕ, zero, suc, _+_, _-_, _*_, _/_, _%_, _^_, _≤_, _<_, arith, pow-suc, pow-succ', pow-pos, div-one, div-add-mod', div-div-eq-div-mul, digits-mod, add-zero, suc-mul, zero-mul, mul-le-mul-right, mul-comm, le-of-suc-le-suc, div-lt-iff-lt-mul, add-one, ltb, eqb, length, take, drop, getD, set, replicate, length-set, length-append, length-replicate, getD-replicate, take-append-drop, getD-set-same, getD-set-other, set-out, set-getD, take-suc-set, ext-getD, length-take-le, eqb-true, eqb-false, eq-eqb, ne-eqb, ltb-true, ltb-false, lt-ltb, le-ltb, not-true, not-false, block-half, block-odd}
+use Rattle.queue.specs.Basics.{cons-same, any-same}
 use Rattle.queue.specs.Codec as codec
 use Rattle.queue.specs.Codec.{All, cases}
 use Rattle.queue.specs.Lists.{Pairwise, and-true, all-map, sub-all}
@@ -37,7 +37,6 @@ use Rattle.queue.proofs.read.SelectLaws.{rows-take, rows-places, sort-r
 use Rattle.queue.proofs.read.FeesLaws.{getD-map, known-at, places-known, map-recs, rows-recs, gathered-known}
 use Rattle.queue.proofs.check.AreaLaws.{product}
 use Rattle.queue.proofs.read.LinksBitLaws.{kids-any, line-in, lines-room}
-use Rattle.queue.proofs.read.LinksLaws.{any-same}
 use Rattle.queue.specs.layout.LimitsAs.{needMost}
 
 -- ---- ones
@@ -499,10 +498,7 @@ module _ (s : Bytes) (at : List ℕ) (named : Named s at) where
     ids-of [] h = refl
     ids-of (i ∷ l) h =
         let e : idAt s (getD at i 0) ≡ getD recs i noRec .id = known-at s at i (named .known) (h .0) .id ∙ ap (λ (r : Rec). r .id) (sym (rec-get i (h .0))) in
-        two e (ids-of l (h .1))
-      where
-        two : {x y : Id} {k m : List Id} → x ≡ y → k ≡ m → x ∷ k ≡ y ∷ m
-        two e f = cc
+        cons-same e (ids-of l (h .1))
 
     within-of : (l : List ℕ) → All (λ i. i < length at) l → All (λ p. p + 33 ≤ length s) (map (placeAt at) l)
     within-of [] h = tt
