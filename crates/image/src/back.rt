@@ -16,6 +16,7 @@ use queue::layout::frame::NEWEST;
 use queue::layout::frame::Seen;
 use queue::layout::frame::rec_in;
 use queue::layout::limits::Limits;
+use queue::layout::records::Records;
 ghost use mathlib.Core.Path.{_≡_};
 ghost use mathlib.Core.Bool.{true};
 ghost use Prim.Native.Nat.{_+_, _*_, _≤_};
@@ -23,7 +24,7 @@ ghost use lib.ListN.{length};
 ghost use Rattle.queue.specs.Codec.{encs};
 ghost use Rattle.queue.specs.layout.FrameAs.{limitsIn, LimitsFit};
 ghost use Rattle.queue.specs.layout.FormsCodec.{recIn, textForm};
-ghost use Rattle.queue.specs.bytes.ReaderAs.{whole, listAt};
+ghost use Rattle.queue.specs.layout.RecordsAs.{RecordsIn, recsAt};
 ghost use Rattle.queue.specs.bytes.PutAs.{Put};
 ghost use Rattle.queue.specs.paper.Ids.{same?};
 ghost use Rattle.queue.specs.paper.Kinds.{newest, oldest, recSaid?, sharesSaid?};
@@ -44,13 +45,13 @@ fn sayable(f: Facts) -> bool
     all4(p, f.caller == 0, f.mark != 3, f.reads == 0)
 }
 
-// Can it say all n records at `at`?
-fn sayable_recs(s: &[u8], at: usize, n: u64) -> bool
-    requires { ⌜ (at ≤ length (now s)) × (whole (recIn (textForm newest)) n (now s) at ≡ true) ⌝ }
-    ensures { λ r. ⌜ r ≡ all? (recSaid? oldest) (listAt (recIn (textForm newest)) n (now (s .entry)) at) ⌝ }
+// Can it say all of the records?
+fn sayable_recs(s: &[u8], recs: Records) -> bool
+    requires { ⌜ RecordsIn (recIn (textForm newest)) (now s) recs ⌝ }
+    ensures { λ r. ⌜ r ≡ all? (recSaid? oldest) (recsAt (recIn (textForm newest)) (now (s .entry)) recs) ⌝ }
 {
-    let mut i = at;
-    let mut left = n;
+    let mut i = recs.start;
+    let mut left = recs.count;
     while 0 < left {
         let x = rec_in(s, TEXT, i);
         let f = x.facts;
@@ -94,7 +95,11 @@ pub fn said(s: &[u8], x: Open) -> bool
     let h = x.head;
     let l = h.limits;
     let a = first_share(l);
-    let b = sayable_recs(s, x.start, h.count);
+    let recs = Records {
+        start: x.start,
+        count: h.count,
+    };
+    let b = sayable_recs(s, recs);
     both(a, b)
 }
 
@@ -156,13 +161,13 @@ fn put_old_rec(s: &[u8], base: usize, x: Seen, dst: &mut [u8], at: usize) -> usi
     put_u8(dst, e, 10)
 }
 
-// The n records at `at` of the text, as lines of kind 01.
-fn put_old_recs(s: &[u8], at: usize, n: u64, dst: &mut [u8], to: usize) -> usize
-    requires { ⌜ (at ≤ length (now s)) × (whole (recIn (textForm newest)) n (now s) at ≡ true) × (all? (recSaid? oldest) (listAt (recIn (textForm newest)) n (now s) at) ≡ true) × (to + length (encs (recIn (textForm oldest)) (listAt (recIn (textForm newest)) n (now s) at)) ≤ length (now dst)) ⌝ }
-    ensures { λ r. ⌜ Put (now (dst .entry)) to (encs (recIn (textForm oldest)) (listAt (recIn (textForm newest)) n (now (s .entry)) at)) (length (encs (recIn (textForm oldest)) (listAt (recIn (textForm newest)) n (now (s .entry)) at))) r (now (dst .exit)) ⌝ }
+// The records of the text, as lines of kind 01.
+fn put_old_recs(s: &[u8], recs: Records, dst: &mut [u8], to: usize) -> usize
+    requires { ⌜ RecordsIn (recIn (textForm newest)) (now s) recs × (all? (recSaid? oldest) (recsAt (recIn (textForm newest)) (now s) recs) ≡ true) × (to + length (encs (recIn (textForm oldest)) (recsAt (recIn (textForm newest)) (now s) recs)) ≤ length (now dst)) ⌝ }
+    ensures { λ r. ⌜ Put (now (dst .entry)) to (encs (recIn (textForm oldest)) (recsAt (recIn (textForm newest)) (now (s .entry)) recs)) (length (encs (recIn (textForm oldest)) (recsAt (recIn (textForm newest)) (now (s .entry)) recs))) r (now (dst .exit)) ⌝ }
 {
-    let mut i = at;
-    let mut left = n;
+    let mut i = recs.start;
+    let mut left = recs.count;
     let mut o = to;
     while 0 < left {
         let x = rec_in(s, TEXT, i);
@@ -180,5 +185,9 @@ pub fn put_old(s: &[u8], x: Open, dst: &mut [u8]) -> usize
 {
     let h = x.head;
     let e = put_old_head(s, h, dst, 0);
-    put_old_recs(s, x.start, h.count, dst, e)
+    let recs = Records {
+        start: x.start,
+        count: h.count,
+    };
+    put_old_recs(s, recs, dst, e)
 }

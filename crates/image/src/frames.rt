@@ -16,14 +16,15 @@ use queue::layout::frame::WIDE;
 use queue::layout::frame::rec_at;
 use queue::layout::frame::rec_in;
 use queue::layout::head::put_limits;
+use queue::layout::records::Records;
 ghost use mathlib.Core.Path.{_≡_};
-ghost use mathlib.Core.Bool.{true, cond};
+ghost use mathlib.Core.Bool.{cond};
 ghost use mathlib.Core.List.{[], _∷_};
 ghost use Prim.Native.Nat.{_+_, _*_, _≤_};
 ghost use lib.ListN.{length, take, drop};
 ghost use Rattle.queue.specs.Codec.{encs};
 ghost use Rattle.queue.specs.layout.FormsCodec.{recIn, areaForm, textForm};
-ghost use Rattle.queue.specs.bytes.ReaderAs.{whole, listAt};
+ghost use Rattle.queue.specs.layout.RecordsAs.{RecordsIn, recsAt};
 ghost use Rattle.queue.specs.bytes.PutAs.{Put};
 ghost use Rattle.queue.specs.paper.Area.{line};
 ghost use Rattle.queue.specs.paper.Kinds.{newest};
@@ -38,13 +39,13 @@ fn put_line(s: &[u8], base: usize, n: usize, dst: &mut [u8], at: usize) -> usize
     put_u8(dst, e, 10)
 }
 
-// The n record frames at `at` of an area as lines.
-fn put_lines(s: &[u8], at: usize, n: u64, dst: &mut [u8], to: usize) -> usize
-    requires { ⌜ (at ≤ length (now s)) × (whole (recIn areaForm) n (now s) at ≡ true) × (to + length (encs (recIn (textForm newest)) (listAt (recIn areaForm) n (now s) at)) ≤ length (now dst)) ⌝ }
-    ensures { λ r. ⌜ Put (now (dst .entry)) to (encs (recIn (textForm newest)) (listAt (recIn areaForm) n (now (s .entry)) at)) (length (encs (recIn (textForm newest)) (listAt (recIn areaForm) n (now (s .entry)) at))) r (now (dst .exit)) ⌝ }
+// The record frames of an area as lines.
+fn put_lines(s: &[u8], recs: Records, dst: &mut [u8], to: usize) -> usize
+    requires { ⌜ RecordsIn (recIn areaForm) (now s) recs × (to + length (encs (recIn (textForm newest)) (recsAt (recIn areaForm) (now s) recs)) ≤ length (now dst)) ⌝ }
+    ensures { λ r. ⌜ Put (now (dst .entry)) to (encs (recIn (textForm newest)) (recsAt (recIn areaForm) (now (s .entry)) recs)) (length (encs (recIn (textForm newest)) (recsAt (recIn areaForm) (now (s .entry)) recs))) r (now (dst .exit)) ⌝ }
 {
-    let mut i = at;
-    let mut left = n;
+    let mut i = recs.start;
+    let mut left = recs.count;
     let mut o = to;
     while 0 < left {
         let x = rec_at(s, i);
@@ -62,7 +63,11 @@ pub fn put_image(s: &[u8], base: usize, x: Open, dst: &mut [u8], at: usize) -> u
 {
     let h = x.head;
     let e = put_line(s, base, h.size, dst, at);
-    put_lines(s, x.start, h.count, dst, e)
+    let recs = Records {
+        start: x.start,
+        count: h.count,
+    };
+    put_lines(s, recs, dst, e)
 }
 
 // The header that was read at base, under the newest kind.
@@ -163,13 +168,13 @@ fn put_rec(s: &[u8], form: Form, base: usize, x: Seen, dst: &mut [u8], at: usize
     put_back(s, form, base, x, p + 4, dst, c)
 }
 
-// The n records at `at` under the newest kind.
-fn put_recs(s: &[u8], form: Form, at: usize, n: u64, dst: &mut [u8], to: usize) -> usize
-    requires { ⌜ (at ≤ length (now s)) × (whole (recIn form) n (now s) at ≡ true) × (to + length (encs (recIn areaForm) (listAt (recIn form) n (now s) at)) ≤ length (now dst)) ⌝ }
-    ensures { λ r. ⌜ Put (now (dst .entry)) to (encs (recIn areaForm) (listAt (recIn form) n (now (s .entry)) at)) (length (encs (recIn areaForm) (listAt (recIn form) n (now (s .entry)) at))) r (now (dst .exit)) ⌝ }
+// The records under the newest kind.
+fn put_recs(s: &[u8], form: Form, recs: Records, dst: &mut [u8], to: usize) -> usize
+    requires { ⌜ RecordsIn (recIn form) (now s) recs × (to + length (encs (recIn areaForm) (recsAt (recIn form) (now s) recs)) ≤ length (now dst)) ⌝ }
+    ensures { λ r. ⌜ Put (now (dst .entry)) to (encs (recIn areaForm) (recsAt (recIn form) (now (s .entry)) recs)) (length (encs (recIn areaForm) (recsAt (recIn form) (now (s .entry)) recs))) r (now (dst .exit)) ⌝ }
 {
-    let mut i = at;
-    let mut left = n;
+    let mut i = recs.start;
+    let mut left = recs.count;
     let mut o = to;
     while 0 < left {
         let x = rec_in(s, form, i);
@@ -187,5 +192,9 @@ pub fn put_queue(s: &[u8], form: Form, base: usize, x: Open, dst: &mut [u8], at:
 {
     let h = x.head;
     let e = put_head(s, form, base, h, dst, at);
-    put_recs(s, form, x.start, h.count, dst, e)
+    let recs = Records {
+        start: x.start,
+        count: h.count,
+    };
+    put_recs(s, form, recs, dst, e)
 }

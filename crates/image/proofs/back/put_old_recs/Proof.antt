@@ -15,22 +15,22 @@ use Rattle.queue.proofs.layout.forms.after_in.Reads as after-in-reads
 use Rattle.queue.proofs.layout.frame.rec_in.Reads as rec-in-reads
 
 abbrev Inv-loop : tie.InvT-loop
-Inv-loop s at n dst₀ to i₀ left₀ o₀ dst i left o = Olding s n at dst₀ to i left dst o
+Inv-loop s dst₀ to i₀ left₀ o₀ dst i left o = Olding s left₀ i₀ dst₀ to i left dst o
 
 abbrev μ-loop : tie.MeasureT-loop
-μ-loop s at n dst₀ to i₀ left₀ o₀ dst i left o = left
+μ-loop s dst₀ to i₀ left₀ o₀ dst i left o = left
 
 loop-holds : tie.Need-loop-holds Inv-loop μ-loop
-loop-holds c = (turning (textForm newest) (recIn (textForm oldest)) (c .before .before .args .s .now) (c .before .before .args .n) (c .before .before .args .at) _ (c .before .before .args .to) (c .before .before .pre .0) (c .before .before .pre .1), c .before .before .pre .2)
+loop-holds c = (turning (textForm newest) (recIn (textForm oldest)) (c .before .before .args .s .now) (c .before .before .args .recs .count) (c .before .before .args .recs .start) _ (c .before .before .args .to) (c .before .before .pre .0 .0) (c .before .before .pre .0 .1), c .before .before .pre .1)
 
 rec-in-requires : tie.Need-rec-in-requires Inv-loop μ-loop
 rec-in-requires c κs = search needs
 
 put-old-rec-requires : tie.Need-put-old-rec-requires Inv-loop μ-loop
-put-old-rec-requires c κs = olding-room (c .before .before .before .before .before .before .args .s .now) (c .before .before .before .before .before .before .args .n) (c .before .before .before .before .before .before .args .at) _ (c .before .before .before .before .before .before .args .to) (c .before .before .before .loop .inv) (c .before .before .loop-test .taken) (c .before .rec-in .ensures) (c .before .before .before .before .before .before .pre .3)
+put-old-rec-requires c κs = olding-room (c .before .before .before .before .before .before .args .s .now) (c .before .before .before .before .before .before .args .recs .count) (c .before .before .before .before .before .before .args .recs .start) _ (c .before .before .before .before .before .before .args .to) (c .before .before .before .loop .inv) (c .before .before .loop-test .taken) (c .before .rec-in .ensures) (c .before .before .before .before .before .before .pre .2)
 
 after-in-requires : tie.Need-after-in-requires Inv-loop μ-loop
-after-in-requires c κs = turn-here (textForm newest) (recIn (textForm oldest)) (c .before .before .before .before .before .before .before .before .before .args .s .now) (c .before .before .before .before .before .before .before .before .before .args .n) (c .before .before .before .before .before .before .before .before .before .args .at) _ (c .before .before .before .before .before .before .before .before .before .args .to) (c .before .before .before .before .before .before .loop .inv .0) (c .before .before .before .before .before .loop-test .taken) (c .before .before .before .before .rec-in .ensures) .is .1 .within
+after-in-requires c κs = turn-here (textForm newest) (recIn (textForm oldest)) (c .before .before .before .before .before .before .before .before .before .args .s .now) (c .before .before .before .before .before .before .before .before .before .args .recs .count) (c .before .before .before .before .before .before .before .before .before .args .recs .start) _ (c .before .before .before .before .before .before .before .before .before .args .to) (c .before .before .before .before .before .before .loop .inv .0) (c .before .before .before .before .before .loop-test .taken) (c .before .before .before .before .rec-in .ensures) .is .1 .within
 
 sub-left : tie.Need-sub-left Inv-loop μ-loop
 sub-left c = search needs
@@ -39,13 +39,13 @@ loop-less : tie.Need-loop-less Inv-loop μ-loop
 loop-less c = search needs
 
 loop-again : tie.Need-loop-again Inv-loop μ-loop
-loop-again c = olding-on (c .before .before .before .before .before .before .before .before .before .before .args .s .now) (c .before .before .before .before .before .before .before .before .before .before .args .n) (c .before .before .before .before .before .before .before .before .before .before .args .at) _ (c .before .before .before .before .before .before .before .before .before .before .args .to) (c .before .before .before .before .before .before .before .loop .inv) (c .before .before .before .before .before .before .loop-test .taken) (c .before .before .before .before .before .rec-in .ensures) (c .before .before .before .put-old-rec .ensures) (c .after-in .ensures)
+loop-again c = olding-on (c .before .before .before .before .before .before .before .before .before .before .args .s .now) (c .before .before .before .before .before .before .before .before .before .before .args .recs .count) (c .before .before .before .before .before .before .before .before .before .before .args .recs .start) _ (c .before .before .before .before .before .before .before .before .before .before .args .to) (c .before .before .before .before .before .before .before .loop .inv) (c .before .before .before .before .before .before .loop-test .taken) (c .before .before .before .before .before .rec-in .ensures) (c .before .before .before .put-old-rec .ensures) (c .after-in .ensures)
 
 same-length : tie.Need-same-length Inv-loop μ-loop
 same-length c = c .before .loop .inv .0 .long
 
 returns : tie.Need-returns Inv-loop μ-loop
-returns c = turn-end (textForm newest) (recIn (textForm oldest)) (c .before .before .before .before .args .s .now) (c .before .before .before .before .args .n) (c .before .before .before .before .args .at) _ (c .before .before .before .before .args .to) (c .before .loop .inv .0) (omega arith)
+returns c = turn-end (textForm newest) (recIn (textForm oldest)) (c .before .before .before .before .args .s .now) (c .before .before .before .before .args .recs .count) (c .before .before .before .before .args .recs .start) _ (c .before .before .before .before .args .to) (c .before .loop .inv .0) (omega arith)
 
 pub put-old-recs-spec : {M : Type 1} → statement M
 put-old-recs-spec =

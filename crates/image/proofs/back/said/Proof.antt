@@ -1,7 +1,7 @@
 -- Filled from its answers by tools/proofkit.py: change those, and fill it again.
 use Rattle.image.proofs.BackLaws.{says-it}
+use Rattle.queue.proofs.check.AreaLaws.{recs-stand}
 use borrow.Author.Needs.{needs}
-use native.Mathlib.Omega.{arith}
 use Rattle.image.proofs.back.said.Statement.{statement}
 use Rattle.image.proofs.back.said.Tie as tie
 use Rattle.image.proofs.back.said.Reads as reads
@@ -14,7 +14,7 @@ first-share-requires : tie.Need-first-share-requires
 first-share-requires c κs = c .before .before .before .pre .is .head .fit
 
 sayable-recs-requires : tie.Need-sayable-recs-requires
-sayable-recs-requires c κs = let w = c .before .before .before .before .pre .is in (omega (arith, w .up, w .ends), w .all)
+sayable-recs-requires c κs = recs-stand (c .before .before .before .before .pre .is)
 
 both-requires : tie.Need-both-requires
 both-requires c κs = search needs

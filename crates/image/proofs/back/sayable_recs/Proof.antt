@@ -12,13 +12,13 @@ use Rattle.queue.proofs.layout.forms.after_in.Reads as after-in-reads
 use Rattle.queue.proofs.layout.frame.rec_in.Reads as rec-in-reads
 
 abbrev Inv-loop : tie.InvT-loop
-Inv-loop s at n i₀ left₀ i left = Saying s n at i left
+Inv-loop s i₀ left₀ i left = Saying s left₀ i₀ i left
 
 abbrev μ-loop : tie.MeasureT-loop
-μ-loop s at n i₀ left₀ i left = left
+μ-loop s i₀ left₀ i left = left
 
 loop-holds : tie.Need-loop-holds Inv-loop μ-loop
-loop-holds c = saying (c .before .args .s .now) (c .before .args .n) (c .before .args .at) (c .before .pre .0) (c .before .pre .1)
+loop-holds c = saying (c .before .args .s .now) (c .before .args .recs .count) (c .before .args .recs .start) (c .before .pre .0) (c .before .pre .1)
 
 rec-in-requires : tie.Need-rec-in-requires Inv-loop μ-loop
 rec-in-requires c κs = search needs
@@ -27,10 +27,10 @@ sayable-requires : tie.Need-sayable-requires Inv-loop μ-loop
 sayable-requires c κs = search needs
 
 returns : tie.Need-returns Inv-loop μ-loop
-returns c = saying-no (c .before .before .before .before .before .before .before .args .s .now) (c .before .before .before .before .before .before .before .args .n) (c .before .before .before .before .before .before .before .args .at) (c .before .before .before .before .before .loop .inv) (c .before .before .before .before .loop-test .taken) (c .before .before .before .rec-in .ensures) (c .before .sayable .ensures) (not-true _ (c .if1 .taken))
+returns c = saying-no (c .before .before .before .before .before .before .before .args .s .now) (c .before .before .before .before .before .before .before .args .recs .count) (c .before .before .before .before .before .before .before .args .recs .start) (c .before .before .before .before .before .loop .inv) (c .before .before .before .before .loop-test .taken) (c .before .before .before .rec-in .ensures) (c .before .sayable .ensures) (not-true _ (c .if1 .taken))
 
 after-in-requires : tie.Need-after-in-requires Inv-loop μ-loop
-after-in-requires c κs = saying-size (c .before .before .before .before .before .before .before .args .s .now) (c .before .before .before .before .before .before .before .args .n) (c .before .before .before .before .before .before .before .args .at) (c .before .before .before .before .before .loop .inv) (c .before .before .before .before .loop-test .taken) (c .before .before .before .rec-in .ensures)
+after-in-requires c κs = saying-size (c .before .before .before .before .before .before .before .args .s .now) (c .before .before .before .before .before .before .before .args .recs .count) (c .before .before .before .before .before .before .before .args .recs .start) (c .before .before .before .before .before .loop .inv) (c .before .before .before .before .loop-test .taken) (c .before .before .before .rec-in .ensures)
 
 sub-left : tie.Need-sub-left Inv-loop μ-loop
 sub-left c = search needs
@@ -39,10 +39,10 @@ loop-less : tie.Need-loop-less Inv-loop μ-loop
 loop-less c = search needs
 
 loop-again : tie.Need-loop-again Inv-loop μ-loop
-loop-again c = saying-on (c .before .before .before .before .before .before .before .before .args .s .now) (c .before .before .before .before .before .before .before .before .args .n) (c .before .before .before .before .before .before .before .before .args .at) (c .before .before .before .before .before .before .loop .inv) (c .before .before .before .before .before .loop-test .taken) (c .before .before .before .before .rec-in .ensures) (c .before .before .sayable .ensures) (not-false _ (c .before .if1 .left)) (c .after-in .ensures)
+loop-again c = saying-on (c .before .before .before .before .before .before .before .before .args .s .now) (c .before .before .before .before .before .before .before .before .args .recs .count) (c .before .before .before .before .before .before .before .before .args .recs .start) (c .before .before .before .before .before .before .loop .inv) (c .before .before .before .before .before .loop-test .taken) (c .before .before .before .before .rec-in .ensures) (c .before .before .sayable .ensures) (not-false _ (c .before .if1 .left)) (c .after-in .ensures)
 
 returns-2 : tie.Need-returns-2 Inv-loop μ-loop
-returns-2 c = saying-end (c .before .before .before .args .s .now) (c .before .before .before .args .n) (c .before .before .before .args .at) (c .before .loop .inv) (omega arith)
+returns-2 c = saying-end (c .before .before .before .args .s .now) (c .before .before .before .args .recs .count) (c .before .before .before .args .recs .start) (c .before .loop .inv) (omega arith)
 
 pub sayable-recs-spec : {M : Type 1} → statement M
 sayable-recs-spec =

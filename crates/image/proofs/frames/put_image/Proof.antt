@@ -1,6 +1,7 @@
 -- Filled from its answers by tools/proofkit.py: change those, and fill it again.
 use Rattle.image.proofs.ImageLaws.{frame-in, head-room, line-of, line-size, recs-room, store-put}
 use Rattle.queue.proofs.bytes.PutLaws.{sized}
+use Rattle.queue.proofs.check.AreaLaws.{recs-stand}
 use Rattle.queue.specs.layout.FormsCodec.{areaForm, textForm}
 use Rattle.queue.specs.paper.Kinds.{newest}
 use borrow.Author.Needs.{needs}
@@ -16,7 +17,7 @@ put-line-requires : tie.Need-put-line-requires
 put-line-requires c κs = let w = c .before .before .before .before .pre .is in (frame-in (c .before .before .before .before .pre .here) (w .frame), omega (arith, head-room areaForm (textForm newest) w _ _ (c .before .before .before .before .pre .room), line-size (w .frame)))
 
 put-lines-requires : tie.Need-put-lines-requires
-put-lines-requires c κs = let w = c .before .before .before .before .before .before .before .before .pre .is in (omega (arith, w .up, w .ends), w .all, recs-room areaForm (textForm newest) w (sized (c .before .before .before .put-line .ensures) (line-of (w .frame))) (c .before .before .before .before .before .before .before .before .pre .room))
+put-lines-requires c κs = let w = c .before .before .before .before .before .before .before .before .pre .is in (recs-stand w, recs-room areaForm (textForm newest) w (sized (c .before .before .before .put-line .ensures) (line-of (w .frame))) (c .before .before .before .before .before .before .before .before .pre .room))
 
 same-length : tie.Need-same-length
 same-length c = search needs

@@ -1,10 +1,9 @@
 -- Filled from its answers by tools/proofkit.py: change those, and fill it again.
 use Rattle.image.proofs.ImageLaws.{kind-is, text-facts, text-good, text-long, text-none, text-other, text-unsound}
-use Rattle.queue.proofs.check.AreaLaws.{sound-range}
+use Rattle.queue.proofs.check.AreaLaws.{recs-stand, sound-range}
 use borrow.Author.Needs.{needs}
 use borrow.Author.Tests.{not-false, not-true}
 use mathlib.Core.Path.{_∙_, refl, sym}
-use native.Mathlib.Omega.{arith}
 use Rattle.image.proofs.text.text_at.Statement.{statement}
 use Rattle.image.proofs.text.text_at.Tie as tie
 use Rattle.image.proofs.text.text_at.Reads as reads
@@ -38,7 +37,7 @@ returns-3 : tie.Need-returns-3
 returns-3 c = text-long _ (kind-is (c .before .before .before .before .before .before .before .before .before .args .s .now) (c .before .before .before .before .before .before .before .kind-at .ensures)) (sym (c .before .before .before .before .before .before .known .ensures) ∙ not-false _ (c .before .before .before .before .before .if1 .left)) (c .before .before .before .before .store-at .ensures) (not-false _ (c .before .before .if2 .left)) (c .if3 .taken) refl
 
 sound-at-requires : tie.Need-sound-at-requires
-sound-at-requires c κs = let w = text-facts _ (kind-is (c .before .before .before .before .before .before .before .before .before .before .args .s .now) (c .before .before .before .before .before .before .before .before .kind-at .ensures)) (sym (c .before .before .before .before .before .before .before .known .ensures) ∙ not-false _ (c .before .before .before .before .before .before .if1 .left)) (c .before .before .before .before .before .store-at .ensures) (not-false _ (c .before .before .before .if2 .left)) .1 in (omega (arith, w .up, w .ends), w .head .fit .long, w .all, w .sums)
+sound-at-requires c κs = let w = text-facts _ (kind-is (c .before .before .before .before .before .before .before .before .before .before .args .s .now) (c .before .before .before .before .before .before .before .before .kind-at .ensures)) (sym (c .before .before .before .before .before .before .before .known .ensures) ∙ not-false _ (c .before .before .before .before .before .before .if1 .left)) (c .before .before .before .before .before .store-at .ensures) (not-false _ (c .before .before .before .if2 .left)) .1 in (recs-stand w, w .head .fit .long, w .sums)
 
 returns-4 : tie.Need-returns-4
 returns-4 c = text-unsound _ (kind-is (c .before .before .before .before .before .before .before .before .before .before .before .before .args .s .now) (c .before .before .before .before .before .before .before .before .before .before .kind-at .ensures)) (sym (c .before .before .before .before .before .before .before .before .before .known .ensures) ∙ not-false _ (c .before .before .before .before .before .before .before .before .if1 .left)) (c .before .before .before .before .before .before .before .store-at .ensures) (not-false _ (c .before .before .before .before .before .if2 .left)) (c .before .before .before .if3 .left) (c .before .sound-at .ensures) (not-true _ (c .if4 .taken)) refl
