@@ -1,5 +1,6 @@
 -- Laws of the way back: a text of the newest kind, and the image of kind 01 of its queue. Assumes nothing.
 use Rattle.queue.specs.Prelude.{_≡_, refl, ap, sym, _∙_, Bool, true, false, cond, not, _&&_, Option, none, some, List, [], _∷_, _++_, append-assoc, append-nil, ℕ, suc, _+_, _-_, _*_, _%_, _^_, _≤_, _<_, arith, eqb, length, drop, take, replicate, length-append, take-at, length-take-le, lt-ltb, le-ltb, eq-eqb, ne-eqb}
+use Rattle.queue.specs.Basics.{join-left}
 use Rattle.queue.specs.declared.Kind.the-variants.{Nothing}
 use Rattle.queue.specs.declared.Answer.the-variants.{Refused, Done}
 use Rattle.queue.specs.declared.check.rules.Query.the-variants.{Holders}
@@ -241,11 +242,8 @@ module _ {s : Bytes} {base : ℕ} {x : Seen} {r : Rec} (w : SeenUnder newest (vi
     piece-4 : take (x .size - c .signed) (drop (c .signed) seen) ≡ signedEnc (r .body)
     piece-4 =
         slice-end seen ((ahead ++ (low ++ recMid r)) ++ readsEnc newest (r .body)) (signedEnc (r .body)) (x .size) (c .signed)
-        (parts ∙ join-ahead front caller (recFore r) (high (r .terms .priority)) behind-priority ∙ join ahead (low ++ recMid r) (readsEnc newest (r .body)) (signedEnc (r .body)))
+        (parts ∙ join-ahead front caller (recFore r) (high (r .terms .priority)) behind-priority ∙ join-left ahead (low ++ recMid r) (readsEnc newest (r .body)) (signedEnc (r .body)))
         (length-append (ahead ++ (low ++ recMid r)) (readsEnc newest (r .body)) ∙ omega (arith, length-append ahead (low ++ recMid r), length-append low (recMid r), ahead-long, signed-at, codec.be-length 4 (low32 (r .terms .priority)))) (f .within) .0
-      where
-        join : (a b d z : Bytes) → a ++ (b ++ (d ++ z)) ≡ ((a ++ b) ++ d) ++ z
-        join a b d z = sym (simp append-assoc)
 
     -- where the pieces stand
     pub old-in : (38 ≤ c .low) × (c .low ≤ c .reads) × (c .reads ≤ c .signed) × (c .signed ≤ x .size) × (x .size ≤ length seen)
@@ -255,13 +253,10 @@ module _ {s : Bytes} {base : ℕ} {x : Seen} {r : Rec} (w : SeenUnder newest (vi
         ≡ (((textOf (take 33 (drop 0 seen)) ++ textOf (take (c .low - 38) (drop 34 seen))) ++ textOf (take (c .reads - c .low) (drop (c .low) seen))) ++ textOf (take (x .size - c .signed) (drop (c .signed) seen))) ++ (10 ∷ [])
     unfolding formC lineEnc
     old-line =
-        ap (λ (y : Bytes). textOf y ++ (10 ∷ [])) (old-enc r ∙ join front (recFore r) (low ++ recMid r) (signedEnc (r .body)))
+        ap (λ (y : Bytes). textOf y ++ (10 ∷ [])) (old-enc r ∙ join-left front (recFore r) (low ++ recMid r) (signedEnc (r .body)))
         ∙ ap (λ (y : Bytes). y ++ (10 ∷ [])) (four front (recFore r) (low ++ recMid r) (signedEnc (r .body)))
         ∙ sym (pieces (λ (a b c d : Bytes). (((textOf a ++ textOf b) ++ textOf c) ++ textOf d) ++ (10 ∷ [])) piece-1 piece-2 piece-3 piece-4)
       where
-        join : (a b c d : Bytes) → a ++ (b ++ (c ++ d)) ≡ ((a ++ b) ++ c) ++ d
-        join a b c d = sym (simp append-assoc)
-
         four : (a b c d : Bytes) → textOf (((a ++ b) ++ c) ++ d) ≡ ((textOf a ++ textOf b) ++ textOf c) ++ textOf d
         four a b c d = text-append ((a ++ b) ++ c) d ∙ ap (λ (y : Bytes). y ++ textOf d) (text-append (a ++ b) c ∙ ap (λ (y : Bytes). y ++ textOf c) (text-append a b))
 

@@ -1,5 +1,6 @@
 -- Laws of the image: a text that is read, frames in the other form, and each exit of the calls. Assumes nothing.
 use Rattle.queue.specs.Prelude.{_≡_, refl, ap, sym, _∙_, Bool, true, false, cond, Option, none, some, List, [], _∷_, _++_, append-assoc, append-nil, ℕ, suc, _+_, _-_, _*_, _≤_, _<_, arith, zero-add, length, drop, take, getD, replicate, length-append, length-drop, take-append-drop, take-at, drop-at, drop-drop, length-take-le, lt-ltb, le-ltb, le-leb, leb-true, eq-eqb, ne-eqb}
+use Rattle.queue.specs.Basics.{join-left}
 use Rattle.queue.specs.declared.Kind.the-variants.{Nothing}
 use Rattle.queue.specs.declared.Answer.the-variants.{Refused, Done}
 use Rattle.queue.specs.declared.layout.frame.Form.{Form}
@@ -237,11 +238,8 @@ module _ (form : Form) {s : Bytes} {base : ℕ} {x : Seen} {r : Rec} (w : SeenUn
   -- behind the priority of n bytes
   back-here : (n : ℕ) → length (prio (form .kind)) ≡ n → (take (x .size - (pr + n)) (drop (pr + n) seen) ≡ back (form .kind)) × (pr + n + length (back (form .kind)) ≡ x .size)
   back-here n l =
-      slice-end seen ((lead ++ recFore r) ++ prio (form .kind)) (back (form .kind)) (x .size) (pr + n) (parts ∙ join lead (recFore r) (prio (form .kind)) (back (form .kind)))
+      slice-end seen ((lead ++ recFore r) ++ prio (form .kind)) (back (form .kind)) (x .size) (pr + n) (parts ∙ join-left lead (recFore r) (prio (form .kind)) (back (form .kind)))
       (length-append (lead ++ recFore r) (prio (form .kind)) ∙ omega (arith, length-append lead (recFore r), lead-long (hasCallers (form .kind)), fore-long)) (f .within)
-    where
-      join : (a b c d : Bytes) → a ++ (b ++ (c ++ d)) ≡ ((a ++ b) ++ c) ++ d
-      join a b c d = sym (simp append-assoc)
 
   pub lead-in : (ce ≤ length seen) × (34 ≤ length (recIn areaForm .enc r))
   unfolding formC

@@ -1,5 +1,6 @@
 -- What the converter accepts opens in the base as the same queue, and what the base wrote comes back as it was.
 use Rattle.queue.specs.Prelude.{_≡_, refl, ap, sym, _∙_, Bool, true, false, cond, not, _&&_, Option, none, some, List, [], _∷_, _++_, append-assoc, ℕ, _^_, _<_, arith, ltb, leb, eqb, length, take, drop, take-at, le-leb, le-ltb, eqb-true}
+use Rattle.queue.specs.Basics.{any-same}
 use Rattle.queue.specs.declared.Answer.{Answer}
 use Rattle.queue.specs.declared.Kind.the-variants.{Nothing}
 use Rattle.queue.specs.declared.Answer.the-variants.{Refused, Done}
@@ -34,10 +35,6 @@ total-map t f g h (a ∷ l) = rw (h a, total-map t f g h l)
 any-map : {A B : Type 0} (t : A → B) (p : B → Bool) (q : A → Bool) → ((a : A) → p (t a) ≡ q a) → (l : List A) → any? p (map t l) ≡ any? q l
 any-map t p q h [] = refl
 any-map t p q h (a ∷ l) = rw (h a, any-map t p q h l)
-
-any-same : {A : Type 0} (p q : A → Bool) → ((a : A) → p a ≡ q a) → (l : List A) → any? p l ≡ any? q l
-any-same p q h [] = refl
-any-same p q h (a ∷ l) = rw (h a, any-same p q h l)
 
 any-none : {A : Type 0} (p : A → Bool) → ((a : A) → p a ≡ false) → (l : List A) → any? p l ≡ false
 any-none p h [] = refl

@@ -59,6 +59,9 @@ and-off false b = refl
 pub join-four : {A : Type 0} (a b c d : List A) → (a ++ (b ++ c)) ++ d ≡ a ++ (b ++ (c ++ d))
 join-four a b c d = simp append-assoc
 
+pub join-left : {A : Type 0} (a b c d : List A) → a ++ (b ++ (c ++ d)) ≡ ((a ++ b) ++ c) ++ d
+join-left a b c d = sym (simp append-assoc)
+
 pub join-eight : {A : Type 0} (a b c d e f g h : List A) → ((((((a ++ b) ++ c) ++ d) ++ e) ++ f) ++ g) ++ h ≡ a ++ (b ++ (c ++ (d ++ (e ++ (f ++ (g ++ h))))))
 join-eight a b c d e f g h = simp append-assoc
 
