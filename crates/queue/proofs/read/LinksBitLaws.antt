@@ -1,5 +1,5 @@
 -- The bits of words: joined, moved up, one taken away; the lines of rows, the rows that a line names. Assumes nothing.
-use Rattle.queue.specs.Prelude.{_≡_, refl, ap, ap₂, sym, _∙_, Bool, true, false, cond, not, _&&_, _||_, List, _∷_, ℕ, zero, suc, _+_, _-_, _*_, _/_, _%_, _^_, _≤_, _<_, max, arith, le-of-suc-le-suc, pow-suc, mod-lt, div-add-mod', div-lt-iff-lt-mul, mul-comm, add-zero, suc-mul, mul-le-mul-right, add-one, ltb, leb, eqb, digits-div, digits-mod, bitOr, length, getD, set, length-set, getD-set-same, getD-set-other, eqb-true, eqb-false, eq-eqb, ne-eqb, ltb-true, ltb-false, lt-ltb, le-ltb, leb-true, leb-false, le-leb, lt-leb}
+use Rattle.queue.specs.Prelude.{_≡_, refl, ap, ap₂, sym, _∙_, Bool, true, false, cond, not, _&&_, _||_, List, _∷_, ℕ, zero, suc, _+_, _-_, _*_, _/_, _%_, _^_, _≤_, _<_, max, arith, le-of-suc-le-suc, pow-suc, mod-lt, div-add-mod', div-lt-iff-lt-mul, mul-comm, add-zero, suc-mul, mul-le-mul-right, add-one, ltb, leb, eqb, digits-div, digits-mod, bitOr, length, getD, set, getD-set-same, getD-set-other, eqb-true, eqb-false, eq-eqb, ne-eqb, ltb-true, ltb-false, lt-ltb, le-ltb, leb-true, leb-false, le-leb, lt-leb}
 use lib.Bits.{block-half, block-odd, shifted-half}
 use Rattle.queue.specs.Codec.{cases}
 use Rattle.queue.specs.bytes.ReaderLaws.{false-true}
@@ -44,7 +44,7 @@ unfolding bitL
 bit-none zero = refl
 bit-none (suc k) = bit-none k
 
-pub bit-one : (m k : ℕ) → bitL (2 ^ m) k ≡ eqb k m
+bit-one : (m k : ℕ) → bitL (2 ^ m) k ≡ eqb k m
 unfolding bitL
 bit-one zero zero = refl
 bit-one zero (suc k) = bit-none k ∙ sym (ne-eqb (suc k) 0 (λ e. let z : ⊥ = omega arith in z))
