@@ -1,5 +1,5 @@
 -- The bits of words: joined, moved up, one taken away; the lines of rows, the rows that a line names. Assumes nothing.
-use Rattle.queue.specs.Prelude.{_≡_, refl, ap, ap₂, sym, _∙_, Bool, true, false, cond, not, _&&_, _||_, List, _∷_, ℕ, zero, suc, _+_, _-_, _*_, _/_, _%_, _^_, _≤_, _<_, max, arith, le-of-suc-le-suc, pow-suc, mod-lt, div-add-mod', div-lt-iff-lt-mul, mul-comm, add-zero, suc-mul, mul-le-mul-right, add-one, ltb, leb, eqb, digits-div, digits-mod, bitOr, length, getD, set, getD-set-same, getD-set-other, eqb-true, eqb-false, eq-eqb, ne-eqb, ltb-true, ltb-false, lt-ltb, le-ltb, leb-true, leb-false, le-leb, lt-leb, block-half, block-odd, shifted-half}
+use Rattle.queue.specs.Prelude.{_≡_, refl, ap, ap₂, sym, _∙_, Bool, true, false, cond, not, _&&_, _||_, List, _∷_, ℕ, zero, suc, _+_, _-_, _*_, _/_, _%_, _^_, _≤_, _<_, max, arith, le-of-suc-le-suc, pow-suc, mod-lt, div-add-mod', div-lt-iff-lt-mul, mul-comm, add-zero, suc-mul, mul-le-mul-right, add-one, ltb, leb, eqb, digits-div, digits-mod, bitOr, length, getD, set, getD-set-same, getD-set-other, eqb-true, eqb-false, eq-eqb, ne-eqb, ltb-true, ltb-false, lt-ltb, le-ltb, leb-true, leb-false, le-leb, lt-leb, block-half, block-odd, shifted-half, pow-succ', div-one, div-div-eq-div-mul}
 use Rattle.queue.specs.Basics.{any-append, or-assoc}
 use Rattle.queue.specs.Codec.{cases}
 use Rattle.queue.specs.bytes.ReaderLaws.{false-true}
@@ -39,7 +39,7 @@ unfolding bitL
 bit-none zero = refl
 bit-none (suc k) = bit-none k
 
-pub bit-one : (m k : ℕ) → bitL (2 ^ m) k ≡ eqb k m
+bit-one : (m k : ℕ) → bitL (2 ^ m) k ≡ eqb k m
 unfolding bitL
 bit-one zero zero = refl
 bit-one zero (suc k) = bit-none k ∙ sym (ne-eqb (suc k) 0 (λ e. let z : ⊥ = omega arith in z))
@@ -260,3 +260,8 @@ words-any bits (suc m) p j k a b =
 pub kids-any : (bits : List ℕ) (w i j : ℕ) → j < 64 * w → any? (eqb j) (kidsOf bits w i) ≡ bitAt bits w i j
 unfolding kidsOf bitAt
 kids-any bits w i j h = words-any bits w (i * w) 0 j (omega arith) (omega arith) ∙ rw (let z : j - 0 ≡ j = omega arith in z)
+
+pub bit-is : (x k : ℕ) → eqb (x / 2 ^ k % 2) 1 ≡ bitL x k
+unfolding bitL
+bit-is x zero = ap (λ (y : ℕ). eqb (y % 2) 1) (div-one x)
+bit-is x (suc k) = ap (λ (y : ℕ). eqb (y % 2) 1) (ap (λ (y : ℕ). x / y) (pow-succ' 2 k) ∙ sym (div-div-eq-div-mul x 2 (2 ^ k))) ∙ bit-is (x / 2) k

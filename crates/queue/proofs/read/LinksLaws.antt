@@ -1,5 +1,5 @@
 -- Rows for what records want, in slots and in a table, and the bits that come of them. Assumes nothing.
-use Rattle.queue.specs.Prelude.{_≡_, refl, ap, sym, _∙_, Bool, true, false, not, _&&_, _||_, List, [], _∷_, _++_, ℕ, zero, suc, _+_, _-_, _*_, _/_, _%_, _≤_, _<_, arith, le-of-suc-le-suc, add-one, mod-lt, bitOr, ltb, leb, eqb, length, drop, take, getD, set, length-set, length-take, digits-div, digits-mod, List·getD-eq-default, drop-drop, drop-set-lt, getD-set-same, getD-set-other, take-suc, take-suc-set, take-all, getD-take, eqb-true, eqb-false, eq-eqb, ltb-true, ltb-false, lt-ltb, le-ltb, leb-true, le-leb, lt-leb, not-true, not-false}
+use Rattle.queue.specs.Prelude.{_≡_, refl, ap, sym, _∙_, Bool, true, false, not, _&&_, _||_, List, [], _∷_, _++_, ℕ, zero, suc, _+_, _-_, _/_, _%_, _≤_, _<_, arith, le-of-suc-le-suc, add-one, mod-lt, bitOr, ltb, leb, eqb, length, drop, take, getD, set, length-set, length-take, List·getD-eq-default, drop-drop, drop-set-lt, getD-set-same, getD-set-other, take-suc, take-suc-set, take-all, getD-take, eqb-true, eqb-false, eq-eqb, ltb-true, ltb-false, lt-ltb, le-ltb, leb-true, le-leb, lt-leb, not-true, not-false}
 use Rattle.queue.specs.Basics.{among-append, any-append, or-assoc, or-same, join-same, and-or, and-off, or-and, any-at, any-same}
 use Rattle.queue.specs.Codec.{All, cases}
 use Rattle.queue.specs.bytes.Parts.{part}
@@ -17,7 +17,7 @@ use Rattle.queue.specs.paper.Records.{Bytes, Id, Rec}
 use Rattle.queue.specs.paper.Ids.{cmpL, same?}
 use Rattle.queue.specs.paper.Lists.{any?, all?}
 use Rattle.queue.specs.paper.Sound.{inputs, outputs, reads, wanted, among?}
-use Rattle.queue.specs.read.LinksAs.{sign, names, OutsIs, OutsTo, Again, Thinner, Thinned, wantsAt, outsAt, Short, Joined, hit, inLine, Zero, Cleared, Slotted, RowsHold, Rowed, Linked, outputsLinked, Begins}
+use Rattle.queue.specs.read.LinksAs.{groupMask, names, OutsIs, OutsTo, Again, Thinner, Thinned, wantsAt, outsAt, Short, Joined, hit, inLine, Zero, Cleared, Slotted, RowsHold, Rowed, Linked, outputsLinked, Begins}
 use Rattle.queue.specs.declared.layout.frame.Seen.{Seen}
 use Rattle.queue.proofs.layout.TurnLaws.{Scan, start, here, on, ReadsRec}
 use Rattle.queue.proofs.check.FilterLaws.{mark-size, mark-here, mark-old, slot-in}
@@ -25,7 +25,7 @@ use Rattle.queue.proofs.check.SuspectsRowLaws.{id-long, any-none, any-s
 use Rattle.queue.proofs.check.SuspectsLaws.{id-bytes, all-at, all-append, shuffled-all, shuffled-any}
 use Rattle.queue.proofs.read.FeesLaws.{the-turn, rec-is, known-at}
 use Rattle.queue.proofs.read.LinksBitLaws.{or-no, spread, joined-none, joined-to, joined-then}
-use Rattle.queue.proofs.read.LinksNameLaws.{sign-pos, names-sign, names-none, names-or, join-number, join-place}
+use Rattle.queue.proofs.read.LinksNameLaws.{mask-pos, names-mask, names-none, names-or, join-number, join-place}
 
 -- ---- zeros
 pub zero-go : (v : List ℕ) (i : ℕ) → ((j : ℕ) → j < i → getD v j 0 ≡ 0) → (j : ℕ) → j < i + 1 → getD (set v i 0) j 0 ≡ 0
@@ -82,9 +82,9 @@ meets-same s y x n e f h k p q r =
     r ∙ rw (p ∙ sym (id-long false s y (omega arith)), q ∙ sym (id-long false s x (omega arith))) (meets-is s y x n refl)
 
 -- what a row of record j with the id y says
-row-says : (s : Bytes) (w j : ℕ) (y : Id) → idR false s w ≡ y → noR w ≡ sign j → (i : ℕ) (z : Id) → hit s i z w ≡ (eqb i j && same? z y)
+row-says : (s : Bytes) (w j : ℕ) (y : Id) → idR false s w ≡ y → noR w ≡ groupMask j → (i : ℕ) (z : Id) → hit s i z w ≡ (eqb i j && same? z y)
 unfolding hit later
-row-says s w j y e n i z = rw (e, n, lt-ltb 0 (sign j) (sign-pos j), names-sign j i) (swap (same? z y) (eqb i j))
+row-says s w j y e n i z = rw (e, n, lt-ltb 0 (groupMask j) (mask-pos j), names-mask j i) (swap (same? z y) (eqb i j))
   where
     swap : (a b : Bool) → ((a && true) && b) ≡ (b && a)
     swap true true = refl
@@ -256,7 +256,7 @@ rowing s j b c at slots t rows h w = record {
 }
 
 module _ {s : Bytes} {j : ℕ} {b : Bytes} {c at : ℕ} {slots₀ t₀ rows₀ : List ℕ} {i left : ℕ} {slots t : List ℕ} (v : List ℕ) (k : ℕ) (x : Rowing s j b c at slots₀ t₀ rows₀ i left slots t (take k v)) where
-  pub rowing-go : {next : ℕ} {ok : Bool} {y : Id} {h : ℕ} (w : ℕ) {r : ℕ} {slots′ t′ v′ : List ℕ} → 0 < left → Reads idC b i ok next (λ a. a ≡ y) → h ≡ hashAll y → idR false s w ≡ part 32 b i → noR w ≡ sign j
+  pub rowing-go : {next : ℕ} {ok : Bool} {y : Id} {h : ℕ} (w : ℕ) {r : ℕ} {slots′ t′ v′ : List ℕ} → 0 < left → Reads idC b i ok next (λ a. a ≡ y) → h ≡ hashAll y → idR false s w ≡ part 32 b i → noR w ≡ groupMask j
       → 0 < length slots → 0 < length t → k < length v → Slotted h w k slots t v r slots′ t′ v′ → Rowing s j b c at slots₀ t₀ rows₀ next (left - 1) slots′ t′ (take r v′)
   rowing-go {next} {ok} {y} {h} w {r} {slots′} {t′} {v′} p rd e f n a d l g =
       let u = here (x .scan) p rd in
@@ -326,25 +326,21 @@ module _ (s : Bytes) (at : List ℕ) (i : ℕ) {m : ℕ} {ok : Bool} {y : Seen} 
       all-get (p ∷ l) (suc i) a h = all-get l i (a .1) (le-of-suc-le-suc h)
 
 -- ---- where outputs stand
-pub outs-start : (s : Bytes) (at cs : List ℕ) → OutsTo s at cs 0
-outs-start s at cs = record { each = λ i h. absurd (let z : ⊥ = omega arith in z) }
+pub outs-start : (s : Bytes) (at outs : List ℕ) → OutsTo s at outs 0
+outs-start s at outs = record { each = λ i h. absurd (let z : ⊥ = omega arith in z) }
 
-pub outs-go : {s : Bytes} {at cs : List ℕ} {b c : ℕ} → OutsTo s at cs b → b < length cs → OutsIs s (getD at b 0) c → OutsTo s at (set cs b c) (b + 1)
-outs-go {s} {at} {cs} {b} {c} x l o = record {
+pub outs-go : {s : Bytes} {at outs : List ℕ} {b c : ℕ} → OutsTo s at outs b → b < length outs → OutsIs s (getD at b 0) c → OutsTo s at (set outs b c) (b + 1)
+outs-go {s} {at} {outs} {b} {c} x l o = record {
   each = λ i h. cases (eqb i b)
-      (λ t. let e = eqb-true i b t in rw (e, getD-set-same cs b c 0 l) o)
-      (λ t. let e = eqb-false i b t in rw (getD-set-other cs b i c 0 e) (x .each i (under i b e h)));
+      (λ t. let e = eqb-true i b t in rw (e, getD-set-same outs b c 0 l) o)
+      (λ t. let e = eqb-false i b t in rw (getD-set-other outs b i c 0 e) (x .each i (under i b e h)));
 }
   where
     under : (i b : ℕ) → (i ≡ b → ⊥) → i < b + 1 → i < b
     under i b e h = cases (ltb i b) (λ t. ltb-true i b t) (λ t. let k = ltb-false i b t in absurd (e (let z : i ≡ b = omega arith in z)))
 
-pub outs-less : {s : Bytes} {at cs : List ℕ} (n m : ℕ) → n ≤ m → OutsTo s at cs m → OutsTo s at cs n
+pub outs-less : {s : Bytes} {at outs : List ℕ} (n m : ℕ) → n ≤ m → OutsTo s at outs m → OutsTo s at outs n
 outs-less n m h x = record { each = λ i k. x .each i (omega arith) }
-
--- a place and a number in one
-pub packed : (a n : ℕ) {c : ℕ} → n < 4294967296 → c ≡ a * 4294967296 + n → (c / 4294967296 ≡ a) × (c % 4294967296 ≡ n)
-packed a n h e = (ap (λ (x : ℕ). x / 4294967296) e ∙ digits-div a h, ap (λ (x : ℕ). x % 4294967296) e ∙ digits-mod a h)
 
 -- ---- rows for the records from a on
 abbrev pub wantedIn : Bytes → List ℕ → ℕ → ℕ → ℕ → Id → Bool

@@ -3,9 +3,8 @@ use Rattle.queue.specs.Prelude.{_≡_, refl, ap, sym, _∙_, Bool, true,
 use Rattle.queue.specs.Basics.{and-or}
 use Rattle.queue.specs.Codec.{cases}
 use Rattle.queue.specs.check.SuspectsAs.{noR}
-use Rattle.queue.specs.read.LinksAs.{bitL, bitAt, sign, names, Others, Joined, inLine}
-use Rattle.queue.proofs.change.OwnFlagLaws.{bit-is}
-use Rattle.queue.proofs.read.LinksBitLaws.{and-yes, bits-or, bit-low, bit-sum, bit-high, bit-under, bit-up, bit-minus, same-place, set-word, joined-none}
+use Rattle.queue.specs.read.LinksAs.{bitL, bitAt, groupMask, names, Others, Joined, inLine}
+use Rattle.queue.proofs.read.LinksBitLaws.{and-yes, bits-or, bit-low, bit-sum, bit-high, bit-under, bit-up, bit-minus, same-place, set-word, joined-none, bit-is}
 
 sixteen : (j : ℕ) → j % 16 < 16
 sixteen j = mod-lt j (omega arith)
@@ -18,17 +17,17 @@ no-is x = refl
 power-small : (j : ℕ) → 2 ^ (j % 16) < 65536
 power-small j = pow-lt {i = j % 16} {j = 16} (sixteen j)
 
-pub sign-pos : (j : ℕ) → 0 < sign j
-unfolding sign
-sign-pos j = let z = pow-pos (j % 16) in omega arith
+pub mask-pos : (j : ℕ) → 0 < groupMask j
+unfolding groupMask
+mask-pos j = let z = pow-pos (j % 16) in omega arith
 
-pub sign-is : (j : ℕ) {b : ℕ} → b ≡ 2 ^ (j % 16) → j < 2048 → (j / 16 * 65536 + b ≡ sign j) × (j / 16 * 65536 + b < 4294967296)
-unfolding sign
-sign-is j e h = (ap (λ (b : ℕ). j / 16 * 65536 + b) e, (let z = power-small j in let d = div-add-mod' j 16 in omega arith))
+pub mask-is : (j : ℕ) {b : ℕ} → b ≡ 2 ^ (j % 16) → j < 2048 → (j / 16 * 65536 + b ≡ groupMask j) × (j / 16 * 65536 + b < 4294967296)
+unfolding groupMask
+mask-is j e h = (ap (λ (b : ℕ). j / 16 * 65536 + b) e, (let z = power-small j in let d = div-add-mod' j 16 in omega arith))
 
-pub names-sign : (j i : ℕ) → names (sign j) i ≡ eqb i j
-unfolding names sign
-names-sign j i = rw (digits-div (j / 16) (power-small j), bit-sum 16 (j / 16) (j % 16) (i % 16) (sixteen j) (sixteen i)) (cases (eqb (j / 16) (i / 16))
+pub names-mask : (j i : ℕ) → names (groupMask j) i ≡ eqb i j
+unfolding names groupMask
+names-mask j i = rw (digits-div (j / 16) (power-small j), bit-sum 16 (j / 16) (j % 16) (i % 16) (sixteen j) (sixteen i)) (cases (eqb (j / 16) (i / 16))
     (λ t. rw t (same-place 16 i j (sym (eqb-true (j / 16) (i / 16) t))))
     (λ t. rw t (sym (ne-eqb i j (λ e. eqb-false (j / 16) (i / 16) t (ap (λ (x : ℕ). x / 16) (sym e)))))))
 

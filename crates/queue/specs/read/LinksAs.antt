@@ -52,8 +52,8 @@ pub record Joined (w : ℕ) (bits bits′ : List ℕ) (new : ℕ → ℕ → Boo
 -- ---- rows: a row's number names records that want its id, some of 16 that stand together; a row with the number 0 is none
 
 -- the number of one record: its group of 16 records, and its bit there
-unfoldable pub sign : ℕ → ℕ
-sign m = m / 16 * 65536 + 2 ^ (m % 16)
+unfoldable pub groupMask : ℕ → ℕ
+groupMask m = m / 16 * 65536 + 2 ^ (m % 16)
 
 -- the number n names record j
 unfoldable pub names : ℕ → ℕ → Bool
@@ -129,9 +129,9 @@ pub record OutsIs (s : Bytes) (p c : ℕ) : Type 0 where
   pub all : whole idC (c % 4294967296) (view false s p) (c / 4294967296) ≡ true
   pub list : listAt idC (c % 4294967296) (view false s p) (c / 4294967296) ≡ outputs (recAt s p .body)
 
--- so do the first n of cs, of the records at the first n places
-pub record OutsTo (s : Bytes) (at cs : List ℕ) (n : ℕ) : Type 0 where
-  pub each : (i : ℕ) → i < n → OutsIs s (getD at i 0) (getD cs i 0)
+-- so do the first n of outs, of the records at the first n places
+pub record OutsTo (s : Bytes) (at outs : List ℕ) (n : ℕ) : Type 0 where
+  pub each : (i : ℕ) → i < n → OutsIs s (getD at i 0) (getD outs i 0)
 
 -- the bits of all lines, put into a table without any: the bit of j in the line of i says that j, another one, wants an output of i
 pub record LinksIn (w : ℕ) (s : Bytes) (at bits : List ℕ) : Type 0 where

@@ -30,7 +30,7 @@ ghost use Rattle.queue.specs.bytes.ViewAs.{view};
 ghost use Rattle.queue.specs.bytes.ReaderAs.{whole, listAt};
 ghost use Rattle.queue.specs.check.SuspectsAs.{idR, noR, later, InOrder};
 ghost use Rattle.queue.specs.read.FeesAs.{Known};
-ghost use Rattle.queue.specs.read.LinksAs.{wantsAt, sign, names, Others, OutsTo, Short, Joined, hit, inLine, Zero, Cleared, Slotted, RowsHold, Rowed, Begins, Again, Thinner, Thinned, Linked, outputsLinked, LinksIn};
+ghost use Rattle.queue.specs.read.LinksAs.{wantsAt, groupMask, names, Others, OutsTo, Short, Joined, hit, inLine, Zero, Cleared, Slotted, RowsHold, Rowed, Begins, Again, Thinner, Thinned, Linked, outputsLinked, LinksIn};
 ghost use Rattle.queue.specs.paper.Lists.{any?};
 ghost use Rattle.queue.specs.paper.Sound.{among?};
 ghost use Rattle.queue.specs.check.FilterAs.{hashAll};
@@ -79,9 +79,9 @@ fn keep_row(slots: &mut [u64], t: &mut [u64], v: &mut [u64], k: usize, h: u64, w
 }
 
 // What rows of record number m have as their number: its group of 16 records, and its bit there.
-fn sign_of(m: u64) -> u64
+fn group_mask(m: u64) -> u64
     requires { ⌜ m < 2048 ⌝ }
-    ensures { λ r. ⌜ (r ≡ sign m) × (r < 4294967296) ⌝ }
+    ensures { λ r. ⌜ (r ≡ groupMask m) × (r < 4294967296) ⌝ }
 {
     m / 16 * 65536 + bit(m % 16)
 }
@@ -104,7 +104,7 @@ fn keep_ids(
     let mut i = at;
     let mut left = c;
     let mut n = k;
-    let g = sign_of(m);
+    let g = group_mask(m);
     while 0 < left {
         let x = id_read(s, false, base, i);
         let id = x.id;
@@ -125,19 +125,19 @@ fn pack(a: usize, n: u64) -> u64
     a as u64 * 4294967296 + n
 }
 
-// Rows for what the records from row a on want, for as many records as there is room. Where their outputs stand goes into cs, so that
-// no record is read twice where there is room for all.
+// Rows for what the records from row a on want, for as many records as there is room. Where their outputs stand goes into outs, so that
+// where there is room for all no record is read again.
 fn keep_rows(
     s: &[u8],
     at: &[usize],
     a: usize,
-    cs: &mut [u64],
+    outs: &mut [u64],
     slots: &mut [u64],
     t: &mut [u64],
     v: &mut [u64],
 ) -> Batch
-    requires { ⌜ All (Known (now s)) (now at) × All (Short (now s)) (now at) × (length (now s) < 4294967296) × (a < length (now at)) × (length (now at) ≤ 2048) × (256 ≤ length (now v)) × (0 < length (now slots)) × (0 < length (now t)) × Zero (now slots) × (length (now at) ≡ length (now cs)) × OutsTo (now s) (now at) (now cs) a ⌝ }
-    ensures { λ r. ⌜ RowsHold (now (s .entry)) (now (slots .exit)) (now (t .exit)) (take (r .len) (now (v .exit))) (λ j z. (leb a j && ltb j (r .next)) && among? z (wantsAt (now (s .entry)) (now (at .entry)) j)) × (a < r .next) × (r .next ≤ length (now (at .entry))) × (r .len ≤ length (now (v .entry))) × OutsTo (now (s .entry)) (now (at .entry)) (now (cs .exit)) (r .next) ⌝ }
+    requires { ⌜ All (Known (now s)) (now at) × All (Short (now s)) (now at) × (length (now s) < 4294967296) × (a < length (now at)) × (length (now at) ≤ 2048) × (256 ≤ length (now v)) × (0 < length (now slots)) × (0 < length (now t)) × Zero (now slots) × (length (now at) ≡ length (now outs)) × OutsTo (now s) (now at) (now outs) a ⌝ }
+    ensures { λ r. ⌜ RowsHold (now (s .entry)) (now (slots .exit)) (now (t .exit)) (take (r .len) (now (v .exit))) (λ j z. (leb a j && ltb j (r .next)) && among? z (wantsAt (now (s .entry)) (now (at .entry)) j)) × (a < r .next) × (r .next ≤ length (now (at .entry))) × (r .len ≤ length (now (v .entry))) × OutsTo (now (s .entry)) (now (at .entry)) (now (outs .exit)) (r .next) ⌝ }
 {
     let mut b = a;
     let mut k: usize = 0;
@@ -150,22 +150,22 @@ fn keep_rows(
         let f = x.facts;
         k = keep_ids(s, p, x.at, f.ins, b as u64, slots, t, v, k);
         k = keep_ids(s, p, x.reads, f.reads, b as u64, slots, t, v, k);
-        cs[b] = pack(x.outs, f.outs);
+        outs[b] = pack(x.outs, f.outs);
         b += 1;
     }
     Batch { next: b, len: k }
 }
 
 // Where the outputs of the records from row `from` on stand.
-fn note_outs(s: &[u8], at: &[usize], from: usize, cs: &mut [u64])
-    requires { ⌜ All (Known (now s)) (now at) × (length (now s) < 4294967296) × (length (now at) ≡ length (now cs)) × (length (now at) ≤ 2048) × (from ≤ length (now at)) × OutsTo (now s) (now at) (now cs) from ⌝ }
-    ensures { λ _. ⌜ OutsTo (now (s .entry)) (now (at .entry)) (now (cs .exit)) (length (now (at .entry))) ⌝ }
+fn note_outs(s: &[u8], at: &[usize], from: usize, outs: &mut [u64])
+    requires { ⌜ All (Known (now s)) (now at) × (length (now s) < 4294967296) × (length (now at) ≡ length (now outs)) × (length (now at) ≤ 2048) × (from ≤ length (now at)) × OutsTo (now s) (now at) (now outs) from ⌝ }
+    ensures { λ _. ⌜ OutsTo (now (s .entry)) (now (at .entry)) (now (outs .exit)) (length (now (at .entry))) ⌝ }
 {
     let mut i = from;
     while i < at.len() {
         let x = rec_at(s, at[i]);
         let f = x.facts;
-        cs[i] = pack(x.outs, f.outs);
+        outs[i] = pack(x.outs, f.outs);
         i += 1;
     }
 }
@@ -313,7 +313,7 @@ fn link_ids(
 fn link_all(
     s: &[u8],
     at: &[usize],
-    cs: &[u64],
+    outs: &[u64],
     slots: &[u64],
     t: &[u64],
     v: &[u64],
@@ -321,14 +321,14 @@ fn link_all(
     bits: &mut [u64],
     w: usize,
 )
-    requires { ⌜ OutsTo (now s) (now at) (now cs) (length (now at)) × (length (now at) ≡ length (now cs)) × (length (now s) < 4294967296) × (0 < length (now slots)) × (0 < length (now t)) × (ordered ≡ true → InOrder false (now s) (now v)) × (length (now at) * w ≤ length (now bits)) × (length (now at) ≤ 2048) ⌝ }
+    requires { ⌜ OutsTo (now s) (now at) (now outs) (length (now at)) × (length (now at) ≡ length (now outs)) × (length (now s) < 4294967296) × (0 < length (now slots)) × (0 < length (now t)) × (ordered ≡ true → InOrder false (now s) (now v)) × (length (now at) * w ≤ length (now bits)) × (length (now at) ≤ 2048) ⌝ }
     ensures { λ _. ⌜ Linked w (now (s .entry)) (now (slots .entry)) (now (t .entry)) (now (v .entry)) (now (bits .entry)) (now (bits .exit)) (outputsLinked (now (s .entry)) (now (at .entry))) ⌝ }
 {
     let mut i: usize = 0;
     let mut o: usize = 0;
     while i < at.len() {
         let p = at[i];
-        let c = cs[i];
+        let c = outs[i];
         let l = Line {
             width: w,
             start: o,
@@ -400,62 +400,62 @@ fn thin(s: &[u8], v: &mut [u64]) -> usize
 fn link_ordered(
     s: &[u8],
     at: &[usize],
-    cs: &[u64],
+    outs: &[u64],
     slots: &[u64],
     t: &[u64],
     v: &[u64],
     bits: &mut [u64],
     w: usize,
 )
-    requires { ⌜ OutsTo (now s) (now at) (now cs) (length (now at)) × (length (now at) ≡ length (now cs)) × (length (now s) < 4294967296) × (0 < length (now slots)) × (0 < length (now t)) × (length (now at) * w ≤ length (now bits)) × (length (now at) ≤ 2048) ⌝ }
+    requires { ⌜ OutsTo (now s) (now at) (now outs) (length (now at)) × (length (now at) ≡ length (now outs)) × (length (now s) < 4294967296) × (0 < length (now slots)) × (0 < length (now t)) × (length (now at) * w ≤ length (now bits)) × (length (now at) ≤ 2048) ⌝ }
     ensures { λ _. ⌜ Linked w (now (s .entry)) (now (slots .entry)) (now (t .entry)) (now (v .entry)) (now (bits .entry)) (now (bits .exit)) (outputsLinked (now (s .entry)) (now (at .entry))) ⌝ }
 {
     let o = in_order(s, false, v);
-    link_all(s, at, cs, slots, t, v, o, bits, w);
+    link_all(s, at, outs, slots, t, v, o, bits, w);
 }
 
 // The rows of v are put in order first, and joined.
 fn link_block(
     s: &[u8],
     at: &[usize],
-    cs: &[u64],
+    outs: &[u64],
     slots: &[u64],
     t: &[u64],
     v: &mut [u64],
     bits: &mut [u64],
     w: usize,
 )
-    requires { ⌜ OutsTo (now s) (now at) (now cs) (length (now at)) × (length (now at) ≡ length (now cs)) × (length (now s) < 4294967296) × (0 < length (now slots)) × (0 < length (now t)) × (length (now at) * w ≤ length (now bits)) × (length (now at) ≤ 2048) ⌝ }
+    requires { ⌜ OutsTo (now s) (now at) (now outs) (length (now at)) × (length (now at) ≡ length (now outs)) × (length (now s) < 4294967296) × (0 < length (now slots)) × (0 < length (now t)) × (length (now at) * w ≤ length (now bits)) × (length (now at) ≤ 2048) ⌝ }
     ensures { λ _. ⌜ Linked w (now (s .entry)) (now (slots .entry)) (now (t .entry)) (now (v .entry)) (now (bits .entry)) (now (bits .exit)) (outputsLinked (now (s .entry)) (now (at .entry))) ⌝ }
 {
     order_rows(s, Order::Ids(false), v);
     let n = thin(s, v);
-    link_ordered(s, at, cs, slots, t, &v[..n], bits, w);
+    link_ordered(s, at, outs, slots, t, &v[..n], bits, w);
 }
 
-// The bits of all pairs of rows: that of j in the line of i, where another record j wants an output of i. The slots are empty at first; cs is for where
+// The bits of all pairs of rows: that of j in the line of i, where another record j wants an output of i. The slots are empty at first; outs is for where
 // outputs stand.
 pub fn links(
     s: &[u8],
     at: &[usize],
-    cs: &mut [u64],
+    outs: &mut [u64],
     slots: &mut [u64],
     t: &mut [u64],
     v: &mut [u64],
     bits: &mut [u64],
     w: usize,
 )
-    requires { ⌜ All (Known (now s)) (now at) × All (Short (now s)) (now at) × (length (now s) < 4294967296) × (length (now at) ≤ 2048) × (256 ≤ length (now v)) × (0 < length (now slots)) × (0 < length (now t)) × (length (now at) * w ≤ length (now bits)) × Zero (now slots) × Zero (now bits) × (length (now at) ≡ length (now cs)) ⌝ }
+    requires { ⌜ All (Known (now s)) (now at) × All (Short (now s)) (now at) × (length (now s) < 4294967296) × (length (now at) ≤ 2048) × (256 ≤ length (now v)) × (0 < length (now slots)) × (0 < length (now t)) × (length (now at) * w ≤ length (now bits)) × Zero (now slots) × Zero (now bits) × (length (now at) ≡ length (now outs)) ⌝ }
     ensures { λ _. ⌜ LinksIn w (now (s .entry)) (now (at .entry)) (now (bits .exit)) ⌝ }
 {
     let mut a: usize = 0;
     while a < at.len() {
         clear(slots, 0 < a);
         clear(t, 0 < a);
-        let b = keep_rows(s, at, a, cs, slots, t, v);
-        note_outs(s, at, b.next, cs);
+        let b = keep_rows(s, at, a, outs, slots, t, v);
+        note_outs(s, at, b.next, outs);
         let n = b.len;
-        link_block(s, at, cs, slots, t, &mut v[..n], bits, w);
+        link_block(s, at, outs, slots, t, &mut v[..n], bits, w);
         a = b.next;
     }
 }

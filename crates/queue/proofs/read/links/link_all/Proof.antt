@@ -15,10 +15,10 @@ use Rattle.queue.proofs.read.links.link_all.Lts as lts
 use Rattle.queue.proofs.read.links.link_ids.Reads as link-ids-reads
 
 abbrev Inv-loop : tie.InvT-loop
-Inv-loop s at cs slots t v ordered bits₀ w i₀ o₀ bits i o = Linked w s slots t v bits₀ bits (linesTo s at i) × (i ≤ length at) × (o ≡ i * w) × (length bits ≡ length bits₀)
+Inv-loop s at outs slots t v ordered bits₀ w i₀ o₀ bits i o = Linked w s slots t v bits₀ bits (linesTo s at i) × (i ≤ length at) × (o ≡ i * w) × (length bits ≡ length bits₀)
 
 abbrev μ-loop : tie.MeasureT-loop
-μ-loop s at cs slots t v ordered bits₀ w i₀ o₀ bits i o = length at - i
+μ-loop s at outs slots t v ordered bits₀ w i₀ o₀ bits i o = length at - i
 
 loop-holds : tie.Need-loop-holds Inv-loop μ-loop
 loop-holds c = (lines-start (c .before .before .before .before .before .before .before .args .w) (c .before .before .before .before .before .before .before .args .s .now) (c .before .before .before .before .before .before .before .args .at .now) _ _ _ _, omega arith, sym (zero-mul (c .before .before .before .before .before .before .before .args .w)), refl)

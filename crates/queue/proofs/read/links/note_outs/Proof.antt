@@ -14,10 +14,10 @@ use Rattle.queue.proofs.layout.frame.rec_at.Reads as rec-at-reads
 use Rattle.queue.proofs.read.links.pack.Reads as pack-reads
 
 abbrev Inv-loop : tie.InvT-loop
-Inv-loop s at from cs₀ i₀ cs i = OutsTo s at cs i × (i ≤ length at) × (length cs ≡ length cs₀)
+Inv-loop s at from outs₀ i₀ outs i = OutsTo s at outs i × (i ≤ length at) × (length outs ≡ length outs₀)
 
 abbrev μ-loop : tie.MeasureT-loop
-μ-loop s at from cs₀ i₀ cs i = length at - i
+μ-loop s at from outs₀ i₀ outs i = length at - i
 
 loop-holds : tie.Need-loop-holds Inv-loop μ-loop
 loop-holds c = (c .before .before .before .pre .5, c .before .before .before .pre .4, refl)
@@ -34,11 +34,11 @@ rec-at-requires c κs = search needs
 pack-requires : tie.Need-pack-requires Inv-loop μ-loop
 pack-requires c κs = outs-small (c .before .before .before .before .before .before .before .before .args .s .now) (c .before .before .before .before .before .before .before .before .args .at .now) (c .before .before .before .before .loop .i) (c .before .before .before .before .before .before .before .before .pre .0) (c .before .before .before .loop-test .taken) (c .before .rec-at .ensures) (c .before .before .before .before .before .before .before .before .pre .1)
 
-mul-cs : tie.Need-mul-cs Inv-loop μ-loop
-mul-cs c = omega (arith, c .before .before .before .before .loop-test .taken, c .before .before .before .before .before .before .before .before .before .pre .2, c .before .before .before .before .before .loop .inv .2)
+mul-outs : tie.Need-mul-outs Inv-loop μ-loop
+mul-outs c = omega (arith, c .before .before .before .before .loop-test .taken, c .before .before .before .before .before .before .before .before .before .pre .2, c .before .before .before .before .before .loop .inv .2)
 
-slice-write-cs : tie.Need-slice-write-cs Inv-loop μ-loop
-slice-write-cs c = omega (arith, c .before .before .before .before .loop-test .taken, c .before .before .before .before .before .before .before .before .before .pre .2, c .before .before .before .before .before .loop .inv .2)
+slice-write-outs : tie.Need-slice-write-outs Inv-loop μ-loop
+slice-write-outs c = omega (arith, c .before .before .before .before .loop-test .taken, c .before .before .before .before .before .before .before .before .before .pre .2, c .before .before .before .before .before .loop .inv .2)
 
 add-i : tie.Need-add-i Inv-loop μ-loop
 add-i c = omega (arith, c .before .before .before .before .loop-test .taken, c .before .before .before .before .before .before .before .before .before .pre .3)
@@ -47,7 +47,7 @@ loop-less : tie.Need-loop-less Inv-loop μ-loop
 loop-less c = omega (arith, c .before .before .before .before .loop-test .taken)
 
 loop-again : tie.Need-loop-again Inv-loop μ-loop
-loop-again c = (outs-go (c .before .before .before .before .before .loop .inv .0) (omega (arith, c .before .before .before .before .loop-test .taken, c .before .before .before .before .before .before .before .before .before .pre .2, c .before .before .before .before .before .loop .inv .2)) (outs-noted (c .before .before .before .before .before .before .before .before .before .args .s .now) (c .before .before .before .before .before .before .before .before .before .args .at .now) (c .before .before .before .before .before .loop .i) (c .before .before .before .before .before .before .before .before .before .pre .0) (c .before .before .before .before .loop-test .taken) (c .before .before .rec-at .ensures) (c .pack .ensures .0) (c .pack .ensures .1)), omega (arith, c .before .before .before .before .loop-test .taken), length-set (c .before .before .before .before .before .loop .cs) (c .before .before .before .before .before .loop .i) (c .pack .result) ∙ c .before .before .before .before .before .loop .inv .2)
+loop-again c = (outs-go (c .before .before .before .before .before .loop .inv .0) (omega (arith, c .before .before .before .before .loop-test .taken, c .before .before .before .before .before .before .before .before .before .pre .2, c .before .before .before .before .before .loop .inv .2)) (outs-noted (c .before .before .before .before .before .before .before .before .before .args .s .now) (c .before .before .before .before .before .before .before .before .before .args .at .now) (c .before .before .before .before .before .loop .i) (c .before .before .before .before .before .before .before .before .before .pre .0) (c .before .before .before .before .loop-test .taken) (c .before .before .rec-at .ensures) (c .pack .ensures .0) (c .pack .ensures .1)), omega (arith, c .before .before .before .before .loop-test .taken), length-set (c .before .before .before .before .before .loop .outs) (c .before .before .before .before .before .loop .i) (c .pack .result) ∙ c .before .before .before .before .before .loop .inv .2)
 
 same-length : tie.Need-same-length Inv-loop μ-loop
 same-length c = c .before .loop .inv .2
@@ -66,8 +66,8 @@ note-outs-spec =
     shared-slice-read-rec-at
     rec-at-requires
     pack-requires
-    mul-cs
-    slice-write-cs
+    mul-outs
+    slice-write-outs
     add-i
     loop-less
     loop-again
