@@ -1,11 +1,11 @@
 -- Flags as the bits of words. Assumes nothing.
-use Rattle.queue.specs.Prelude.{_≡_, refl, ap, sym, _∙_, Bool, true, false, cond, _&&_, List, [], _∷_, _++_, ℕ, zero, suc, _+_, _*_, _/_, _%_, _^_, _≤_, _<_, arith, pow-succ', mod-lt, div-add-mod', div-one, div-div-eq-div-mul, div-lt-iff-lt-mul, max-zero, mul-comm, ltb, leb, eqb, bitOr, or-zero-r, pow-pos, length, getD, set, length-append, List·getD-append, getD-append-add, ltb-true, leb-true}
+use Rattle.queue.specs.Prelude.{_≡_, refl, ap, sym, _∙_, Bool, true, false, cond, _&&_, List, [], _∷_, _++_, ℕ, zero, suc, _+_, _*_, _/_, _%_, _^_, _≤_, _<_, arith, mod-lt, div-add-mod', div-lt-iff-lt-mul, max-zero, mul-comm, ltb, leb, eqb, bitOr, or-zero-r, pow-pos, length, getD, set, length-append, List·getD-append, getD-append-add, ltb-true, leb-true}
 use Rattle.queue.specs.Lists.{and-true}
 use Rattle.queue.specs.change.OwnAs.{set?, wordBits, bitsIn, flagsOf, FlagsAre}
 use Rattle.queue.specs.read.LinksAs.{bitL, Zero}
 use Rattle.queue.specs.paper.Records.{Id}
 use Rattle.queue.proofs.check.FilterLaws.{or-half, or-odd}
-use Rattle.queue.proofs.read.LinksBitLaws.{half-pow, even-pow, max-one}
+use Rattle.queue.proofs.read.LinksBitLaws.{half-pow, even-pow, max-one, bit-is}
 
 -- ---- lists
 put-front : (a b : List ℕ) (k x : ℕ) → k < length a → set (a ++ b) k x ≡ set a k x ++ b
@@ -34,11 +34,6 @@ unfolding wordBits
 word-set zero x k h = absurd (let z : ⊥ = omega arith in z)
 word-set (suc n) x zero h = rw (or-odd x 1, max-one (x % 2) (mod-lt x (omega arith)), or-half x 1, or-zero-r (x / 2))
 word-set (suc n) x (suc k) h = rw (or-odd x (2 ^ suc k), even-pow k, max-zero (x % 2), or-half x (2 ^ suc k), half-pow k) (ap (λ l. (x % 2) ∷ l) (word-set n (x / 2) k (omega arith)))
-
-pub bit-is : (x k : ℕ) → eqb (x / 2 ^ k % 2) 1 ≡ bitL x k
-unfolding bitL
-bit-is x zero = ap (λ (y : ℕ). eqb (y % 2) 1) (div-one x)
-bit-is x (suc k) = ap (λ (y : ℕ). eqb (y % 2) 1) (ap (λ (y : ℕ). x / y) (pow-succ' 2 k) ∙ sym (div-div-eq-div-mul x 2 (2 ^ k))) ∙ bit-is (x / 2) k
 
 -- ---- words
 pub bits-long : (f : List ℕ) → length (bitsIn f) ≡ 64 * length f

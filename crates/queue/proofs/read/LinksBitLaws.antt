@@ -1,5 +1,5 @@
 -- The bits of words: joined, moved up, one taken away; the lines of rows, the rows that a line names. Assumes nothing.
-use Rattle.queue.specs.Prelude.{_≡_, refl, ap, ap₂, sym, _∙_, Bool, true, false, cond, not, _&&_, _||_, List, _∷_, ℕ, zero, suc, _+_, _-_, _*_, _/_, _%_, _^_, _≤_, _<_, max, arith, le-of-suc-le-suc, pow-suc, mod-lt, div-add-mod', div-lt-iff-lt-mul, mul-comm, add-zero, suc-mul, mul-le-mul-right, add-one, ltb, leb, eqb, digits-div, digits-mod, bitOr, length, getD, set, getD-set-same, getD-set-other, eqb-true, eqb-false, eq-eqb, ne-eqb, ltb-true, ltb-false, lt-ltb, le-ltb, leb-true, leb-false, le-leb, lt-leb}
+use Rattle.queue.specs.Prelude.{_≡_, refl, ap, ap₂, sym, _∙_, Bool, true, false, cond, not, _&&_, _||_, List, _∷_, ℕ, zero, suc, _+_, _-_, _*_, _/_, _%_, _^_, _≤_, _<_, max, arith, le-of-suc-le-suc, pow-suc, pow-succ', div-one, div-div-eq-div-mul, mod-lt, div-add-mod', div-lt-iff-lt-mul, mul-comm, add-zero, suc-mul, mul-le-mul-right, add-one, ltb, leb, eqb, digits-div, digits-mod, bitOr, length, getD, set, getD-set-same, getD-set-other, eqb-true, eqb-false, eq-eqb, ne-eqb, ltb-true, ltb-false, lt-ltb, le-ltb, leb-true, leb-false, le-leb, lt-leb}
 use lib.Bits.{block-half, block-odd, shifted-half}
 use Rattle.queue.specs.Codec.{cases}
 use Rattle.queue.specs.bytes.ReaderLaws.{false-true}
@@ -38,6 +38,11 @@ pub max-one : (a : ℕ) → a < 2 → max a 1 ≡ 1
 max-one zero h = refl
 max-one (suc zero) h = refl
 max-one (suc (suc a)) h = absurd (let z : ⊥ = omega arith in z)
+
+pub bit-is : (x k : ℕ) → eqb (x / 2 ^ k % 2) 1 ≡ bitL x k
+unfolding bitL
+bit-is x zero = ap (λ (y : ℕ). eqb (y % 2) 1) (div-one x)
+bit-is x (suc k) = ap (λ (y : ℕ). eqb (y % 2) 1) (ap (λ (y : ℕ). x / y) (pow-succ' 2 k) ∙ sym (div-div-eq-div-mul x 2 (2 ^ k))) ∙ bit-is (x / 2) k
 
 bit-none : (k : ℕ) → bitL 0 k ≡ false
 unfolding bitL

@@ -6,8 +6,7 @@ use lib.Pow.{pow-lt, pow-mono}
 use Rattle.queue.specs.Codec.{cases}
 use Rattle.queue.specs.check.SuspectsAs.{noR}
 use Rattle.queue.specs.read.LinksAs.{bitL, bitAt, groupMask, names, Others, Joined, inLine}
-use Rattle.queue.proofs.change.OwnFlagLaws.{bit-is}
-use Rattle.queue.proofs.read.LinksBitLaws.{and-yes, bits-or, bit-low, bit-sum, bit-high, bit-under, bit-up, bit-minus, same-place, set-word, joined-none}
+use Rattle.queue.proofs.read.LinksBitLaws.{and-yes, bit-is, bits-or, bit-low, bit-sum, bit-high, bit-under, bit-up, bit-minus, same-place, set-word, joined-none}
 
 sixteen : (j : ℕ) → j % 16 < 16
 sixteen j = mod-lt j (omega arith)
