@@ -34,6 +34,11 @@ max-one zero h = refl
 max-one (suc zero) h = refl
 max-one (suc (suc a)) h = absurd (let z : ⊥ = omega arith in z)
 
+pub bit-is : (x k : ℕ) → eqb (x / 2 ^ k % 2) 1 ≡ bitL x k
+unfolding bitL
+bit-is x zero = ap (λ (y : ℕ). eqb (y % 2) 1) (div-one x)
+bit-is x (suc k) = ap (λ (y : ℕ). eqb (y % 2) 1) (ap (λ (y : ℕ). x / y) (pow-succ' 2 k) ∙ sym (div-div-eq-div-mul x 2 (2 ^ k))) ∙ bit-is (x / 2) k
+
 bit-none : (k : ℕ) → bitL 0 k ≡ false
 unfolding bitL
 bit-none zero = refl
@@ -260,8 +265,3 @@ words-any bits (suc m) p j k a b =
 pub kids-any : (bits : List ℕ) (w i j : ℕ) → j < 64 * w → any? (eqb j) (kidsOf bits w i) ≡ bitAt bits w i j
 unfolding kidsOf bitAt
 kids-any bits w i j h = words-any bits w (i * w) 0 j (omega arith) (omega arith) ∙ rw (let z : j - 0 ≡ j = omega arith in z)
-
-pub bit-is : (x k : ℕ) → eqb (x / 2 ^ k % 2) 1 ≡ bitL x k
-unfolding bitL
-bit-is x zero = ap (λ (y : ℕ). eqb (y % 2) 1) (div-one x)
-bit-is x (suc k) = ap (λ (y : ℕ). eqb (y % 2) 1) (ap (λ (y : ℕ). x / y) (pow-succ' 2 k) ∙ sym (div-div-eq-div-mul x 2 (2 ^ k))) ∙ bit-is (x / 2) k

@@ -1,7 +1,7 @@
 // Who waits for whom among rows of the selection: a bit for each pair, set where an output of one is wanted by the other.
 // The ids that records want go into a table, a block of records at a time: each id into its slot, or behind others where the slot is
-// taken. Then every output is looked up: in its slot, and by bisection among the others, if a filter says so. Slots and filter only
-// cost or save time, whatever the ids are.
+// taken. Its row names who wants it: those behind others are joined, so that one names up to 16 records. Then every output is looked
+// up: in its slot, and by bisection among the others, if a filter says so. Slots and filter only cost or save time, whatever the ids are.
 use crate::bytes::logic::both;
 use crate::bytes::view::id_at;
 use crate::bytes::view::same_id;
@@ -117,7 +117,7 @@ fn keep_ids(
     n
 }
 
-// A place and a number in one.
+// An offset and a number of ids in one.
 fn pack(a: usize, n: u64) -> u64
     requires { ⌜ (a < 4294967296) × (n < 4294967296) ⌝ }
     ensures { λ r. ⌜ (r / 4294967296 ≡ a) × (r % 4294967296 ≡ n) ⌝ }
@@ -433,8 +433,8 @@ fn link_block(
     link_ordered(s, at, outs, slots, t, &v[..n], bits, w);
 }
 
-// The bits of all pairs of rows: that of j in the line of i, where another record j wants an output of i. The slots are empty at first; outs is for where
-// outputs stand.
+// The bits of all pairs of rows: that of j in the line of i, where another record j wants an output of i. The slots are empty at first; in outs it is noted
+// where outputs stand.
 pub fn links(
     s: &[u8],
     at: &[usize],

@@ -81,7 +81,8 @@ fn lower_if(cs: &mut [u64], odd: bool, k: usize, from: usize) -> usize
     from
 }
 
-// The rows named by the bits of a word rise, the first of them being base. No counter is above `most`.
+// The rows named by the bits of a word rise, the first of them being base. Eight bits that are 0 are passed over at once. No counter is
+// above `most`.
 fn raise_word(cs: &mut [u64], x: u64, base: usize, most: u64)
     requires { ⌜ Few most (now cs) × (most + 64 < 4294967296) × (base + 64 < 4294967296) ⌝ }
     ensures { λ _. ⌜ (now (cs .exit) ≡ raise (ones 64 x base) (now (cs .entry))) × Few (most + 64) (now (cs .exit)) ⌝ }
@@ -100,7 +101,7 @@ fn raise_word(cs: &mut [u64], x: u64, base: usize, most: u64)
     }
 }
 
-// The rows named by the bits of a word fall.
+// The rows named by the bits of a word fall, likewise.
 fn lower_word(cs: &mut [u64], x: u64, base: usize, from: usize) -> usize
     requires { ⌜ base + 64 < 4294967296 ⌝ }
     ensures { λ r. ⌜ Lowered (now (cs .entry)) from (lower (ones 64 x base) (now (cs .entry))) r (now (cs .exit)) ⌝ }

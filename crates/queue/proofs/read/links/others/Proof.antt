@@ -1,8 +1,8 @@
 -- Filled from its answers by tools/proofkit.py: change those, and fill it again.
 use Prim.Native.Nat.{_%_}
-use Rattle.queue.proofs.change.OwnFlagLaws.{pow-some}
 use Rattle.queue.proofs.read.LinksNameLaws.{others-but, others-far, others-none, others-sub}
 use borrow.Author.Needs.{needs}
+use lib.Pow.{pow-pos}
 use mathlib.Core.Path.{refl}
 use native.Mathlib.Omega.{arith}
 use Rattle.queue.proofs.read.links.others.Statement.{statement}
@@ -18,7 +18,7 @@ bit-requires : tie.Need-bit-requires
 bit-requires c κs = search needs
 
 div-if2 : tie.Need-div-if2
-div-if2 c = omega (arith, pow-some (c .before .before .args .j % 16) (c .bit .ensures))
+div-if2 c = omega (arith, pow-pos (c .before .before .args .j % 16), c .bit .ensures)
 
 returns-2 : tie.Need-returns-2
 returns-2 c = others-none (c .before .before .before .args .n) (c .before .before .before .args .j) refl (c .before .bit .ensures) (c .if2 .taken)
