@@ -11,9 +11,9 @@ use Rattle.queue.specs.declared.check.area.Area.{Area}
 use Rattle.queue.specs.Codec as codec
 use Rattle.queue.specs.Codec.{Codec, beC, pairC, mapC, optEnc, optC, vecC, countedC, encs}
 use Rattle.queue.specs.layout.Choice.{fixC, pickC, sinceC}
-use Rattle.queue.specs.layout.FrameCodec.{Head, idC, idsC, low32, narrowC, priorityC, readsEnc, signedEnc, limitsC, headK, headC, recK, recC}
+use Rattle.queue.specs.layout.FrameCodec.{Head, idC, idsC, low32, narrowC, priorityC, readsEnc, signedEnc, limitsC, headK, headC, recK, recC, spans-id}
 use Rattle.queue.specs.bytes.ReaderAs.{Reads, whole, listAt}
-use Rattle.queue.specs.bytes.ReaderLaws.{false-true, Turn, none-left, spans-id, values}
+use Rattle.queue.specs.bytes.ReaderLaws.{false-true, Turn, none-left, values}
 use Rattle.queue.specs.bytes.ViewAs.{view, view-raw}
 use Rattle.queue.specs.Hex.{text-length}
 use Rattle.queue.specs.bytes.PutAs.{splice, beLast, Put}
