@@ -1,4 +1,4 @@
--- Small laws of booleans and lists that several files use, each said once. Assumes nothing.
+-- Small laws of booleans and lists, each said once for all files that need it. Assumes nothing.
 use Rattle.queue.specs.Prelude.{_≡_, refl, ap, sym, _∙_, Bool, true, false, _&&_, _||_, List, [], _∷_, _++_, append-assoc, ℕ, zero, suc, _+_, _<_, arith, zero-add, suc-add, ltb, length, drop, set, getD, length-append, drop-drop, drop-at, lt-ltb}
 use Rattle.queue.specs.Codec.{cases}
 use Rattle.queue.specs.bytes.OrderLaws.{or-false}
