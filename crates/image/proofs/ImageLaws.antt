@@ -1,5 +1,7 @@
 -- Laws of the image: a text that is read, frames in the other form, and each exit of the calls. Assumes nothing.
-use Rattle.queue.specs.Prelude.{◌≡◌, refl, ap, sym, ◌∙◌, Bool, true, false, cond, Option, none, some, List, [], ◌∷◌, ◌++◌, append_assoc, append-nil, ℕ, suc, ◌+◌, ◌-◌, ◌*◌, ◌≤◌, ◌<◌, arith, zero-add, length, drop, take, get_or, replicate, length-append, length-drop, take-append-drop, take_at, drop_at, drop-drop, length-take-le, lt-ltb, le-ltb, le-leb, leb-true, eq-eqb, ne_eqb}
+use Rattle.std.specs.Prelude.{◌≡◌, refl, Bool, true, false, cond, List, [], ◌∷◌, ◌++◌, ℕ, suc, ◌+◌, ◌-◌, ◌*◌, ◌≤◌, ◌<◌, length, drop, take, get_or, replicate}
+use Rattle.std.proofs.Common.{ap, sym, ◌∙◌, append_assoc, append-nil, arith, zero-add, length-append, length-drop, take-append-drop, take_at, drop_at, drop-drop, length-take-le, lt-ltb, le-ltb, le-leb, leb-true, eq-eqb, ne_eqb}
+use Rattle.std.proofs.Math.Option.{Option, none, some}
 use Rattle.queue.specs.Basics.{join_left}
 use Rattle.queue.specs.declared.Kind.TheVariants.{Nothing}
 use Rattle.queue.specs.declared.Answer.TheVariants.{Refused, Done}

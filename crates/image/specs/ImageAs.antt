@@ -1,5 +1,6 @@
 -- What a queue that was read from a text says of the queue, and what the writers of the other form need and ensure.
-use Rattle.queue.specs.Prelude.{◌≡◌, Bool, true, false, cond, not, ◌&&◌, ◌||◌, none, some, ◌∷◌, ◌++◌, ℕ, ◌+◌, ◌*◌, ◌≤◌, ◌<◌, ltb, leb, eqb, length}
+use Rattle.std.specs.Prelude.{◌≡◌, Bool, true, false, cond, not, ◌&&◌, ◌||◌, ◌∷◌, ◌++◌, ℕ, ◌+◌, ◌*◌, ◌≤◌, ◌<◌, ltb, leb, eqb, length}
+use Rattle.std.proofs.Math.Option.{none, some}
 use Rattle.queue.specs.Codec.{be_c}
 use Rattle.queue.specs.layout.FrameCodec.{Head, id_c, reads_enc, signed_enc, head_k, rec_k}
 use Rattle.queue.specs.layout.FormsCodec.{Framed, Store, head_in, rec_in_value, store_in, area_form, text_form, store_of, queue_with, queue_c}

@@ -1,5 +1,7 @@
 -- What the converter accepts opens in the base as the same queue, and what the base wrote comes back as it was.
-use Rattle.queue.specs.Prelude.{◌≡◌, refl, ap, sym, ◌∙◌, Bool, true, false, cond, not, ◌&&◌, Option, none, some, List, [], ◌∷◌, ◌++◌, append_assoc, ℕ, ◌^◌, ◌<◌, arith, ltb, leb, eqb, length, take, drop, take_at, le-leb, le-ltb, eqb-true}
+use Rattle.std.specs.Prelude.{◌≡◌, refl, Bool, true, false, cond, not, ◌&&◌, List, [], ◌∷◌, ◌++◌, ℕ, ◌^◌, ◌<◌, ltb, leb, eqb, length, take, drop}
+use Rattle.std.proofs.Common.{ap, sym, ◌∙◌, append_assoc, arith, take_at, le-leb, le-ltb, eqb-true}
+use Rattle.std.proofs.Math.Option.{Option, none, some}
 use Rattle.queue.specs.Basics.{any_same}
 use Rattle.queue.specs.declared.Answer.{Answer}
 use Rattle.queue.specs.declared.Kind.TheVariants.{Nothing}
@@ -18,7 +20,7 @@ use Rattle.queue.specs.Lists.{and_true, and_both}
 use Rattle.queue.specs.bytes.ReaderLaws.{false_true}
 use Rattle.queue.specs.bytes.OrderLaws.{same_is, same_self}
 use Rattle.queue.specs.paper.Base as base
-use Rattle.queue.specs.paper.Records.{Bytes, Id, Limits, Terms, Held, Rec, Queue}
+use Rattle.queue.specs.paper.Records.{Bytes, Id, Terms, Held, Rec, Queue}
 use Rattle.queue.specs.paper.Lists.{maybe, is_some, is_empty?, one, all?, any?, total, count, map, concat}
 use Rattle.queue.specs.paper.Ids.{below?, rise?}
 use Rattle.queue.specs.paper.Sound.{in_range, shares_right?, holder?, inputs, outputs, reads, content, label_len, stamped?, among?, used?, clash?, apart?, read?, crossed?, read_apart?, distinct?, right?, counts?, sound?}

@@ -115,7 +115,7 @@ fn put_old_head(s: &[u8], h: HeadR, dst: &mut [u8], at: usize) -> usize
 }
 
 // Where the lower half of a record's priority stands, the count of its read ids, and that of its signed bytes.
-#[derive(Drop)]
+#[derive(Clone, Copy)]
 pub struct Cut {
     pub low: usize,
     pub reads: usize,

@@ -1,4 +1,6 @@
 // The stored image of a queue: lines of hexadecimal, one frame a line.
+#![tactic(auto)]
+
 ghost use Rattle.std.specs.Prelude.{◌≡◌, ◌≤◌, length};
 ghost use Rattle.queue.specs.bytes.PutAs.{Put};
 ghost use Rattle.queue.specs.Checked.{written};

@@ -6,7 +6,7 @@ use queue::layout::frame::{Form, kind_at, known};
 use queue::layout::limits::Limits;
 
 // ok says that the text is the image of a sound queue, form how it stands there, need how long an area that queue needs.
-#[derive(Drop)]
+#[derive(Clone, Copy)]
 pub struct Text {
     pub ok: bool,
     pub form: Form,

@@ -1,5 +1,6 @@
 -- The exits of the exported calls that are not a number of another call's answer. Assumes nothing.
-use Rattle.queue.specs.Prelude.{◌≡◌, ap, ◌∙◌, true, false, ℕ, ◌+◌}
+use Rattle.std.specs.Prelude.{◌≡◌, true, false, ℕ, ◌+◌}
+use Rattle.std.proofs.Common.{ap, ◌∙◌}
 use Rattle.queue.specs.declared.Kind.{Kind}
 use Rattle.queue.specs.declared.Kind.TheVariants.{Nothing}
 use Rattle.queue.specs.declared.Answer.TheVariants.{Refused, Done}

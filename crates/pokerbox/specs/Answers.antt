@@ -1,5 +1,6 @@
 -- Each call on lent bytes answers and leaves what the plain machine works out; and what it works out is kept.
-use Rattle.queue.specs.Prelude.{◌≡◌, refl, Bool, true, false, not, ◌||◌, Option, some, List, ℕ, ◌+◌, ◌<◌, min, ltb, leb, length}
+use Rattle.std.specs.Prelude.{◌≡◌, refl, Bool, true, false, not, ◌||◌, List, ℕ, ◌+◌, ◌<◌, min, ltb, leb, length}
+use Rattle.std.proofs.Math.Option.{Option, some}
 use Rattle.queue.specs.declared.Kind.{Kind}
 use Rattle.queue.specs.declared.Kind.TheVariants.{Nothing, Memory, Whole, Cursor}
 use Rattle.queue.specs.declared.Answer.{Answer}

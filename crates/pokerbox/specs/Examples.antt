@@ -1,5 +1,8 @@
 -- A short list of steps, run on both machines: that the claim speaks of something.
-use Rattle.queue.specs.Prelude.{◌≡◌, refl, ap, ◌∙◌, Bool, true, false, Option, none, some, List, [], ◌∷◌, ℕ, zero, suc, ◌<◌, ◌≤◌, arith, length, take, replicate, length-replicate}
+use Rattle.std.specs.Prelude.{◌≡◌, refl, Bool, true, false, List, [], ◌∷◌, ℕ, zero, suc, ◌<◌, ◌≤◌, length, take, replicate}
+use Rattle.std.proofs.Common.{ap, ◌∙◌, arith}
+use Rattle.std.proofs.Math.Option.{Option, none, some}
+use Rattle.std.proofs.lemmas.List.{length-replicate}
 use Rattle.queue.specs.declared.Answer.{Answer}
 use Rattle.queue.specs.Codec.{All}
 use Rattle.queue.specs.paper.Records.{Bytes, Limits}

@@ -1,6 +1,8 @@
 -- Document 02, P4: a unit that starts from an image of whatever kind. Two worlds whose first files open alike stay alike: with the
 -- image that the newest kind has of the queue in the place of the text, the claim's own steps go on. Assumes nothing.
-use Rattle.queue.specs.Prelude.{◌≡◌, refl, ap, sym, ◌∙◌, Bool, true, false, Option, none, some, List, [], ◌∷◌, ℕ, arith, length, drop}
+use Rattle.std.specs.Prelude.{◌≡◌, refl, Bool, true, false, List, [], ◌∷◌, ℕ, length, drop}
+use Rattle.std.proofs.Common.{ap, sym, ◌∙◌, arith}
+use Rattle.std.proofs.Math.Option.{Option, none, some}
 use Rattle.queue.specs.declared.Kind.TheVariants.{Nothing, Memory, Whole, Cursor}
 use Rattle.queue.specs.declared.Answer.{Answer}
 use Rattle.queue.specs.declared.Answer.TheVariants.{Refused, Done}

@@ -1,6 +1,8 @@
 -- What a node lends by the numbers that it was given is enough: neither a fresh queue nor opening is then refused by 2. And the
 -- limits of an image are those of its queue. Assumes nothing.
-use Rattle.queue.specs.Prelude.{◌≡◌, refl, Bool, true, false, Option, none, some, [], ◌∷◌, ◌++◌, ℕ, ◌≤◌, arith, ltb, length, replicate, le-ltb}
+use Rattle.std.specs.Prelude.{◌≡◌, refl, Bool, true, false, [], ◌∷◌, ◌++◌, ℕ, ◌≤◌, ltb, length, replicate}
+use Rattle.std.proofs.Math.Option.{Option, none, some}
+use Rattle.std.proofs.Common.{arith, le-ltb}
 use Rattle.queue.specs.declared.Kind.TheVariants.{Nothing}
 use Rattle.queue.specs.declared.Answer.TheVariants.{Refused, Done}
 use Rattle.queue.specs.Codec.{cases}

@@ -6,7 +6,9 @@
 -- It rests on the definitions of document 01's calls (queue, image) and not on code: that the exported functions do on bytes
 -- what `call_of`, `settle_of`, `image_of`, `open_of` and `fresh_of` say is each function's contract. It takes from the node what
 -- `Machine` says of it: who lends what, what a write does to the first file, and that nobody else writes meanwhile.
-use Rattle.queue.specs.Prelude.{◌≡◌, refl, ap, ◌∙◌, Bool, true, false, Option, none, some, List, [], ◌∷◌, ◌++◌, ℕ, ◌+◌, ◌*◌, ◌≤◌, arith, length, drop}
+use Rattle.std.specs.Prelude.{◌≡◌, refl, Bool, true, false, List, [], ◌∷◌, ◌++◌, ℕ, ◌+◌, ◌*◌, ◌≤◌, length, drop}
+use Rattle.std.proofs.Common.{ap, ◌∙◌, arith}
+use Rattle.std.proofs.Math.Option.{Option, none, some}
 use Rattle.queue.specs.declared.Kind.TheVariants.{Nothing, Memory, Whole, Cursor}
 use Rattle.queue.specs.declared.Answer.{Answer}
 use Rattle.queue.specs.declared.Answer.TheVariants.{Refused, Done}

@@ -1,6 +1,9 @@
 -- Document 02, P1: withdrawn stays withdrawn. What is kept through every list: whoever is in the history has no holder, neither in
 -- the queue nor in the stored queue ('a tombstone or absent'); the calls' laws are in the queue's `NoHolder`.
-use Rattle.queue.specs.Prelude.{◌≡◌, refl, ap, sym, subst, ◌∙◌, Bool, true, false, cond, not, Option, none, some, List, [], ◌∷◌, ◌++◌, ℕ, ltb, length, not-true}
+use Rattle.std.specs.Prelude.{◌≡◌, refl, Bool, true, false, cond, not, List, [], ◌∷◌, ◌++◌, ℕ, ltb, length}
+use Rattle.std.proofs.Common.{ap, sym, subst, ◌∙◌}
+use Rattle.std.proofs.Math.Option.{Option, none, some}
+use Rattle.std.proofs.lemmas.Bool.{not-true}
 use Rattle.queue.specs.declared.Kind.TheVariants.{Nothing, Memory, Whole, Cursor}
 use Rattle.queue.specs.declared.Answer.{Answer}
 use Rattle.queue.specs.declared.Answer.TheVariants.{Refused, Done}

@@ -1,5 +1,8 @@
 -- Short lists of steps for document 02, P1: that the claim speaks of something, and where it ends.
-use Rattle.queue.specs.Prelude.{◌≡◌, refl, true, none, some, List, [], ◌∷◌, ◌++◌, ℕ, ◌+◌, ◌≤◌, ◌<◌, arith, length, replicate, length-replicate}
+use Rattle.std.specs.Prelude.{◌≡◌, refl, true, List, [], ◌∷◌, ◌++◌, ℕ, ◌+◌, ◌≤◌, ◌<◌, length, replicate}
+use Rattle.std.proofs.Math.Option.{none, some}
+use Rattle.std.proofs.Common.{arith}
+use Rattle.std.proofs.lemmas.List.{length-replicate}
 use Rattle.queue.specs.Codec.{All, all_append}
 use Rattle.queue.specs.paper.Records.{Bytes, Id, Limits}
 use Rattle.queue.specs.paper.Lists.{map}

@@ -1,5 +1,8 @@
 -- What an area and an image hold: reading finds a queue exactly where its bytes stand.
-use Rattle.queue.specs.Prelude.{◌≡◌, refl, ap, sym, ◌∙◌, Bool, true, false, cond, ◌&&◌, Option, none, some, [], ◌∷◌, ◌++◌, append_assoc, append-nil, ℕ, zero, suc, ◌-◌, ◌≤◌, arith, ltb, leb, eqb, length, take, drop, get_or, replicate, take-append-drop, length-append, length-drop, length-replicate, take_at, length-take-le, drop-cons, ltb-true, ltb-false, leb-true, le-leb, eqb-true, eq-eqb, ne_eqb}
+use Rattle.std.specs.Prelude.{◌≡◌, refl, Bool, true, false, cond, ◌&&◌, [], ◌∷◌, ◌++◌, ℕ, zero, suc, ◌-◌, ◌≤◌, ltb, leb, eqb, length, take, drop, get_or, replicate}
+use Rattle.std.proofs.Common.{ap, sym, ◌∙◌, append_assoc, append-nil, arith, take-append-drop, length-append, length-drop, take_at, length-take-le, drop-cons, ltb-true, ltb-false, leb-true, le-leb, eqb-true, eq-eqb, ne_eqb}
+use Rattle.std.proofs.Math.Option.{Option, none, some}
+use Rattle.std.proofs.lemmas.List.{length-replicate}
 use Rattle.queue.specs.Codec.{Got, fail, got, cases, cond_cases, encs}
 use Rattle.queue.specs.Lists.{and_true}
 use Rattle.queue.specs.bytes.ReaderAs.{Reads}

@@ -1,6 +1,8 @@
 -- The changing calls as the functions decide them, one check after the other; each is what `call_of` says (`admit_is` and the
 -- others).
-use Rattle.queue.specs.Prelude.{◌≡◌, refl, sym, Bool, true, false, cond, Option, none, some, [], ℕ, ltb, length}
+use Rattle.std.specs.Prelude.{◌≡◌, refl, Bool, true, false, cond, [], ℕ, ltb, length}
+use Rattle.std.proofs.Common.{sym}
+use Rattle.std.proofs.Math.Option.{Option, none, some}
 use Rattle.queue.specs.declared.Answer.{Answer}
 use Rattle.queue.specs.declared.Answer.TheVariants.{Refused, Done}
 use Rattle.queue.specs.Codec.{cases}

@@ -1,5 +1,4 @@
 pub mod paper
-pub mod Prelude
 pub mod Basics
 pub mod Codec
 pub mod Lists

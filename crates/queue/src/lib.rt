@@ -1,4 +1,5 @@
 // The private transaction queue in a lent area.
+#![tactic(auto)]
 
 pub mod bytes;
 pub mod change;
@@ -8,7 +9,7 @@ pub mod read;
 pub mod refusal;
 
 // What a changing call leaves to do: nothing, a queue in memory only, a whole write, a write of the cursor.
-#[derive(Drop)]
+#[derive(Clone, Copy)]
 pub enum Kind {
     Nothing,
     Memory,
@@ -17,7 +18,7 @@ pub enum Kind {
 }
 
 // What a call answers: a refusal's number, or done with its kind.
-#[derive(Drop)]
+#[derive(Clone, Copy)]
 pub enum Answer {
     Refused(u64),
     Done(Kind),

@@ -1,7 +1,7 @@
 // The steps: an exported call each, or what a node does between calls. README.md has the letters.
 use super::text::{
     arguments, copy, fill, filled, least, length_at, letter, number, number_8, number_32, part,
-    read_line, rest, say, say_bytes, say_number,
+    read_line, rest, say, say_bytes, say_decimal, say_number,
 };
 use pokerbox::{
     pokerbox_admit, pokerbox_cancel, pokerbox_confirmations, pokerbox_deadline_due, pokerbox_due,
@@ -12,13 +12,15 @@ use pokerbox::{
     pokerbox_selection_entries, pokerbox_selection_entries_at, pokerbox_set_cursor,
     pokerbox_settle, pokerbox_signed_bytes, pokerbox_sound,
 };
+use std::io;
+use std::io::{Read, Write};
 
 // What the next area and an output hold before a call.
 const UNTOUCHED: u8 = 238;
 
 // How many bytes are lent of the current area, of the next one and of an image's output, and how long the last image and
 // the stored one are.
-#[derive(Drop)]
+#[derive(Clone, Copy)]
 pub struct Lent {
     pub cur: usize,
     pub next: usize,
@@ -163,77 +165,84 @@ fn value(op: u8, a: &[u8], cur: &[u8], v: &mut u64) -> u64 {
 
 // ---- a line of answers each
 
-fn say_line(op: u8, n: u64) {
-    say_number(op, n);
-    say(b"\n");
+fn say_line(answers: &mut impl Write, op: u8, n: u64) -> io::Result<()> {
+    say_number(answers, op, n)?;
+    say(answers, b"\n")
 }
 
 // The first two arguments are the output's length. After a refusal and kind 0 the next area is as it was.
-fn changed(op: u8, a: &[u8], cur: &[u8], next: &mut [u8]) {
+fn changed(
+    answers: &mut impl Write,
+    op: u8,
+    a: &[u8],
+    cur: &[u8],
+    next: &mut [u8],
+) -> io::Result<()> {
     let mut space = [UNTOUCHED; 8192];
     let out: &mut [u8] = &mut space;
     let n = least(number(a, 0, 2) as usize, out.len());
     fill(next, UNTOUCHED);
     let r = change(op, rest(a, 2), cur, next, &mut out[0..n]);
-    say_number(op, r);
-    say_bytes(part(out, 0, n));
+    say_number(answers, op, r)?;
+    say_bytes(answers, part(out, 0, n))?;
     if r <= 100 {
         if !filled(next, UNTOUCHED) {
-            say(b" next area changed");
+            say(answers, b" next area changed")?;
         }
     }
-    say(b"\n");
+    say(answers, b"\n")
 }
 
-fn was_read(op: u8, a: &[u8], cur: &[u8]) {
+fn was_read(answers: &mut impl Write, op: u8, a: &[u8], cur: &[u8]) -> io::Result<()> {
     let mut space = [UNTOUCHED; 8192];
     let out: &mut [u8] = &mut space;
     let n = least(number(a, 0, 2) as usize, out.len());
     let r = read(op, rest(a, 2), cur, &mut out[0..n]);
-    say_number(op, r);
-    say_bytes(part(out, 0, n));
-    say(b"\n");
+    say_number(answers, op, r)?;
+    say_bytes(answers, part(out, 0, n))?;
+    say(answers, b"\n")
 }
 
-fn valued(op: u8, a: &[u8], cur: &[u8]) {
+fn valued(answers: &mut impl Write, op: u8, a: &[u8], cur: &[u8]) -> io::Result<()> {
     let mut v: u64 = 0;
     let r = value(op, a, cur, &mut v);
-    say_number(op, r);
-    say(b" ");
-    io::print_decimal(1, v);
-    say(b"\n");
+    say_number(answers, op, r)?;
+    say(answers, b" ")?;
+    say_decimal(answers, v)?;
+    say(answers, b"\n")
 }
 
-fn signed(op: u8, a: &[u8], cur: &[u8]) {
+fn signed(answers: &mut impl Write, op: u8, a: &[u8], cur: &[u8]) -> io::Result<()> {
     let mut start: u64 = 0;
     let mut size: u64 = 0;
     let r = pokerbox_signed_bytes(cur, a, &mut start, &mut size);
-    say_number(op, r);
-    say_bytes(part(cur, start as usize, size as usize));
-    say(b"\n");
+    say_number(answers, op, r)?;
+    say_bytes(answers, part(cur, start as usize, size as usize))?;
+    say(answers, b"\n")
 }
 
 // An image's text has its own lines: how long it is.
-fn imaged(op: u8, area: &[u8], out: &mut [u8]) -> usize {
+fn imaged(answers: &mut impl Write, op: u8, area: &[u8], out: &mut [u8]) -> io::Result<usize> {
     let mut size: u64 = 0;
     let r = pokerbox_image(area, out, &mut size);
-    say_line(op, r);
+    say_line(answers, op, r)?;
     let n = size as usize;
-    say(part(out, 0, n));
-    n
+    say(answers, part(out, 0, n))?;
+    Ok(n)
 }
 
 // The image of the current area.
-fn shown(op: u8, area: &[u8]) {
+fn shown(answers: &mut impl Write, op: u8, area: &[u8]) -> io::Result<()> {
     let mut space = [0u8; 16384];
-    imaged(op, area, &mut space);
+    imaged(answers, op, area, &mut space)?;
+    Ok(())
 }
 
 // The persisted height, which an image has not.
-fn persisted(op: u8, area: &[u8]) {
-    say(&[op]);
-    say_bytes(part(area, 0, 4));
-    say(b"\n");
+fn persisted(answers: &mut impl Write, op: u8, area: &[u8]) -> io::Result<()> {
+    say(answers, &[op])?;
+    say_bytes(answers, part(area, 0, 4))?;
+    say(answers, b"\n")
 }
 
 // ---- steps
@@ -255,11 +264,17 @@ fn renamed(lent: Lent, image: &[u8], stored: &mut [u8]) -> Lent {
 }
 
 // The image of the next area.
-fn next_image(op: u8, lent: Lent, next: &[u8], image: &mut [u8]) -> Lent {
+fn next_image(
+    answers: &mut impl Write,
+    op: u8,
+    lent: Lent,
+    next: &[u8],
+    image: &mut [u8],
+) -> io::Result<Lent> {
     let n = least(lent.next, next.len());
     let room = least(lent.room, image.len());
-    let size = imaged(op, &next[0..n], &mut image[0..room]);
-    lent.with_image(size)
+    let size = imaged(answers, op, &next[0..n], &mut image[0..room])?;
+    Ok(lent.with_image(size))
 }
 
 // These bytes, then zeros.
@@ -269,13 +284,19 @@ fn put(bytes: &[u8], area: &mut [u8]) {
 }
 
 // A queue into the current area.
-fn made(op: u8, a: &[u8], lent: Lent, cur: &mut [u8], stored: &[u8]) {
+fn made(
+    answers: &mut impl Write,
+    op: u8,
+    a: &[u8],
+    lent: Lent,
+    cur: &mut [u8],
+    stored: &[u8],
+) -> io::Result<()> {
     let c = least(lent.cur, cur.len());
     if op == b'o' {
         let n = lent.stored;
         let r = pokerbox_open(part(stored, 0, n), &mut cur[0..c]);
-        say_line(op, r);
-        return;
+        return say_line(answers, op, r);
     }
     let r = pokerbox_fresh(
         number(a, 0, 8),
@@ -285,11 +306,18 @@ fn made(op: u8, a: &[u8], lent: Lent, cur: &mut [u8], stored: &[u8]) {
         rest(a, 32),
         &mut cur[0..c],
     );
-    say_line(op, r);
+    say_line(answers, op, r)
 }
 
 // A changing call or settling.
-fn moved(op: u8, a: &[u8], lent: Lent, cur: &[u8], next: &mut [u8]) {
+fn moved(
+    answers: &mut impl Write,
+    op: u8,
+    a: &[u8],
+    lent: Lent,
+    cur: &[u8],
+    next: &mut [u8],
+) -> io::Result<()> {
     let c = least(lent.cur, cur.len());
     let n = least(lent.next, next.len());
     if op == b's' {
@@ -299,70 +327,95 @@ fn moved(op: u8, a: &[u8], lent: Lent, cur: &[u8], next: &mut [u8]) {
             number(a, 0, 1),
             number(a, 1, 1),
         );
-        say_line(op, r);
-        return;
+        return say_line(answers, op, r);
     }
-    changed(op, a, &cur[0..c], &mut next[0..n]);
+    changed(answers, op, a, &cur[0..c], &mut next[0..n])
 }
 
 // A reading call.
-fn looked(op: u8, a: &[u8], lent: Lent, cur: &[u8]) {
+fn looked(answers: &mut impl Write, op: u8, a: &[u8], lent: Lent, cur: &[u8]) -> io::Result<()> {
     let area = part(cur, 0, lent.cur);
     match op {
-        b'p' => persisted(op, area),
-        b'q' => shown(op, area),
-        b'v' => say_line(op, pokerbox_sound(area)),
-        b'B' => signed(op, a, area),
-        b'D' | b'E' | b'H' | b'R' => valued(op, a, area),
-        _ => was_read(op, a, area),
+        b'p' => persisted(answers, op, area),
+        b'q' => shown(answers, op, area),
+        b'v' => say_line(answers, op, pokerbox_sound(area)),
+        b'B' => signed(answers, op, a, area),
+        b'D' | b'E' | b'H' | b'R' => valued(answers, op, a, area),
+        _ => was_read(answers, op, a, area),
     }
 }
 
-fn call(op: u8, a: &[u8], lent: Lent, cur: &mut [u8], next: &mut [u8], stored: &[u8]) {
+fn call(
+    answers: &mut impl Write,
+    op: u8,
+    a: &[u8],
+    lent: Lent,
+    cur: &mut [u8],
+    next: &mut [u8],
+    stored: &[u8],
+) -> io::Result<()> {
     match op {
-        b'a' => put(a, cur),
-        b'b' => put(a, next),
-        b'k' => put(next, cur),
-        b'f' | b'o' => made(op, a, lent, cur, stored),
-        b'c' | b'd' | b'e' | b'n' | b'r' | b's' | b'u' => moved(op, a, lent, cur, next),
-        _ => looked(op, a, lent, cur),
+        b'a' => {
+            put(a, cur);
+            Ok(())
+        }
+        b'b' => {
+            put(a, next);
+            Ok(())
+        }
+        b'k' => {
+            put(next, cur);
+            Ok(())
+        }
+        b'f' | b'o' => made(answers, op, a, lent, cur, stored),
+        b'c' | b'd' | b'e' | b'n' | b'r' | b's' | b'u' => moved(answers, op, a, lent, cur, next),
+        _ => looked(answers, op, a, lent, cur),
     }
 }
 
 // One line of the list.
 fn step(
+    answers: &mut impl Write,
     line: &[u8],
     lent: Lent,
     cur: &mut [u8],
     next: &mut [u8],
     image: &mut [u8],
     stored: &mut [u8],
-) -> Lent {
+) -> io::Result<Lent> {
     let op = letter(line);
     let mut space = [0u8; 8192];
     let n = arguments(line, &mut space);
     let a = part(&space, 0, n);
     match op {
         b'#' => {
-            say(line);
-            say(b"\n");
-            lent
+            say(answers, line)?;
+            say(answers, b"\n")?;
+            Ok(lent)
         }
-        b'0' => stored_line(line, lent, stored),
-        b'm' => lent.with_stored(0),
-        b'x' => lent.with_stored(number(a, 0, 4) as usize),
-        b'l' => lent.with_lengths(a),
-        b't' => renamed(lent, image, stored),
-        b'w' => next_image(op, lent, next, image),
+        b'0' => Ok(stored_line(line, lent, stored)),
+        b'm' => Ok(lent.with_stored(0)),
+        b'x' => Ok(lent.with_stored(number(a, 0, 4) as usize)),
+        b'l' => Ok(lent.with_lengths(a)),
+        b't' => Ok(renamed(lent, image, stored)),
+        b'w' => next_image(answers, op, lent, next, image),
         _ => {
-            call(op, a, lent, cur, next, stored);
-            lent
+            call(answers, op, a, lent, cur, next, stored)?;
+            Ok(lent)
         }
     }
 }
 
 // The list's lines, one after the other. The loop has to end, whatever is read, so its turns are counted.
-fn lines(line: &mut [u8], cur: &mut [u8], next: &mut [u8], image: &mut [u8], stored: &mut [u8]) {
+fn lines(
+    list: &mut impl Read,
+    answers: &mut impl Write,
+    line: &mut [u8],
+    cur: &mut [u8],
+    next: &mut [u8],
+    image: &mut [u8],
+    stored: &mut [u8],
+) -> io::Result<()> {
     let mut lent = Lent {
         cur: cur.len(),
         next: next.len(),
@@ -373,20 +426,37 @@ fn lines(line: &mut [u8], cur: &mut [u8], next: &mut [u8], image: &mut [u8], sto
     let mut turns: u64 = 1000000;
     while 0 < turns {
         turns -= 1;
-        let n = read_line(line);
+        let n = read_line(list, line)?;
         if n == 0 {
-            return;
+            return Ok(());
         }
-        lent = step(part(line, 0, n - 1), lent, cur, next, image, stored);
+        lent = step(
+            answers,
+            part(line, 0, n - 1),
+            lent,
+            cur,
+            next,
+            image,
+            stored,
+        )?;
     }
+    Ok(())
 }
 
 // The list, with areas of 8,192 bytes and images of 16,384 at most.
-pub fn run() {
+pub fn run(list: &mut impl Read, answers: &mut impl Write) -> io::Result<()> {
     let mut line = [0u8; 16384];
     let mut cur = [0u8; 8192];
     let mut next = [0u8; 8192];
     let mut image = [0u8; 16384];
     let mut stored = [0u8; 16384];
-    lines(&mut line, &mut cur, &mut next, &mut image, &mut stored);
+    lines(
+        list,
+        answers,
+        &mut line,
+        &mut cur,
+        &mut next,
+        &mut image,
+        &mut stored,
+    )
 }

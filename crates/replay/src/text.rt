@@ -3,32 +3,34 @@ ghost use Rattle.std.specs.Prelude.{◌≤◌, ◌<◌, length};
 
 use queue::bytes::put::{copy_part, copy_view, put_text};
 use queue::bytes::view::{be, size, wide};
+use std::io;
+use std::io::{Read, Write};
 
 // The next byte of the input; 256 at its end.
-fn next_byte() -> u64 {
+fn next_byte(list: &mut impl Read) -> io::Result<u64> {
     let mut one = [0u8; 1];
-    let got = libc::read(0, &mut one);
+    let got = list.read(&mut one)?;
     if got == 1 {
-        return wide(one[0]);
+        return Ok(wide(one[0]));
     }
-    256
+    Ok(256)
 }
 
 // The next line of the input, with its end byte: its length, 0 at the end of the input.
-pub fn read_line(line: &mut [u8]) -> usize {
+pub fn read_line(list: &mut impl Read, line: &mut [u8]) -> io::Result<usize> {
     let mut n = 0;
     while n < line.len() {
-        let b = next_byte();
+        let b = next_byte(list)?;
         if b == 256 {
-            return n;
+            return Ok(n);
         }
         line[n] = (b % 256) as u8;
         n += 1;
         if b == 10 {
-            return n;
+            return Ok(n);
         }
     }
-    n
+    Ok(n)
 }
 
 pub fn least(a: usize, b: usize) -> usize
@@ -132,22 +134,27 @@ pub fn copy(src: &[u8], dst: &mut [u8]) -> usize
     n
 }
 
-pub fn say(bytes: &[u8]) {
-    io::write_all(1, bytes);
+pub fn say(answers: &mut impl Write, bytes: &[u8]) -> io::Result<()> {
+    answers.write_all(bytes)
 }
 
 // A blank and the bytes' digits.
-pub fn say_bytes(bytes: &[u8]) {
-    let mut space = io::large_buffer();
+pub fn say_bytes(answers: &mut impl Write, bytes: &[u8]) -> io::Result<()> {
+    let mut space = [0u8; 65536];
     let digits: &mut [u8] = &mut space;
     let n = least(bytes.len(), digits.len() / 2);
     put_text(bytes, 0, n, digits, 0);
-    say(b" ");
-    say(part(digits, 0, n + n));
+    say(answers, b" ")?;
+    say(answers, part(digits, 0, n + n))
+}
+
+// A number, in decimal.
+pub fn say_decimal(answers: &mut impl Write, n: u64) -> io::Result<()> {
+    write!(answers, "{n}")
 }
 
 // A step's letter, a blank and the number that the call gave back.
-pub fn say_number(op: u8, n: u64) {
-    say(&[op, b' ']);
-    io::print_decimal(1, n);
+pub fn say_number(answers: &mut impl Write, op: u8, n: u64) -> io::Result<()> {
+    say(answers, &[op, b' '])?;
+    say_decimal(answers, n)
 }

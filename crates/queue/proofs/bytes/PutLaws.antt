@@ -1,5 +1,8 @@
 -- The laws of `splice` and of `Put`. None has a side condition but `splice_is`. Assumes nothing.
-use Rattle.queue.specs.Prelude.{◌≡◌, refl, sym, ap, ◌∙◌, List, [], ◌∷◌, ◌++◌, ℕ, zero, suc, ◌+◌, ◌-◌, ◌≤◌, ◌<◌, ◌/◌, ◌%◌, arith, add-zero, suc-add, add-suc, zero-add, add-one, length, set, take, drop, get_or, replicate, length-set, length-append, length-drop, replicate-append-replicate, set_comm, sets, sets-eq, take-suc, get_or-drop, take-set-le, drop-set-lt, set-append_left}
+use Rattle.std.specs.Prelude.{◌≡◌, refl, List, [], ◌∷◌, ◌++◌, ℕ, zero, suc, ◌+◌, ◌-◌, ◌≤◌, ◌<◌, ◌/◌, ◌%◌, length, set, take, drop, get_or, replicate}
+use Rattle.std.proofs.Common.{sym, ap, ◌∙◌, arith, add-zero, suc-add, add-suc, zero-add, add-one, length-set, length-append, length-drop, take-suc, get_or-drop, drop-set-lt}
+use Rattle.std.proofs.lemmas.List.{replicate-append-replicate, set_comm, take-set-le, set-append_left}
+use Rattle.std.proofs.lemmas.List.Edits.{sets, sets-eq}
 use Rattle.queue.specs.Basics.{set_behind}
 use Rattle.queue.specs.bytes.PutAs.{splice, be_last, Put}
 use Rattle.queue.specs.paper.Area.{over}

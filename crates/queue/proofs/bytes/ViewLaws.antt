@@ -1,5 +1,8 @@
 -- The laws of the loops over a view: a number, a copy, an order. Assumes nothing.
-use Rattle.queue.specs.Prelude.{◌≡◌, refl, sym, ap, ◌∙◌, Bool, true, false, ◌&&◌, List, ◌∷◌, ℕ, zero, suc, ◌+◌, ◌-◌, ◌*◌, ◌≤◌, ◌<◌, ◌^◌, arith, pow-suc, pow-le-pow_right, add-zero, add-one, unary_clauses, lit<, ltb, eqb, length, get_or, take, drop, set, length-drop, drop_of_length-le, take-suc-set, take-suc, get_or-drop, take_all, drop-cons, lt-ltb, le-ltb, ltb-true, ltb-false, eq-eqb, ne_eqb}
+use Rattle.std.specs.Prelude.{◌≡◌, refl, Bool, true, false, ◌&&◌, List, ◌∷◌, ℕ, zero, suc, ◌+◌, ◌-◌, ◌*◌, ◌≤◌, ◌<◌, ◌^◌, ltb, eqb, length, get_or, take, drop, set}
+use Rattle.std.proofs.Common.{sym, ap, ◌∙◌, arith, pow-suc, add-zero, add-one, lit<, length-drop, drop_of_length-le, take-suc-set, take-suc, get_or-drop, take_all, drop-cons, lt-ltb, le-ltb, ltb-true, ltb-false, eq-eqb, ne_eqb}
+use Rattle.std.proofs.Math.Nat.{pow-le-pow_right}
+use Rattle.std.proofs.Math.Numerals.{unary_clauses}
 use Rattle.queue.specs.Basics.{and_assoc}
 use Rattle.queue.specs.Codec.{cases}
 use Rattle.queue.specs.bytes.Parts.{part}

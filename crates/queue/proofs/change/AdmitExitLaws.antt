@@ -1,5 +1,7 @@
 -- Admission, exit by exit. Assumes nothing.
-use Rattle.queue.specs.Prelude.{◌≡◌, refl, ap, sym, ◌∙◌, Bool, true, false, cond, ◌&&◌, ◌||◌, Option, none, some, List, [], ◌∷◌, ℕ, ◌+◌, ◌/◌, ◌%◌, ◌^◌, ◌≤◌, ◌<◌, arith, ltb, leb, eqb, length, lt-ltb, le-ltb, ltb-false, leb-true, eq-eqb, ne_eqb, eqb-true}
+use Rattle.std.specs.Prelude.{◌≡◌, refl, Bool, true, false, cond, ◌&&◌, ◌||◌, List, [], ◌∷◌, ℕ, ◌+◌, ◌/◌, ◌%◌, ◌^◌, ◌≤◌, ◌<◌, ltb, leb, eqb, length}
+use Rattle.std.proofs.Common.{ap, sym, ◌∙◌, arith, lt-ltb, le-ltb, ltb-false, leb-true, eq-eqb, ne_eqb, eqb-true}
+use Rattle.std.proofs.Math.Option.{Option, none, some}
 use Rattle.queue.proofs.check.AreaLaws.{fit}
 use Rattle.queue.proofs.check.ReadsLaws.{nobody}
 use Rattle.queue.specs.Basics.{and_same}
@@ -8,7 +10,7 @@ use Rattle.queue.specs.bytes.PutAs.{Put, splice}
 use Rattle.queue.specs.layout.FrameCodec.{Head, id_c, rec_c}
 use Rattle.queue.specs.bytes.Parts.{part}
 use Rattle.queue.specs.bytes.ViewAs.{view}
-use Rattle.queue.specs.bytes.ReaderAs.{whole, list_at}
+use Rattle.queue.specs.bytes.ReaderAs.{list_at}
 use Rattle.queue.specs.bytes.ReaderLaws as readlaws
 use Rattle.queue.specs.layout.FormsCodec.{form_c, queue_c, head_for, store_of}
 use Rattle.queue.specs.layout.FrameAs.{HeadAs, facts_of, head_k_law}
@@ -31,7 +33,6 @@ use Rattle.queue.specs.change.ClashAs.{clashes}
 use Rattle.queue.specs.change.AdmitAs.{args_of, new_of, TermsFit, HeldFit, with_r, WithFrom, WithTo, room_of, RoomIs, free_of, FreeIs, entry_new_len_value, NumbersFit, asked_of, AskedIs, AskedIn, LentIds, ReadIs, CrossIs, TipFor, KnownAt, OldTold, NewTold, FoundTold, ListsAre, FlagsRight}
 use Rattle.queue.specs.paper.Records.{Bytes, Id, Rec, Queue}
 use Rattle.queue.specs.paper.Lists.{find, is_empty?, all?}
-use Rattle.queue.specs.paper.Sound as sound
 use Rattle.queue.specs.paper.Sound.{need, pending?, mined?, label_len, used?, clash?, read?, crossed?, caller_right?}
 use Rattle.queue.specs.paper.Area.{area_bytes, over}
 use Rattle.queue.specs.paper.Changing.{Out, refused, done, named?, reached?, Admission, new_rec, committed, pendings, pending_bytes, pendings_of, share_of, admit_new, admit}

@@ -1,5 +1,8 @@
 -- Admission: a new record's bytes, room for it, and the area with it. Assumes nothing.
-use Rattle.queue.specs.Prelude.{◌≡◌, refl, ap, sym, ◌∙◌, Bool, true, false, cond, ◌&&◌, some, List, [], ◌∷◌, ◌++◌, append_assoc, ℕ, suc, ◌+◌, ◌-◌, ◌/◌, ◌%◌, ◌^◌, ◌≤◌, ◌<◌, arith, div-add-mod', leb, eqb, length, drop, take, replicate, length-append, get_or, take_all, lt-ltb, le-ltb, le-leb, lt-leb, eq-eqb, ne_eqb}
+use Rattle.std.specs.Prelude.{◌≡◌, refl, Bool, true, false, cond, ◌&&◌, List, [], ◌∷◌, ◌++◌, ℕ, suc, ◌+◌, ◌-◌, ◌/◌, ◌%◌, ◌^◌, ◌≤◌, ◌<◌, leb, eqb, length, drop, take, replicate, get_or}
+use Rattle.std.proofs.Common.{ap, sym, ◌∙◌, append_assoc, arith, div-add-mod', length-append, take_all, lt-ltb, le-ltb, le-leb, eq-eqb, ne_eqb}
+use Rattle.std.proofs.Math.Option.{some}
+use Rattle.std.proofs.lemmas.Bool.{lt-leb}
 use Rattle.queue.proofs.read.ReservedStandLaws.{pieces_many}
 use Rattle.queue.specs.Basics.{join_same, join_eight, length_eight}
 use Rattle.queue.specs.layout.FrameAs.{terms_at, facts_of, limits_in, head_p, head_b}

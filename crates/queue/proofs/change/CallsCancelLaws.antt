@@ -1,5 +1,7 @@
 -- Cancellation, exit by exit. Assumes nothing.
-use Rattle.queue.specs.Prelude.{◌≡◌, refl, ap, sym, ◌∙◌, Bool, true, false, none, List, [], ◌∷◌, ◌++◌, append_assoc, append-nil, ℕ, ◌+◌, ◌-◌, ◌≤◌, ◌<◌, arith, ltb, length, drop, take, length-append, length-drop, drop-drop, lt-ltb, le-ltb, eq-eqb, ne_eqb}
+use Rattle.std.specs.Prelude.{◌≡◌, refl, Bool, true, false, List, [], ◌∷◌, ◌++◌, ℕ, ◌+◌, ◌-◌, ◌≤◌, ◌<◌, ltb, length, drop, take}
+use Rattle.std.proofs.Common.{ap, sym, ◌∙◌, append_assoc, append-nil, arith, length-append, length-drop, drop-drop, lt-ltb, le-ltb, eq-eqb, ne_eqb}
+use Rattle.std.proofs.Math.Option.{none}
 use Rattle.queue.specs.Codec as codec
 use Rattle.queue.specs.Codec.{cases, All}
 use Rattle.queue.specs.Lists.{Pairwise, all_map}

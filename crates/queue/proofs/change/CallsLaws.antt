@@ -1,5 +1,8 @@
 -- The changing calls and settling, exit by exit. Assumes nothing.
-use Rattle.queue.specs.Prelude.{◌≡◌, refl, ap, sym, ◌∙◌, Bool, true, false, not, ◌&&◌, ◌||◌, none, some, [], ◌∷◌, ◌++◌, append_assoc, append-nil, ℕ, zero, suc, ◌+◌, ◌-◌, ◌^◌, ◌≤◌, ◌<◌, arith, ltb, leb, eqb, length, drop, take, replicate, length-append, take_at, drop_at, lt-ltb, le-ltb, lt-leb, eq-eqb, ne_eqb, eqb-true, eqb-false}
+use Rattle.std.specs.Prelude.{◌≡◌, refl, Bool, true, false, not, ◌&&◌, ◌||◌, [], ◌∷◌, ◌++◌, ℕ, zero, suc, ◌+◌, ◌-◌, ◌^◌, ◌≤◌, ◌<◌, ltb, leb, eqb, length, drop, take, replicate}
+use Rattle.std.proofs.Common.{ap, sym, ◌∙◌, append_assoc, append-nil, arith, length-append, take_at, drop_at, lt-ltb, le-ltb, eq-eqb, ne_eqb, eqb-true}
+use Rattle.std.proofs.Math.Option.{none, some}
+use Rattle.std.proofs.lemmas.Bool.{lt-leb, eqb-false}
 use Rattle.queue.proofs.check.AreaLaws.{fit}
 use Rattle.queue.specs.Codec as codec
 use Rattle.queue.specs.Codec.{cases, All, be_length, opt_c, encs, vec_c, byte_c}
@@ -8,7 +11,6 @@ use Rattle.queue.specs.bytes.PutAs.{Put, splice, be_last}
 use Rattle.queue.specs.layout.FrameCodec.{id_c, rec_c}
 use Rattle.queue.specs.bytes.Parts.{part}
 use Rattle.queue.specs.bytes.ViewAs.{view}
-use Rattle.queue.specs.bytes.ReaderAs.{whole}
 use Rattle.queue.specs.bytes.ReaderLaws as readlaws
 use Rattle.queue.specs.layout.FormsCodec.{queue_c}
 use Rattle.queue.specs.Areas.{read_area}

@@ -1,5 +1,7 @@
 -- The laws of lent ids in a table: their rows, bisection by id, the loops, and that it is the clash. Assumes nothing.
-use Rattle.queue.specs.Prelude.{◌≡◌, refl, ap, sym, ◌∙◌, Bool, true, false, ◌||◌, List, [], ◌∷◌, ◌++◌, ℕ, ◌+◌, ◌-◌, ◌/◌, ◌≤◌, ◌<◌, arith, add-one, ltb, eqb, length, take, get_or, set, take-suc-set, eqb-false, ltb-true, ltb-false}
+use Rattle.std.specs.Prelude.{◌≡◌, refl, Bool, true, false, ◌||◌, List, [], ◌∷◌, ◌++◌, ℕ, ◌+◌, ◌-◌, ◌/◌, ◌≤◌, ◌<◌, ltb, eqb, length, take, get_or, set}
+use Rattle.std.proofs.Common.{ap, sym, ◌∙◌, arith, add-one, take-suc-set, ltb-true, ltb-false}
+use Rattle.std.proofs.lemmas.Bool.{eqb-false}
 use Rattle.queue.specs.Basics.{any_count, any_append, or_more, any_same}
 use Rattle.queue.specs.Codec.{cases}
 use Rattle.queue.specs.bytes.Parts.{part}

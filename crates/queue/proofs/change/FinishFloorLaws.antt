@@ -1,15 +1,14 @@
 -- The laws of a floor in an area that was checked. Assumes nothing.
-use Rattle.queue.specs.Prelude.{◌≡◌, false, ◌-◌, ◌≤◌}
+use Rattle.std.specs.Prelude.{◌≡◌, false, ◌-◌, ◌≤◌}
 use Rattle.queue.specs.layout.FrameCodec.{rec_c}
 use Rattle.queue.specs.layout.FormsCodec.{form_c}
 use Rattle.queue.specs.bytes.ReaderAs.{list_at}
-use Rattle.queue.specs.layout.FrameAs.{facts_of}
+use Rattle.queue.specs.layout.FrameAs.{facts_of, limits_in}
 use Rattle.queue.specs.check.RulesAs.{weight, sum}
 use Rattle.queue.specs.check.AreaAs.{AreaAs}
 use Rattle.queue.specs.paper.Records.{Bytes, Queue}
 use Rattle.queue.specs.declared.check.area.Area.{Area}
 use Rattle.queue.specs.declared.check.rules.Query.TheVariants.{Tombstones}
-use Rattle.queue.specs.layout.FrameAs.{limits_in}
 use Rattle.queue.proofs.check.AreaLaws.{list_length, held_few, tombs_are}
 
 -- how many tombstones there are

@@ -1,5 +1,7 @@
 -- Finishing and forgetting: what stays, by the floor, and the loop that counts. Assumes nothing.
-use Rattle.queue.specs.Prelude.{◌≡◌, refl, ap, sym, ◌∙◌, Bool, true, false, cond, ◌&&◌, ◌||◌, Option, none, some, ◌⊎◌, ⊎_elim, List, [], ◌∷◌, ◌++◌, ℕ, ◌+◌, ◌-◌, ◌≤◌, ◌<◌, arith, zero-add, ltb, leb, length, drop, drop-drop, drop_at, lt-ltb, le-ltb, ltb-true, ltb-false, le-leb}
+use Rattle.std.specs.Prelude.{◌≡◌, refl, Bool, true, false, cond, ◌&&◌, ◌||◌, ◌⊎◌, List, [], ◌∷◌, ◌++◌, ℕ, ◌+◌, ◌-◌, ◌≤◌, ◌<◌, ltb, leb, length, drop}
+use Rattle.std.proofs.Common.{ap, sym, ◌∙◌, ⊎_elim, arith, zero-add, drop-drop, drop_at, lt-ltb, le-ltb, ltb-true, ltb-false, le-leb}
+use Rattle.std.proofs.Math.Option.{Option, none, some}
 use Rattle.queue.specs.Codec.{cases, All, pair_c, map_c, vec_c}
 use Rattle.queue.specs.layout.FrameCodec.{id_c, rec_k, rec_c}
 use Rattle.queue.specs.bytes.ReaderAs.{list_at}

@@ -1,5 +1,6 @@
 -- What is lent to a reconciliation. Assumes nothing.
-use Rattle.queue.specs.Prelude.{◌≡◌, refl, ap, sym, ◌∙◌, Bool, true, false, ◌&&◌, List, ◌∷◌, ℕ, zero, suc, ◌+◌, ◌-◌, ◌*◌, ◌/◌, ◌%◌, ◌≤◌, ◌<◌, arith, div-add-mod', leb, eqb, length, take, drop, take-take, drop-drop, eq-eqb, ne_eqb, eqb-true}
+use Rattle.std.specs.Prelude.{◌≡◌, refl, Bool, true, false, ◌&&◌, List, ◌∷◌, ℕ, zero, suc, ◌+◌, ◌-◌, ◌*◌, ◌/◌, ◌%◌, ◌≤◌, ◌<◌, leb, eqb, length, take, drop}
+use Rattle.std.proofs.Common.{ap, sym, ◌∙◌, arith, div-add-mod', take-take, drop-drop, eq-eqb, ne_eqb, eqb-true}
 use Rattle.queue.specs.Basics.{and_same}
 use Rattle.queue.specs.bytes.Parts.{part}
 use Rattle.queue.specs.Lists.{and_true}

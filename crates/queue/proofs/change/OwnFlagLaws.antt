@@ -1,5 +1,9 @@
 -- Flags as the bits of words. Assumes nothing.
-use Rattle.queue.specs.Prelude.{◌≡◌, refl, ap, sym, ◌∙◌, Bool, true, false, cond, ◌&&◌, List, [], ◌∷◌, ◌++◌, ℕ, zero, suc, ◌+◌, ◌*◌, ◌/◌, ◌%◌, ◌^◌, ◌≤◌, ◌<◌, arith, mod-lt, div-add-mod', div-lt_iff_lt-mul, max-zero, mul_comm, ltb, leb, eqb, bit_or, or_zero_r, pow_pos, length, get_or, set, length-append, List·getD-append, get_or-append-add, ltb-true, leb-true}
+use Rattle.std.specs.Prelude.{◌≡◌, refl, Bool, true, false, cond, ◌&&◌, List, [], ◌∷◌, ◌++◌, ℕ, zero, suc, ◌+◌, ◌*◌, ◌/◌, ◌%◌, ◌^◌, ◌≤◌, ◌<◌, ltb, leb, eqb, length, get_or, set}
+use Rattle.std.proofs.Common.{ap, sym, ◌∙◌, arith, mod-lt, div-add-mod', div-lt_iff_lt-mul, mul_comm, pow_pos, length-append, get_or-append-add, ltb-true, leb-true}
+use Rattle.std.proofs.Math.Nat.{max-zero}
+use Rattle.std.proofs.Math.ListN.{get_or-append as List·getD-append}
+use Rattle.std.specs.Int.Bits.{bit_or, or_zero_r}
 use Rattle.queue.specs.Basics.{cons_same, set_behind}
 use Rattle.queue.specs.Lists.{and_true}
 use Rattle.queue.specs.change.OwnAs.{set?, word_bits, bits_in, flags_of, FlagsAre}

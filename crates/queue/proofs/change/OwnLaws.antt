@@ -1,5 +1,7 @@
 -- Which inputs are owned: the flags, the rows, and the loops over them. Assumes nothing.
-use Rattle.queue.specs.Prelude.{◌≡◌, refl, ap, sym, ◌∙◌, Bool, true, false, cond, ◌&&◌, ◌||◌, List, [], ◌∷◌, ◌++◌, append_assoc, ℕ, zero, suc, ◌+◌, ◌-◌, ◌≤◌, ◌<◌, arith, add-one, eqb, length, take, drop, get_or, set, length-append, length-drop, drop-cons, drop-drop, take-suc-set, take_all, take-append_seam, drop-append_seam, eq-eqb, ne_eqb, eqb-true}
+use Rattle.std.specs.Prelude.{◌≡◌, refl, Bool, true, false, cond, ◌&&◌, ◌||◌, List, [], ◌∷◌, ◌++◌, ℕ, zero, suc, ◌+◌, ◌-◌, ◌≤◌, ◌<◌, eqb, length, take, drop, get_or, set}
+use Rattle.std.proofs.Common.{ap, sym, ◌∙◌, append_assoc, arith, add-one, length-append, length-drop, drop-cons, drop-drop, take-suc-set, take_all, eq-eqb, ne_eqb, eqb-true}
+use Rattle.std.proofs.Math.Seq.{take-append_seam, drop-append_seam}
 use Rattle.queue.specs.Basics.{and_same, cons_same, or_assoc, or_more, any_append, among_append}
 use Rattle.queue.specs.Codec.{cases}
 use Rattle.queue.specs.Lists.{and_true}

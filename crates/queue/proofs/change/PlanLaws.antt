@@ -1,5 +1,6 @@
 -- The rows of a plan: in one number, gathered over the records, and applied. Assumes nothing.
-use Rattle.queue.specs.Prelude.{◌≡◌, refl, ap, sym, ◌∙◌, Bool, true, false, cond, not, ◌&&◌, ◌||◌, ⊎_elim, inl, inr, List, [], ◌∷◌, ◌++◌, append_assoc, append-nil, ℕ, ◌+◌, ◌-◌, ◌*◌, ◌/◌, ◌%◌, ◌^◌, ◌≤◌, ◌<◌, arith, add-one, leb, eqb, length, take, get_or, set, length-append, length-set, take-suc-set, eq-eqb, ne_eqb, eqb-true}
+use Rattle.std.specs.Prelude.{◌≡◌, refl, Bool, true, false, cond, not, ◌&&◌, ◌||◌, List, [], ◌∷◌, ◌++◌, ℕ, ◌+◌, ◌-◌, ◌*◌, ◌/◌, ◌%◌, ◌^◌, ◌≤◌, ◌<◌, leb, eqb, length, take, get_or, set}
+use Rattle.std.proofs.Common.{ap, sym, ◌∙◌, ⊎_elim, inl, inr, append_assoc, append-nil, arith, add-one, length-append, length-set, take-suc-set, eq-eqb, ne_eqb, eqb-true}
 use Rattle.queue.proofs.check.AreaLaws.{fit, recs_here}
 use Rattle.queue.specs.check.AreaAs.{AreaIn}
 use Rattle.queue.specs.Codec.{All, cases, encs}

@@ -1,5 +1,8 @@
 -- Reconciliation, exit by exit. Assumes nothing.
-use Rattle.queue.specs.Prelude.{◌≡◌, refl, ap, sym, ◌∙◌, Bool, true, false, cond, not, ◌||◌, none, some, ◌⊎◌, List, [], ◌∷◌, ℕ, ◌+◌, ◌-◌, ◌*◌, ◌/◌, ◌%◌, ◌^◌, ◌≤◌, ◌<◌, min, arith, mod-lt, min-eq_left, min-eq_right, min-le_left, ltb, leb, eqb, length, take, length-append, length-take, length-take-le, lt-ltb, le-ltb, ltb-false}
+use Rattle.std.specs.Prelude.{◌≡◌, refl, Bool, true, false, cond, not, ◌||◌, ◌⊎◌, List, [], ◌∷◌, ℕ, ◌+◌, ◌-◌, ◌*◌, ◌/◌, ◌%◌, ◌^◌, ◌≤◌, ◌<◌, min, ltb, leb, eqb, length, take}
+use Rattle.std.proofs.Common.{ap, sym, ◌∙◌, arith, mod-lt, length-append, length-take, length-take-le, lt-ltb, le-ltb, ltb-false}
+use Rattle.std.proofs.Math.Option.{none, some}
+use Rattle.std.proofs.Math.Nat.{min-eq_left, min-eq_right, min-le_left}
 use Rattle.queue.proofs.check.AreaLaws.{fit}
 use Rattle.queue.specs.check.NumbersAs.{above}
 use Rattle.queue.specs.Basics.{join_same, or_same, cons_same}

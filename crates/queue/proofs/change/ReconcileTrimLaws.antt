@@ -1,5 +1,6 @@
 -- Forgetting after a release is a filter by the floor. Assumes nothing.
-use Rattle.queue.specs.Prelude.{◌≡◌, refl, ap, sym, ◌∙◌, Bool, true, false, cond, not, ◌&&◌, ◌||◌, ◌⊎◌, List, [], ◌∷◌, ℕ, zero, suc, ◌+◌, ◌-◌, ◌≤◌, arith, ltb, leb, eqb, length, eq-eqb, ne_eqb}
+use Rattle.std.specs.Prelude.{◌≡◌, refl, Bool, true, false, cond, not, ◌&&◌, ◌||◌, ◌⊎◌, List, [], ◌∷◌, ℕ, zero, suc, ◌+◌, ◌-◌, ◌≤◌, ltb, leb, eqb, length}
+use Rattle.std.proofs.Common.{ap, sym, subst, ◌∙◌, arith, eq-eqb, ne_eqb}
 use Rattle.queue.specs.Codec.{cases, All}
 use Rattle.queue.specs.Lists.{Pairwise, all_map, and_true, sub_pairwise, total_same}
 use Rattle.queue.specs.bytes.ListLaws.{filter_sub, filter_total, sort_all, sort_total, sort_apart, map_pairwise}
@@ -74,8 +75,14 @@ module _ (m : Limits) (height window : ℕ) where
       let b' = b + length (content r.body) in
       let ids = releases m height window (seen + 1) b' l in
       cases (leb window (height - mined_height r) || (leb m.P seen || ltb m.B b'))
-      (λ t. let i = walk_once v (c + 1) (seen + 1) b' l h.1 in let j = others v c r ids l h.0 in rw (t, same_self r.id) (omega arith))
-      (λ t. let i = walk_once v c (seen + 1) b' l h.1 in let k = walk_other m height window r.id (seen + 1) b' l h.0 in rw (t, k) (omega arith))
+      (λ t. let e : releases m height window seen b (r ∷ l) ≡ r.id ∷ ids = rw t in
+      let i = walk_once v (c + 1) (seen + 1) b' l h.1 in
+      let j = others v c r ids l h.0 in
+      subst (λ z. total (λ r. numbered v c (place_in r.id z)) (r ∷ l) ≡ given v c (length z)) (sym e) (rw (same_self r.id) (omega arith)))
+      (λ t. let e : releases m height window seen b (r ∷ l) ≡ ids = rw t in
+      let i = walk_once v c (seen + 1) b' l h.1 in
+      let k = walk_other m height window r.id (seen + 1) b' l h.0 in
+      subst (λ z. total (λ r. numbered v c (place_in r.id z)) (r ∷ l) ≡ given v c (length z)) (sym e) (rw k (omega arith)))
 
   module _ (l : List Rec) (rising : Pairwise Before l) where
     abbrev walked : List Rec

@@ -1,5 +1,7 @@
 -- Reopening: lent ids, the listed, their rows, and the call exit by exit. Assumes nothing.
-use Rattle.queue.specs.Prelude.{◌≡◌, refl, ap, sym, ◌∙◌, Bool, true, false, cond, not, ◌&&◌, none, some, List, [], ◌∷◌, ◌++◌, append-nil, ℕ, zero, suc, ◌+◌, ◌-◌, ◌*◌, ◌/◌, ◌%◌, ◌^◌, ◌≤◌, ◌<◌, arith, add-zero, mod-lt, div-add-mod', ltb, eqb, length, drop, take, length-drop, take-append-drop, lt-ltb, le-ltb, eq-eqb, ne_eqb}
+use Rattle.std.specs.Prelude.{◌≡◌, refl, Bool, true, false, cond, not, ◌&&◌, List, [], ◌∷◌, ◌++◌, ℕ, zero, suc, ◌+◌, ◌-◌, ◌*◌, ◌/◌, ◌%◌, ◌^◌, ◌≤◌, ◌<◌, ltb, eqb, length, drop, take}
+use Rattle.std.proofs.Common.{ap, sym, ◌∙◌, append-nil, arith, add-zero, mod-lt, div-add-mod', length-drop, take-append-drop, lt-ltb, le-ltb, eq-eqb, ne_eqb}
+use Rattle.std.proofs.Math.Option.{none, some}
 use Rattle.queue.proofs.check.AreaLaws.{fit}
 use Rattle.queue.specs.Codec.{got, cases, encs, decs, vec_fwd}
 use Rattle.queue.specs.layout.FrameCodec.{id_c, rec_c}

@@ -1,5 +1,7 @@
 -- Whole areas written from an area. Assumes nothing.
-use Rattle.queue.specs.Prelude.{◌≡◌, refl, ap, sym, ◌∙◌, Bool, true, false, Option, none, some, List, [], ◌∷◌, ◌++◌, append_assoc, ℕ, ◌+◌, ◌≤◌, ◌<◌, arith, leb, length, drop, take, length-append, length-drop, drop-drop, take_at, drop_at, leb-true}
+use Rattle.std.specs.Prelude.{◌≡◌, refl, Bool, true, false, List, [], ◌∷◌, ◌++◌, ℕ, ◌+◌, ◌≤◌, ◌<◌, leb, length, drop, take}
+use Rattle.std.proofs.Common.{ap, sym, ◌∙◌, append_assoc, arith, length-append, length-drop, drop-drop, take_at, drop_at, leb-true}
+use Rattle.std.proofs.Math.Option.{Option, none, some}
 use Rattle.queue.specs.Basics.{length_eight}
 use Rattle.queue.specs.Codec as codec
 use Rattle.queue.specs.Codec.{All, be_c, be_length, opt_c, opt_enc, encs, vec_c}
@@ -19,7 +21,7 @@ use Rattle.queue.specs.layout.LimitsAs.{shares_long}
 use Rattle.queue.specs.change.WriteAs.{HeadIn, TipIs}
 use Rattle.queue.specs.theorems.Plain.{bytes_plain, limits_plain}
 use Rattle.queue.specs.paper.Records.{Bytes, Id, Limits, Rec, Queue}
-use Rattle.queue.specs.paper.Lists.{is_some, count}
+use Rattle.queue.specs.paper.Lists.{is_some}
 use Rattle.queue.specs.paper.Sound.{need, holder?, finish_right?, tombstones}
 use Rattle.queue.specs.paper.Calls.{numbers}
 use Rattle.queue.specs.paper.Kinds.{newest}

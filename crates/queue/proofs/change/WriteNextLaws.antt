@@ -1,5 +1,7 @@
 -- The bytes of a record after its verdict. Assumes nothing.
-use Rattle.queue.specs.Prelude.{◌≡◌, refl, ap, sym, ◌∙◌, Bool, false, cond, ◌&&◌, ◌||◌, none, some, [], ◌∷◌, ◌++◌, append_assoc, append-nil, ℕ, zero, suc, ◌+◌, ◌-◌, ◌^◌, ◌≤◌, ◌<◌, arith, le_of_suc-le-suc, eqb, length, take, drop, length-append, length-drop, take-append-drop, drop_of_length-le, drop-drop, take-take, take_all, length-take-le, eq-eqb, ne_eqb, eqb-true}
+use Rattle.std.specs.Prelude.{◌≡◌, refl, Bool, false, cond, ◌&&◌, ◌||◌, [], ◌∷◌, ◌++◌, ℕ, zero, suc, ◌+◌, ◌-◌, ◌^◌, ◌≤◌, ◌<◌, eqb, length, take, drop}
+use Rattle.std.proofs.Common.{ap, sym, ◌∙◌, append_assoc, append-nil, arith, le_of_suc-le-suc, length-append, length-drop, take-append-drop, drop_of_length-le, drop-drop, take-take, take_all, length-take-le, eq-eqb, ne_eqb, eqb-true}
+use Rattle.std.proofs.Math.Option.{none, some}
 use Rattle.queue.specs.Basics.{join_same, join_eight}
 use Rattle.queue.specs.Codec as codec
 use Rattle.queue.specs.Codec.{cases, be_c, encs, got}

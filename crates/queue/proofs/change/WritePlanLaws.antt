@@ -1,5 +1,7 @@
 -- An area written from an area and the rows of a plan: the loop over the rows, and the whole area. Assumes nothing.
-use Rattle.queue.specs.Prelude.{◌≡◌, refl, ap, sym, ◌∙◌, Bool, true, false, cond, not, ◌||◌, some, ◌⊎◌, List, [], ◌∷◌, ◌++◌, append-nil, ℕ, ◌+◌, ◌-◌, ◌%◌, ◌^◌, ◌≤◌, ◌<◌, arith, add-zero, mod-lt, add-one, ltb, leb, eqb, length, take, drop, get_or, replicate, length-append, length-drop, take-append-drop, drop_of_length-le, drop-cons, drop-drop, eq-eqb, ne_eqb}
+use Rattle.std.specs.Prelude.{◌≡◌, refl, Bool, true, false, cond, not, ◌||◌, ◌⊎◌, List, [], ◌∷◌, ◌++◌, ℕ, ◌+◌, ◌-◌, ◌%◌, ◌^◌, ◌≤◌, ◌<◌, ltb, leb, eqb, length, take, drop, get_or, replicate}
+use Rattle.std.proofs.Common.{ap, sym, ◌∙◌, append-nil, arith, add-zero, mod-lt, add-one, length-append, length-drop, take-append-drop, drop_of_length-le, drop-cons, drop-drop, eq-eqb, ne_eqb}
+use Rattle.std.proofs.Math.Option.{some}
 use Rattle.queue.proofs.check.AreaLaws.{fit, recs_here}
 use Rattle.queue.specs.check.AreaAs.{AreaIn}
 use Rattle.queue.specs.check.NumbersAs.{above}

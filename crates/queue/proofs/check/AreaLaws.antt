@@ -1,5 +1,8 @@
 -- A queue found in bytes or in a text: limits, counts, and each exit of its readers. Assumes nothing.
-use Rattle.queue.specs.Prelude.{◌≡◌, refl, ap, sym, ◌∙◌, Bool, true, false, cond, ◌&&◌, none, some, List, [], ◌∷◌, ℕ, ◌+◌, ◌-◌, ◌*◌, ◌≤◌, ◌<◌, arith, mul-le-mul, leb, length, drop, take, leb-true, le-leb, lt-leb, ◌++◌}
+use Rattle.std.specs.Prelude.{◌≡◌, refl, Bool, true, false, cond, ◌&&◌, List, [], ◌∷◌, ℕ, ◌+◌, ◌-◌, ◌*◌, ◌≤◌, ◌<◌, leb, length, drop, take, ◌++◌}
+use Rattle.std.proofs.Common.{ap, sym, ◌∙◌, arith, mul-le-mul, leb-true, le-leb}
+use Rattle.std.proofs.Math.Option.{none, some}
+use Rattle.std.proofs.lemmas.Bool.{lt-leb}
 use Rattle.queue.proofs.bytes.PutByteLaws.{between}
 use Rattle.queue.specs.theorems.SoundParts.{Fit, fit_of}
 use Rattle.queue.specs.Basics.{and_same}
@@ -18,7 +21,7 @@ use Rattle.queue.specs.check.ScanAs.{SumsAs, counts_n}
 use Rattle.queue.specs.check.AreaAs.{StoreAs, sound_l, sound_list, filled_by, FilledAs, AreaIs, records_of, AreaAs}
 use Rattle.queue.specs.paper.Ids.{rise?}
 use Rattle.queue.specs.paper.Records.{Bytes, Limits, Rec, Queue}
-use Rattle.queue.specs.paper.Lists.{all?, map, count}
+use Rattle.queue.specs.paper.Lists.{all?, map}
 use Rattle.queue.specs.paper.Sound.{in_range, need, holder?, holders, holder_bytes, mined_holders, mined_bytes, tombstones, right?, counts?, distinct?, apart?, read_apart?, sound?, shares_right?, limits_right?}
 use Rattle.queue.specs.declared.layout.frame.HeadR.{HeadR}
 use Rattle.queue.specs.declared.layout.frame.Form.{Form}

@@ -1,5 +1,11 @@
 -- The filter's laws, and the pass that uses it: inputs in one record only. Finish numbers by counts. Assumes nothing.
-use Rattle.queue.specs.Prelude.{◌≡◌, refl, ap, ap₂, sym, ◌∙◌, subst, Bool, true, false, cond, not, ◌&&◌, ◌||◌, List, [], ◌∷◌, ℕ, ◌+◌, ◌-◌, ◌*◌, ◌/◌, ◌%◌, ◌≤◌, ◌<◌, max, arith, mod-lt, max-le, le-max_left, le-max_right, le_antisymm, le_trans, eqb, ltb, bin_ind, digits_div, digits_mod, bit_or, or_step, or_self, or_comm, length, get_or, length-set, get_or-set_same, get_or-set_other, eqb-true, eqb-false, eq-eqb, ne_eqb, ltb-true, ltb-false}
+use Rattle.std.specs.Prelude.{◌≡◌, refl, Bool, true, false, cond, not, ◌&&◌, ◌||◌, List, [], ◌∷◌, ℕ, ◌+◌, ◌-◌, ◌*◌, ◌/◌, ◌%◌, ◌≤◌, ◌<◌, max, eqb, ltb, length, get_or}
+use Rattle.std.proofs.Common.{ap, ap₂, sym, ◌∙◌, subst, arith, mod-lt, le_antisymm, le_trans, length-set, get_or-set_same, get_or-set_other, eqb-true, eq-eqb, ne_eqb, ltb-true, ltb-false}
+use Rattle.std.proofs.Math.Nat.{max-le, le-max_left, le-max_right}
+use Rattle.std.proofs.Math.Arith.{bin_ind, digits_div, digits_mod}
+use Rattle.std.specs.Int.Bits.{bit_or, or_step, or_self}
+use Rattle.std.proofs.lemmas.Nat.{or_comm}
+use Rattle.std.proofs.lemmas.Bool.{eqb-false}
 use Rattle.queue.specs.Codec.{cases}
 use Rattle.queue.specs.Lists.{and_true}
 use Rattle.queue.specs.bytes.OrderLaws.{same_is, same_self, same_sym}

@@ -1,5 +1,6 @@
 -- The laws of a table of finish numbers: counting in it, equal neighbours, the search for the floor. Assumes nothing.
-use Rattle.queue.specs.Prelude.{◌≡◌, refl, ap, sym, ◌∙◌, Bool, true, false, cond, ◌⊎◌, inl, inr, List, [], ◌∷◌, ◌++◌, append_assoc, append-nil, ℕ, zero, suc, ◌+◌, ◌-◌, ◌≤◌, ◌<◌, arith, add-one, ltb, leb, eqb, length, take, drop, get_or, set, length-append, drop_of_length-le, drop-cons, take-suc-set, length-take-le, eqb-true, eq-eqb, ltb-true, ltb-false, lt-ltb, le-ltb, leb-true, leb-false}
+use Rattle.std.specs.Prelude.{◌≡◌, refl, Bool, true, false, cond, ◌⊎◌, List, [], ◌∷◌, ◌++◌, ℕ, zero, suc, ◌+◌, ◌-◌, ◌≤◌, ◌<◌, ltb, leb, eqb, length, take, drop, get_or, set}
+use Rattle.std.proofs.Common.{ap, sym, ◌∙◌, inl, inr, append_assoc, append-nil, arith, add-one, length-append, drop_of_length-le, drop-cons, take-suc-set, length-take-le, eqb-true, eq-eqb, ltb-true, ltb-false, lt-ltb, le-ltb, leb-true, leb-false}
 use Rattle.queue.specs.Codec.{cases, All}
 use Rattle.queue.specs.layout.FormsCodec.{rec_in_value, after_in_value}
 use Rattle.queue.specs.bytes.ReaderAs.{list_at}

@@ -1,6 +1,9 @@
 -- The laws of read ids: no record spends what another reads, by the ids that a record reads and does not spend; the loops that look for them. Assumes
 -- nothing.
-use Rattle.queue.specs.Prelude.{◌≡◌, refl, ap, sym, ◌∙◌, subst, Bool, true, false, not, ◌&&◌, ◌||◌, List, [], ◌∷◌, ℕ, zero, suc, ◌+◌, ◌-◌, ◌≤◌, ◌<◌, arith, eqb, length, drop, get_or, drop-nil, eqb-true, eqb-false, eq-eqb, leb-true}
+use Rattle.std.specs.Prelude.{◌≡◌, refl, Bool, true, false, not, ◌&&◌, ◌||◌, List, [], ◌∷◌, ℕ, zero, suc, ◌+◌, ◌-◌, ◌≤◌, ◌<◌, eqb, length, drop, get_or}
+use Rattle.std.proofs.Common.{ap, sym, ◌∙◌, subst, arith, eqb-true, eq-eqb, leb-true}
+use Rattle.std.proofs.Math.Seq.{drop-nil}
+use Rattle.std.proofs.lemmas.Bool.{eqb-false}
 use Rattle.queue.specs.Basics.{or_right}
 use Rattle.queue.specs.Codec.{cases}
 use Rattle.queue.specs.Lists.{and_true}

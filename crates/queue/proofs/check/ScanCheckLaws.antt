@@ -1,5 +1,6 @@
 -- The laws of the check's one pass: frames, counts, rules of one record and rising ids. Assumes nothing.
-use Rattle.queue.specs.Prelude.{◌≡◌, refl, ap, sym, ◌∙◌, Bool, true, false, not, ◌&&◌, ◌||◌, List, [], ◌∷◌, ℕ, ◌+◌, ◌-◌, ◌*◌, ◌≤◌, ◌<◌, arith, eqb, length}
+use Rattle.std.specs.Prelude.{◌≡◌, refl, Bool, true, false, not, ◌&&◌, ◌||◌, List, [], ◌∷◌, ℕ, ◌+◌, ◌-◌, ◌*◌, ◌≤◌, ◌<◌, eqb, length}
+use Rattle.std.proofs.Common.{ap, sym, ◌∙◌, arith}
 use Rattle.queue.specs.Basics.{and_assoc}
 use Rattle.queue.specs.layout.FrameCodec.{id_c}
 use Rattle.queue.specs.bytes.ViewAs.{view}

@@ -1,5 +1,9 @@
 -- Each loop's turn and end, over plain values. Assumes nothing.
-use Rattle.queue.specs.Prelude.{◌≡◌, refl, ap, sym, ◌∙◌, Bool, true, false, cond, ◌&&◌, List, ℕ, zero, suc, ◌+◌, ◌-◌, ◌≤◌, ◌<◌, arith, add-one, eqb, bit_or, or_add_and, and_le_l, and_le_r, length, drop, take, get_or, drop-cons, eq-eqb, ne_eqb, eqb-true, eqb-false}
+use Rattle.std.specs.Prelude.{◌≡◌, refl, Bool, true, false, cond, ◌&&◌, List, ℕ, zero, suc, ◌+◌, ◌-◌, ◌≤◌, ◌<◌, eqb, length, drop, take, get_or}
+use Rattle.std.proofs.Common.{ap, sym, ◌∙◌, arith, add-one, drop-cons, eq-eqb, ne_eqb, eqb-true}
+use Rattle.std.specs.Int.Bits.{bit_or, or_add_and}
+use Rattle.std.proofs.lemmas.Nat.{and_le_l, and_le_r}
+use Rattle.std.proofs.lemmas.Bool.{eqb-false}
 use Rattle.queue.specs.Codec.{cases}
 use Rattle.queue.specs.layout.FrameCodec.{rec_c, id_c}
 use Rattle.queue.specs.layout.FormsCodec.{form_c, after_in_value, ends_line_value, framed, rec_in_value}

@@ -1,5 +1,7 @@
 -- The laws of the suspects: what a look through the rows says of the records, the loops that gather rows. Assumes nothing.
-use Rattle.queue.specs.Prelude.{◌≡◌, refl, ap, sym, ◌∙◌, subst, Bool, true, false, not, ◌&&◌, ◌||◌, inl, inr, ⊎_elim, List, [], ◌∷◌, ◌++◌, ℕ, zero, suc, ◌+◌, ◌-◌, ◌≤◌, ◌<◌, arith, add-one, ltb, eqb, length, take, drop, get_or, set, length-drop, length-append, drop-drop, take_all, take_at, take-suc-set, length-take-le, eqb-true, eqb-false, ne_eqb, ltb-true, ltb-false, lt-ltb, leb-true, le-leb}
+use Rattle.std.specs.Prelude.{◌≡◌, refl, Bool, true, false, not, ◌&&◌, ◌||◌, List, [], ◌∷◌, ◌++◌, ℕ, zero, suc, ◌+◌, ◌-◌, ◌≤◌, ◌<◌, ltb, eqb, length, take, drop, get_or, set}
+use Rattle.std.proofs.Common.{ap, sym, ◌∙◌, subst, inl, inr, ⊎_elim, arith, add-one, length-drop, length-append, drop-drop, take_all, take_at, take-suc-set, length-take-le, eqb-true, ne_eqb, ltb-true, ltb-false, lt-ltb, leb-true, le-leb}
+use Rattle.std.proofs.lemmas.Bool.{eqb-false}
 use Rattle.queue.specs.Basics.{or_right, any_count}
 use Rattle.queue.specs.Codec.{cases, encs, byte_c, vec_c}
 use Rattle.queue.specs.bytes.Parts.{part}

@@ -1,5 +1,8 @@
 -- Laws of the readers of frames, as their proofs cite them. Assumes nothing.
-use Rattle.queue.specs.Prelude.{◌≡◌, refl, ap, sym, ◌∙◌, Bool, true, false, cond, not, ◌&&◌, ◌||◌, Option, none, some, List, [], ◌∷◌, ◌++◌, append_assoc, ℕ, zero, suc, ◌+◌, ◌*◌, ◌^◌, ◌≤◌, ◌<◌, arith, pow-le-pow_right, mul-le-mul, le_trans, le_of_lt, add-one, lit<, ltb, eqb, length, drop, take, get_or, length-append, length-drop, drop-cons, take_at, lt-ltb, eq-eqb, ne_eqb}
+use Rattle.std.specs.Prelude.{◌≡◌, refl, Bool, true, false, cond, not, ◌&&◌, ◌||◌, List, [], ◌∷◌, ◌++◌, ℕ, zero, suc, ◌+◌, ◌*◌, ◌^◌, ◌≤◌, ◌<◌, ltb, eqb, length, drop, take, get_or}
+use Rattle.std.proofs.Common.{ap, sym, ◌∙◌, append_assoc, arith, mul-le-mul, le_trans, le_of_lt, add-one, lit<, length-append, length-drop, drop-cons, take_at, lt-ltb, eq-eqb, ne_eqb}
+use Rattle.std.proofs.Math.Option.{Option, none, some}
+use Rattle.std.proofs.Math.Nat.{pow-le-pow_right}
 use Rattle.queue.specs.Codec.{Bytes, fail, got, Codec, cases, byte_c, be, be_c, pair_c, map_c, opt_enc, opt_c, decs, vec_c, counted_c, encs, vec_bwd}
 use Rattle.queue.specs.paper.Records.{Id, Limits, Held, Rec}
 use Rattle.queue.specs.layout.FrameCodec.{tag_c, tag_dec, id_c, label_c, widen, low32, Narrow, widen_low, low_widen, narrow_c, terms_k, terms_of, terms_tuple, held_k, held_of, held_tuple, body_k, place_c, mark_since, mark_c, rest_k, rec_k, rec_of, rec_tuple, Four, four_c, sixteen_c, shares_c, limits_from, limits_tuple, limits_k, head_k, head_of, head_tuple, spans_id}

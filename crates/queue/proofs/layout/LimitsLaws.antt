@@ -1,5 +1,7 @@
 -- The sixteen shares as their bytes: read, written, compared, one of them. Assumes nothing.
-use Rattle.queue.specs.Prelude.{◌≡◌, refl, ap, sym, ◌∙◌, Bool, true, false, ◌&&◌, List, [], ◌∷◌, ◌++◌, append-nil, ℕ, zero, suc, ◌+◌, ◌-◌, ◌*◌, ◌/◌, ◌^◌, ◌≤◌, ◌<◌, arith, le_of_suc-le-suc, leb, length, take, drop, get_or, replicate, length-take, length-drop, length-append, drop_of_length-le, drop-drop, take_at, drop_at, take-take, take_all, get_or-take, get_or-drop, lt-leb, le-leb}
+use Rattle.std.specs.Prelude.{◌≡◌, refl, Bool, true, false, ◌&&◌, List, [], ◌∷◌, ◌++◌, ℕ, zero, suc, ◌+◌, ◌-◌, ◌*◌, ◌/◌, ◌^◌, ◌≤◌, ◌<◌, leb, length, take, drop, get_or, replicate}
+use Rattle.std.proofs.Common.{ap, sym, ◌∙◌, append-nil, arith, le_of_suc-le-suc, length-take, length-drop, length-append, drop_of_length-le, drop-drop, take_at, drop_at, take-take, take_all, get_or-take, get_or-drop, le-leb}
+use Rattle.std.proofs.lemmas.Bool.{lt-leb}
 use Rattle.queue.specs.Codec as codec
 use Rattle.queue.specs.Codec.{got, All, all_append, be_c, decs, encs, vec_c, vec_bwd, be_length}
 use Rattle.queue.specs.layout.Choice.{fix_c}

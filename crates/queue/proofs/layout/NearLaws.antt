@@ -1,5 +1,6 @@
 -- The laws of the readers near a frame's start. Assumes nothing.
-use Rattle.queue.specs.Prelude.{◌≡◌, refl, sym, Bool, true, false, ◌&&◌, ℕ, ◌+◌, ◌-◌, ◌≤◌, arith, length}
+use Rattle.std.specs.Prelude.{◌≡◌, refl, Bool, true, false, ◌&&◌, ℕ, ◌+◌, ◌-◌, ◌≤◌, length}
+use Rattle.std.proofs.Common.{sym, arith}
 use Rattle.queue.specs.bytes.ReaderAs.{Span, Counted}
 use Rattle.queue.specs.bytes.ReaderLaws.{SmallAt, be_at, false_true}
 use Rattle.queue.specs.layout.FrameAs.{NumAt}

@@ -1,5 +1,6 @@
 -- The search for an id among lent ids that rise. Assumes nothing.
-use Rattle.queue.specs.Prelude.{◌≡◌, refl, ap, sym, ◌∙◌, true, false, List, [], ◌∷◌, ◌++◌, append_assoc, ℕ, zero, suc, ◌+◌, ◌*◌, ◌≤◌, ◌<◌, arith, le_of_suc-le-suc, ltb, length, take, drop, get_or, length-append, take_at, drop_at, drop-drop, ltb-true, ltb-false, eqb-true, eq-eqb, ne_eqb}
+use Rattle.std.specs.Prelude.{◌≡◌, refl, true, false, List, [], ◌∷◌, ◌++◌, ℕ, zero, suc, ◌+◌, ◌*◌, ◌≤◌, ◌<◌, ltb, length, take, drop, get_or}
+use Rattle.std.proofs.Common.{ap, sym, ◌∙◌, append_assoc, arith, le_of_suc-le-suc, length-append, take_at, drop_at, drop-drop, ltb-true, ltb-false, eqb-true, eq-eqb, ne_eqb}
 use Rattle.queue.specs.Codec.{Got, fail, got, All, decs, vec_bwd, vec_c, cases}
 use Rattle.queue.specs.Lists.{and_true}
 use Rattle.queue.specs.bytes.OrderLaws.{cmp_flip, below_trans}

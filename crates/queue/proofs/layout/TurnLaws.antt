@@ -1,5 +1,6 @@
 -- One law for every loop over encoded values. F st l is what the loop has still to work out, from the state st on over l. Assumes nothing.
-use Rattle.queue.specs.Prelude.{◌≡◌, refl, ap, sym, ◌∙◌, Bool, true, List, [], ◌∷◌, ℕ, ◌-◌, ◌≤◌, ◌<◌, arith, le_refl, length, ◌++◌, append_assoc}
+use Rattle.std.specs.Prelude.{◌≡◌, refl, Bool, true, List, [], ◌∷◌, ℕ, ◌-◌, ◌≤◌, ◌<◌, length, ◌++◌}
+use Rattle.std.proofs.Common.{ap, sym, ◌∙◌, arith, le_refl, append_assoc}
 use Rattle.queue.specs.Codec.{Bytes, Codec, encs}
 use Rattle.queue.specs.bytes.ReaderAs.{Reads, whole, list_at}
 use Rattle.queue.specs.bytes.ReaderLaws.{Turn, turn, none_left}

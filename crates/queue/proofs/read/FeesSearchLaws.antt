@@ -1,5 +1,6 @@
 -- The walk over masks is the walk over lists of places; the number of a set gives the set back. Assumes nothing.
-use Rattle.queue.specs.Prelude.{◌≡◌, refl, ap, sym, ◌∙◌, true, false, List, [], ◌∷◌, ◌++◌, ℕ, zero, suc, ◌+◌, ◌-◌, ◌^◌, ◌≤◌, ◌<◌, arith, add-one, ltb, leb, length, lt-ltb, le-ltb}
+use Rattle.std.specs.Prelude.{◌≡◌, refl, true, false, List, [], ◌∷◌, ◌++◌, ℕ, zero, suc, ◌+◌, ◌-◌, ◌^◌, ◌≤◌, ◌<◌, ltb, leb, length}
+use Rattle.std.proofs.Common.{ap, sym, ◌∙◌, arith, add-one, lt-ltb, le-ltb}
 use Rattle.queue.specs.Codec.{cases}
 use Rattle.queue.specs.paper.Lists.{total}
 use Rattle.queue.specs.paper.Fees.{Best, best_fees_value}

@@ -1,5 +1,8 @@
 -- The steps of the walk over places, and of its loop, as laws over plain numbers. Assumes nothing.
-use Rattle.queue.specs.Prelude.{◌≡◌, ap, sym, ◌∙◌, List, [], ◌∷◌, ℕ, zero, suc, ◌+◌, ◌-◌, ◌^◌, ◌≤◌, ◌<◌, max, arith, pow-suc, pow-le-pow_right, length, lt-ltb, le-ltb, le-leb, lt-leb}
+use Rattle.std.specs.Prelude.{◌≡◌, List, [], ◌∷◌, ℕ, zero, suc, ◌+◌, ◌-◌, ◌^◌, ◌≤◌, ◌<◌, max, length}
+use Rattle.std.proofs.Common.{ap, sym, ◌∙◌, arith, pow-suc, lt-ltb, le-ltb, le-leb}
+use Rattle.std.proofs.Math.Nat.{pow-le-pow_right}
+use Rattle.std.proofs.lemmas.Bool.{lt-leb}
 use Rattle.queue.specs.paper.Lists.{total}
 use Rattle.queue.specs.read.fees.Walk.{fitting}
 use Rattle.queue.specs.read.fees.Claims.{fitting_small}

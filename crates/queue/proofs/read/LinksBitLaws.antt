@@ -1,5 +1,10 @@
 -- The bits of words: joined, moved up, one taken away; the lines of rows, the rows that a line names. Assumes nothing.
-use Rattle.queue.specs.Prelude.{◌≡◌, refl, ap, ap₂, sym, ◌∙◌, Bool, true, false, cond, not, ◌&&◌, ◌||◌, List, ◌∷◌, ℕ, zero, suc, ◌+◌, ◌-◌, ◌*◌, ◌/◌, ◌%◌, ◌^◌, ◌≤◌, ◌<◌, max, arith, le_of_suc-le-suc, pow-suc, mod-lt, div-add-mod', div-lt_iff_lt-mul, mul_comm, add-zero, suc-mul, mul-le-mul_right, add-one, ltb, leb, eqb, digits_div, digits_mod, bit_or, length, get_or, set, get_or-set_same, get_or-set_other, eqb-true, eqb-false, eq-eqb, ne_eqb, ltb-true, ltb-false, lt-ltb, le-ltb, leb-true, leb-false, le-leb, lt-leb, block_half, block_odd, shifted_half, pow-succ', div-one, div-div-eq-div-mul}
+use Rattle.std.specs.Prelude.{◌≡◌, refl, Bool, true, false, cond, not, ◌&&◌, ◌||◌, List, ◌∷◌, ℕ, zero, suc, ◌+◌, ◌-◌, ◌*◌, ◌/◌, ◌%◌, ◌^◌, ◌≤◌, ◌<◌, max, ltb, leb, eqb, length, get_or, set}
+use Rattle.std.proofs.Common.{ap, ap₂, sym, ◌∙◌, arith, le_of_suc-le-suc, pow-suc, mod-lt, div-add-mod', div-lt_iff_lt-mul, mul_comm, add-zero, suc-mul, mul-le-mul_right, add-one, get_or-set_same, get_or-set_other, eqb-true, eq-eqb, ne_eqb, ltb-true, ltb-false, lt-ltb, le-ltb, leb-true, leb-false, le-leb, div-one}
+use Rattle.std.proofs.Math.Arith.{digits_div, digits_mod}
+use Rattle.std.proofs.Math.Nat.{pow-succ', div-div-eq-div-mul}
+use Rattle.std.specs.Int.Bits.{bit_or, block_half, block_odd, shifted_half}
+use Rattle.std.proofs.lemmas.Bool.{eqb-false, lt-leb}
 use Rattle.queue.specs.Basics.{any_append, or_assoc}
 use Rattle.queue.specs.Codec.{cases}
 use Rattle.queue.specs.bytes.ReaderLaws.{false_true}

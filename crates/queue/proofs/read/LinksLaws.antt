@@ -1,5 +1,9 @@
 -- Rows for what records want, in slots and in a table, and the bits that come of them. Assumes nothing.
-use Rattle.queue.specs.Prelude.{◌≡◌, refl, ap, sym, ◌∙◌, Bool, true, false, not, ◌&&◌, ◌||◌, List, [], ◌∷◌, ◌++◌, ℕ, zero, suc, ◌+◌, ◌-◌, ◌/◌, ◌%◌, ◌≤◌, ◌<◌, arith, le_of_suc-le-suc, add-one, mod-lt, bit_or, ltb, leb, eqb, length, drop, take, get_or, set, length-set, length-take, List·getD-eq-default, drop-drop, drop-set-lt, get_or-set_same, get_or-set_other, take-suc, take-suc-set, take_all, get_or-take, eqb-true, eqb-false, eq-eqb, ltb-true, ltb-false, lt-ltb, le-ltb, leb-true, le-leb, lt-leb, not-true, not-false}
+use Rattle.std.specs.Prelude.{◌≡◌, refl, Bool, true, false, not, ◌&&◌, ◌||◌, List, [], ◌∷◌, ◌++◌, ℕ, zero, suc, ◌+◌, ◌-◌, ◌/◌, ◌%◌, ◌≤◌, ◌<◌, ltb, leb, eqb, length, drop, take, get_or, set}
+use Rattle.std.proofs.Common.{ap, sym, ◌∙◌, arith, le_of_suc-le-suc, add-one, mod-lt, length-set, length-take, drop-drop, drop-set-lt, get_or-set_same, get_or-set_other, take-suc, take-suc-set, take_all, get_or-take, eqb-true, eq-eqb, ltb-true, ltb-false, lt-ltb, le-ltb, leb-true, le-leb}
+use Rattle.std.proofs.Math.ListN.{get_or-eq_default as List·getD-eq-default}
+use Rattle.std.specs.Int.Bits.{bit_or}
+use Rattle.std.proofs.lemmas.Bool.{eqb-false, lt-leb, not-true, not-false}
 use Rattle.queue.specs.Basics.{among_append, any_append, or_assoc, or_same, join_same, and_or, and_off, or_and, any_at, any_same}
 use Rattle.queue.specs.Codec.{All, cases}
 use Rattle.queue.specs.bytes.Parts.{part}

@@ -1,5 +1,12 @@
 -- Numbers of rows, which name some of 16 records, and the bits that come of one. Assumes nothing.
-use Rattle.queue.specs.Prelude.{◌≡◌, refl, ap, sym, ◌∙◌, Bool, true, false, not, ◌&&◌, ◌||◌, List, ℕ, zero, suc, ◌+◌, ◌-◌, ◌*◌, ◌/◌, ◌%◌, ◌^◌, ◌≤◌, ◌<◌, arith, mod-lt, div-add-mod', div-div-eq-div-mul, mul-le-mul, ltb, eqb, digits_div, digits_mod, bit_or, or_self, or_zero_r, pow_pos, length, get_or, set, length-set, eqb-true, eqb-false, eq-eqb, ne_eqb, ltb-true, ltb-false, div-eq_of_lt, mod-eq_of_lt, or_shr, or_mod, pow-lt, pow_mono}
+use Rattle.std.specs.Prelude.{◌≡◌, refl, Bool, true, false, not, ◌&&◌, ◌||◌, List, ℕ, zero, suc, ◌+◌, ◌-◌, ◌*◌, ◌/◌, ◌%◌, ◌^◌, ◌≤◌, ◌<◌, ltb, eqb, length, get_or, set}
+use Rattle.std.proofs.Common.{ap, sym, ◌∙◌, arith, mod-lt, div-add-mod', mul-le-mul, pow_pos, length-set, eqb-true, eq-eqb, ne_eqb, ltb-true, ltb-false, mod-eq_of_lt, pow_mono}
+use Rattle.std.proofs.Math.Nat.{div-div-eq-div-mul, div-eq_of_lt}
+use Rattle.std.proofs.Math.Arith.{digits_div, digits_mod}
+use Rattle.std.proofs.Math.Pow.{pow-lt}
+use Rattle.std.specs.Int.Bits.{bit_or, or_self, or_zero_r}
+use Rattle.std.proofs.lemmas.Bool.{eqb-false}
+use Rattle.std.proofs.lemmas.Nat.{or_shr, or_mod}
 use Rattle.queue.specs.Basics.{and_or}
 use Rattle.queue.specs.Codec.{cases}
 use Rattle.queue.specs.check.SuspectsAs.{no_r}

@@ -1,5 +1,13 @@
 -- The counters' loops, and that the list they make is the parents_first order. Assumes nothing.
-use Rattle.queue.specs.Prelude.{◌≡◌, refl, ap, sym, ◌∙◌, subst, Bool, true, false, cond, not, ◌&&◌, ◌||◌, some, List, [], ◌∷◌, ◌++◌, append_assoc, append-nil, ℕ, zero, suc, ◌+◌, ◌-◌, ◌*◌, ◌/◌, ◌%◌, ◌^◌, ◌≤◌, ◌<◌, arith, pow-suc, pow-succ', pow_pos, div-one, div-add-mod', div-div-eq-div-mul, digits_mod, add-zero, suc-mul, zero-mul, mul-le-mul_right, mul_comm, le_of_suc-le-suc, div-lt_iff_lt-mul, add-one, ltb, eqb, length, take, drop, get_or, set, replicate, length-set, length-append, length-replicate, get_or-replicate, take-append-drop, get_or-set_same, get_or-set_other, set_out, set-get_or, take-suc-set, ext_get_or, length-take-le, eqb-true, eqb-false, eq-eqb, ne_eqb, ltb-true, ltb-false, lt-ltb, le-ltb, not-true, not-false, block_half, block_odd}
+use Rattle.std.specs.Prelude.{◌≡◌, refl, Bool, true, false, cond, not, ◌&&◌, ◌||◌, List, [], ◌∷◌, ◌++◌, ℕ, zero, suc, ◌+◌, ◌-◌, ◌*◌, ◌/◌, ◌%◌, ◌^◌, ◌≤◌, ◌<◌, ltb, eqb, length, take, drop, get_or, set, replicate}
+use Rattle.std.proofs.Common.{ap, sym, ◌∙◌, subst, append_assoc, append-nil, arith, pow-suc, pow_pos, div-one, div-add-mod', add-zero, suc-mul, zero-mul, mul-le-mul_right, mul_comm, le_of_suc-le-suc, div-lt_iff_lt-mul, add-one, length-set, length-append, take-append-drop, get_or-set_same, get_or-set_other, take-suc-set, ext_get_or, length-take-le, eqb-true, eq-eqb, ne_eqb, ltb-true, ltb-false, lt-ltb, le-ltb}
+use Rattle.std.proofs.Math.Option.{some}
+use Rattle.std.proofs.Math.Nat.{pow-succ', div-div-eq-div-mul}
+use Rattle.std.proofs.Math.Arith.{digits_mod}
+use Rattle.std.proofs.Math.Seq.{set_out}
+use Rattle.std.proofs.lemmas.List.{length-replicate, get_or-replicate, set-get_or}
+use Rattle.std.proofs.lemmas.Bool.{eqb-false, not-true, not-false}
+use Rattle.std.specs.Int.Bits.{block_half, block_odd}
 use Rattle.queue.specs.Basics.{cons_same, any_same}
 use Rattle.queue.specs.Codec as codec
 use Rattle.queue.specs.Codec.{All, cases}

@@ -1,5 +1,8 @@
 -- The reading calls: a search by id, what was looked up, and each exit. Assumes nothing.
-use Rattle.queue.specs.Prelude.{◌≡◌, refl, ap, sym, ◌∙◌, Bool, true, false, ◌&&◌, ◌||◌, Option, none, some, List, [], ◌∷◌, ◌++◌, append_assoc, ℕ, ◌+◌, ◌-◌, ◌*◌, ◌^◌, ◌≤◌, ◌<◌, arith, zero-add, ltb, leb, eqb, length, drop, take, length-append, length-drop, drop-drop, take_all, take_at, drop_at, drop-append-le, length-take-le, eq-eqb, ne_eqb, lt-ltb, le-ltb}
+use Rattle.std.specs.Prelude.{◌≡◌, refl, Bool, true, false, ◌&&◌, ◌||◌, List, [], ◌∷◌, ◌++◌, ℕ, ◌+◌, ◌-◌, ◌*◌, ◌^◌, ◌≤◌, ◌<◌, ltb, leb, eqb, length, drop, take}
+use Rattle.std.proofs.Common.{ap, sym, ◌∙◌, append_assoc, arith, zero-add, length-append, length-drop, drop-drop, take_all, take_at, drop_at, length-take-le, eq-eqb, ne_eqb, lt-ltb, le-ltb}
+use Rattle.std.proofs.Math.Option.{Option, none, some}
+use Rattle.std.proofs.lemmas.List.{drop-append-le}
 use Rattle.queue.specs.theorems.Bound.{bytes_most, number_most, place_most}
 use Rattle.queue.specs.Codec as codec
 use Rattle.queue.specs.Codec.{cases, Got, fail, got, decs, encs, be_c, pair_c, map_c, opt_c, vec_c, counted_c, vec_bwd}
@@ -39,7 +42,7 @@ use Rattle.queue.specs.declared.read.reading.Looked.{Looked}
 use Rattle.queue.specs.declared.read.reading.Place.{Place}
 use Rattle.queue.proofs.bytes.PutLaws.{length_be, recast, put_over}
 use Rattle.queue.proofs.bytes.PutByteLaws.{be_same, between}
-use Rattle.queue.proofs.layout.TurnLaws.{Scan, start, on, stop, end, SeenIn, ReadsRec, seen, see}
+use Rattle.queue.proofs.layout.TurnLaws.{Scan, on, stop, end, SeenIn, ReadsRec, seen, see}
 
 -- ---- what values say of each other
 some_same : {A : Type 0} {a b : A} → some a ≡ some b → a ≡ b

@@ -1,5 +1,7 @@
 -- Laws of the paper's list functions: map, filter, find, insert, sort, count, total.
-use Rattle.queue.specs.Prelude.{◌≡◌, refl, sym, ◌∙◌, Bool, true, false, cond, not, ◌&&◌, none, some, List, [], ◌∷◌, ℕ, ◌+◌, ◌≤◌, arith, length, ◌≢◌}
+use Rattle.std.specs.Prelude.{◌≡◌, refl, Bool, true, false, cond, not, ◌&&◌, List, [], ◌∷◌, ℕ, ◌+◌, ◌≤◌, length, ◌≢◌}
+use Rattle.std.proofs.Common.{sym, ◌∙◌, arith}
+use Rattle.std.proofs.Math.Option.{some}
 use Rattle.queue.specs.Codec.{cases, cond_cases, All}
 use Rattle.queue.specs.Lists.{Pairwise, Sub, done, keep, skip, all_map}
 use Rattle.queue.specs.bytes.ReaderLaws.{false_true}

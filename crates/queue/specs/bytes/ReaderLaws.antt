@@ -1,5 +1,7 @@
 -- The laws by which readers are put together.
-use Rattle.queue.specs.Prelude.{◌≡◌, refl, ap, sym, ◌∙◌, Bool, true, false, ◌&&◌, Option, none, some, List, [], ◌∷◌, ℕ, zero, suc, ◌+◌, ◌-◌, ◌*◌, ◌^◌, ◌≤◌, ◌<◌, arith, add_assoc, add-zero, add-suc, pow-suc, zero-mul, suc-mul, add-one, length, drop, get_or, length-drop, length-append, drop-cons, lt-ltb, ◌++◌}
+use Rattle.std.specs.Prelude.{◌≡◌, refl, Bool, true, false, ◌&&◌, List, [], ◌∷◌, ℕ, zero, suc, ◌+◌, ◌-◌, ◌*◌, ◌^◌, ◌≤◌, ◌<◌, length, drop, get_or, ◌++◌}
+use Rattle.std.proofs.Common.{ap, sym, ◌∙◌, arith, add_assoc, add-zero, add-suc, pow-suc, zero-mul, suc-mul, add-one, length-drop, length-append, drop-cons, lt-ltb}
+use Rattle.std.proofs.Math.Option.{Option, none, some}
 use Rattle.queue.specs.Codec.{Bytes, Got, fail, got, ◌>>=◌, bind_got, Codec, cases, byte_dec, byte_c, be_dec, be_c, pair_dec, pair_c, map_c, opt_dec, opt_c, decs, vec_c, counted_c, All, encs, be_length, vec_bwd}
 use Rattle.queue.specs.bytes.ReaderAs.{Reads, Span, flag_dec, flag_c, Counted, OptSpan, is_got, val_of, rest_of, whole, list_at, behind}
 

@@ -1,5 +1,6 @@
 -- Admission as the code goes, and what its parts ask and say.
-use Rattle.queue.specs.Prelude.{◌≡◌, Bool, true, false, cond, ◌&&◌, ◌||◌, Option, some, List, [], ℕ, ◌+◌, ◌/◌, ◌%◌, ◌^◌, ◌≤◌, ◌<◌, ltb, leb, eqb, length}
+use Rattle.std.specs.Prelude.{◌≡◌, Bool, true, false, cond, ◌&&◌, ◌||◌, List, [], ℕ, ◌+◌, ◌/◌, ◌%◌, ◌^◌, ◌≤◌, ◌<◌, ltb, leb, eqb, length}
+use Rattle.std.proofs.Math.Option.{Option, some}
 use Rattle.queue.specs.Codec.{opt_c}
 use Rattle.queue.specs.layout.FrameCodec.{Head, id_c}
 use Rattle.queue.specs.bytes.ViewAs.{view}

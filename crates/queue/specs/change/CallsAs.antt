@@ -1,5 +1,6 @@
 -- What the parts of the changing calls ask and say.
-use Rattle.queue.specs.Prelude.{◌≡◌, Bool, true, false, cond, some, List, [], ◌++◌, ℕ, ◌+◌, ◌-◌, take, drop}
+use Rattle.std.specs.Prelude.{◌≡◌, Bool, true, false, cond, List, [], ◌++◌, ℕ, ◌+◌, ◌-◌, take, drop}
+use Rattle.std.proofs.Math.Option.{some}
 use Rattle.queue.specs.bytes.PutAs.{be_last}
 use Rattle.queue.specs.layout.FrameCodec.{rec_c}
 use Rattle.queue.specs.bytes.ViewAs.{view}

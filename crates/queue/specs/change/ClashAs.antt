@@ -1,5 +1,5 @@
 -- Lent ids in a table of rows: is an id one of them, and does a record spend or read one?
-use Rattle.queue.specs.Prelude.{◌≡◌, Bool, false, cond, List, ℕ, ◌≤◌, ◌<◌, length, get_or, ◌≢◌}
+use Rattle.std.specs.Prelude.{◌≡◌, Bool, false, cond, List, ℕ, ◌≤◌, ◌<◌, length, get_or, ◌≢◌}
 use Rattle.queue.specs.check.SuspectsAs.{id_r}
 use Rattle.queue.specs.change.ReopenAs.{ids_at}
 use Rattle.queue.specs.paper.Records.{Bytes, Id, Rec}

@@ -1,5 +1,5 @@
 -- Finishing and forgetting, as the code goes.
-use Rattle.queue.specs.Prelude.{◌≡◌, Bool, false, List, ℕ, ltb, leb, eqb}
+use Rattle.std.specs.Prelude.{◌≡◌, Bool, false, List, ℕ, ltb, leb, eqb}
 use Rattle.queue.specs.Codec.{All}
 use Rattle.queue.specs.check.RulesAs.{due_f}
 use Rattle.queue.specs.paper.Records.{Id, Rec}

@@ -1,5 +1,5 @@
 -- What is lent to a reconciliation, and what is known of it once it was checked.
-use Rattle.queue.specs.Prelude.{◌≡◌, Bool, true, ◌&&◌, ℕ, ◌/◌, length, take}
+use Rattle.std.specs.Prelude.{◌≡◌, Bool, true, ◌&&◌, ℕ, ◌/◌, length, take}
 use Rattle.queue.specs.theorems.Arguments.{Small}
 use Rattle.queue.specs.change.ReopenAs.{IdsRise, ids_at}
 use Rattle.queue.specs.change.TouchAs.{applied_in, EntriesRise}

@@ -1,5 +1,5 @@
 -- Which wanted ids are owned, as the code goes: a flag for each of them, of all records, and rows of outputs.
-use Rattle.queue.specs.Prelude.{◌≡◌, Bool, true, false, cond, ◌||◌, List, [], ◌∷◌, ◌++◌, ℕ, zero, suc, ◌+◌, ◌*◌, ◌/◌, ◌%◌, ◌≤◌, ◌<◌, eqb, length, take, drop, set}
+use Rattle.std.specs.Prelude.{◌≡◌, Bool, true, false, cond, ◌||◌, List, [], ◌∷◌, ◌++◌, ℕ, zero, suc, ◌+◌, ◌*◌, ◌/◌, ◌%◌, ◌≤◌, ◌<◌, eqb, length, take, drop, set}
 use Rattle.queue.specs.check.FilterAs.{hash_l, marked, mark_l}
 use Rattle.queue.specs.check.SuspectsAs.{later, Shuffled}
 use Rattle.queue.specs.layout.FrameCodec.{id_c}

@@ -1,5 +1,6 @@
 -- What becomes of an area's records: a row for each record that changes, by rising places, and the records that come of the rows.
-use Rattle.queue.specs.Prelude.{◌≡◌, Bool, cond, ◌&&◌, ◌||◌, Option, none, some, ◌⊎◌, List, [], ◌∷◌, ◌++◌, ℕ, ◌+◌, ◌-◌, ◌*◌, ◌/◌, ◌%◌, ◌≤◌, ◌<◌, leb, eqb, length, take, drop, get_or}
+use Rattle.std.specs.Prelude.{◌≡◌, Bool, cond, ◌&&◌, ◌||◌, ◌⊎◌, List, [], ◌∷◌, ◌++◌, ℕ, ◌+◌, ◌-◌, ◌*◌, ◌/◌, ◌%◌, ◌≤◌, ◌<◌, leb, eqb, length, take, drop, get_or}
+use Rattle.std.proofs.Math.Option.{Option, none, some}
 use Rattle.queue.specs.check.AreaAs.{AreaIn}
 use Rattle.queue.specs.layout.FrameAs.{terms_at, facts_of, limits_in}
 use Rattle.queue.specs.bytes.PutAs.{be_last}

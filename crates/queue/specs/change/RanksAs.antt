@@ -1,5 +1,5 @@
 -- The ranks of the released, and the records after a reconciliation.
-use Rattle.queue.specs.Prelude.{◌≡◌, false, cond, List, ℕ, ◌+◌, ◌<◌, eqb, length, get_or}
+use Rattle.std.specs.Prelude.{◌≡◌, false, cond, List, ℕ, ◌+◌, ◌<◌, eqb, length, get_or}
 use Rattle.queue.specs.read.SelectAs.{id_at}
 use Rattle.queue.specs.check.SuspectsAs.{id_r, no_r, Shuffled, InOrder}
 use Rattle.queue.specs.change.ReleaseAs.{next_l}

@@ -1,5 +1,6 @@
 -- Reconciliation as the code goes, and what its parts ask and say.
-use Rattle.queue.specs.Prelude.{◌≡◌, Bool, false, cond, not, ◌||◌, some, ◌⊎◌, List, ◌∷◌, ◌++◌, ℕ, ◌+◌, ◌≤◌, min, ltb, leb, length, ◌≢◌}
+use Rattle.std.specs.Prelude.{◌≡◌, Bool, false, cond, not, ◌||◌, ◌⊎◌, List, ◌∷◌, ◌++◌, ℕ, ◌+◌, ◌≤◌, min, ltb, leb, length, ◌≢◌}
+use Rattle.std.proofs.Math.Option.{some}
 use Rattle.queue.specs.check.NumbersAs.{above}
 use Rattle.queue.specs.layout.FrameCodec.{rec_c}
 use Rattle.queue.specs.bytes.ReaderAs.{list_at}

@@ -1,5 +1,6 @@
 -- Reopening as the code goes, and what its parts ask and say.
-use Rattle.queue.specs.Prelude.{◌≡◌, Bool, true, false, cond, ◌&&◌, some, List, [], ℕ, ◌≤◌, eqb, length}
+use Rattle.std.specs.Prelude.{◌≡◌, Bool, true, false, cond, ◌&&◌, List, [], ℕ, ◌≤◌, eqb, length}
+use Rattle.std.proofs.Math.Option.{some}
 use Rattle.queue.specs.layout.FrameCodec.{id_c}
 use Rattle.queue.specs.bytes.ViewAs.{view}
 use Rattle.queue.specs.bytes.ReaderAs.{whole, list_at}

@@ -1,5 +1,6 @@
 -- What a reconciliation makes of one record, as the code goes.
-use Rattle.queue.specs.Prelude.{◌≡◌, Bool, true, false, cond, not, ◌&&◌, Option, none, some, List, [], ◌∷◌, ◌++◌, ℕ, ◌+◌, ◌*◌, ◌/◌, ◌%◌, ◌≤◌, eqb, length, take, drop}
+use Rattle.std.specs.Prelude.{◌≡◌, Bool, true, false, cond, not, ◌&&◌, List, [], ◌∷◌, ◌++◌, ℕ, ◌+◌, ◌*◌, ◌/◌, ◌%◌, ◌≤◌, eqb, length, take, drop}
+use Rattle.std.proofs.Math.Option.{Option, none, some}
 use Rattle.queue.specs.layout.FrameCodec.{rec_c}
 use Rattle.queue.specs.bytes.ViewAs.{view}
 use Rattle.queue.specs.layout.FormsCodec.{form_c}

@@ -1,5 +1,6 @@
 -- What is asked of and said by the functions that write a whole area from an area.
-use Rattle.queue.specs.Prelude.{◌≡◌, Bool, true, false, some, ℕ, ◌+◌, ◌%◌, ◌^◌, ◌≤◌, ◌<◌, length}
+use Rattle.std.specs.Prelude.{◌≡◌, Bool, true, false, ℕ, ◌+◌, ◌%◌, ◌^◌, ◌≤◌, ◌<◌, length}
+use Rattle.std.proofs.Math.Option.{some}
 use Rattle.queue.specs.Codec.{All, opt_c}
 use Rattle.queue.specs.layout.FrameCodec.{Head, id_c, rec_c}
 use Rattle.queue.specs.bytes.ReaderAs.{list_at}

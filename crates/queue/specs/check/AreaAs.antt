@@ -1,5 +1,6 @@
 -- What a queue that was read from bytes or from a text says of the queue.
-use Rattle.queue.specs.Prelude.{◌≡◌, refl, Bool, true, false, ◌&&◌, none, some, List, [], ℕ, ◌-◌, ◌≤◌, leb, length, take, drop}
+use Rattle.std.specs.Prelude.{◌≡◌, refl, Bool, true, false, ◌&&◌, List, [], ℕ, ◌-◌, ◌≤◌, leb, length, take, drop}
+use Rattle.std.proofs.Math.Option.{none, some}
 use Rattle.queue.specs.layout.FrameCodec.{head_k, rec_c}
 use Rattle.queue.specs.bytes.ReaderAs.{whole, behind}
 use Rattle.queue.specs.bytes.ViewAs.{view}

@@ -1,5 +1,6 @@
 -- A filter: numbers marked in a table of bits. It can only say yes too often. And what a pass over records with a filter ensures.
-use Rattle.queue.specs.Prelude.{◌≡◌, Bool, true, false, not, ◌&&◌, List, ℕ, ◌+◌, ◌*◌, ◌/◌, ◌%◌, ◌^◌, ◌≤◌, eqb, bit_or, length, get_or, set}
+use Rattle.std.specs.Prelude.{◌≡◌, Bool, true, false, not, ◌&&◌, List, ℕ, ◌+◌, ◌*◌, ◌/◌, ◌%◌, ◌^◌, ◌≤◌, eqb, length, get_or, set}
+use Rattle.std.specs.Int.Bits.{bit_or}
 use Rattle.queue.specs.bytes.ViewAs.{view}
 use Rattle.queue.specs.layout.FrameCodec.{id_c}
 use Rattle.queue.specs.bytes.ReaderAs.{list_at}

@@ -1,5 +1,5 @@
 -- The finish numbers of tombstones in a table, and what is said of them.
-use Rattle.queue.specs.Prelude.{◌≡◌, Bool, true, false, cond, List, [], ◌∷◌, ◌++◌, ℕ, ◌≤◌, ◌+◌, ◌-◌, ltb, eqb}
+use Rattle.std.specs.Prelude.{◌≡◌, Bool, true, false, cond, List, [], ◌∷◌, ◌++◌, ℕ, ◌≤◌, ◌+◌, ◌-◌, ltb, eqb}
 use Rattle.queue.specs.check.RulesAs.{above_f}
 use Rattle.queue.specs.layout.FrameAs.{facts_of}
 use Rattle.queue.specs.paper.Records.{Rec}

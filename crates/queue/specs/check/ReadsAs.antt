@@ -1,5 +1,5 @@
 -- Ids that a record reads and does not spend, their rows, and what a walk that looks for their spenders ensures.
-use Rattle.queue.specs.Prelude.{◌≡◌, Bool, true, false, not, ◌&&◌, List, ℕ, eqb}
+use Rattle.std.specs.Prelude.{◌≡◌, Bool, true, false, not, ◌&&◌, List, ℕ, eqb}
 use Rattle.queue.specs.check.SuspectsAs.{id_r, no_r}
 use Rattle.queue.specs.paper.Records.{Bytes, Id, Rec}
 use Rattle.queue.specs.paper.Lists.{any?, all?}

@@ -1,5 +1,5 @@
 -- The rules of document 01 on what was read of a record.
-use Rattle.queue.specs.Prelude.{Bool, cond, not, ◌&&◌, ◌||◌, List, ℕ, ltb, leb, eqb}
+use Rattle.std.specs.Prelude.{Bool, cond, not, ◌&&◌, ◌||◌, List, ℕ, ltb, leb, eqb}
 use Rattle.queue.specs.paper.Records.{Rec}
 use Rattle.queue.specs.paper.Lists.{one, total}
 use Rattle.queue.specs.paper.Sound.{pending?, held_right?, reason_right?, place_right?, mark_right?, finish_right?, sizes_right?, caller_right?}

@@ -1,5 +1,5 @@
 -- What the check counts in its one pass over the records.
-use Rattle.queue.specs.Prelude.{◌≡◌, Bool, true, ◌&&◌, List, ℕ, ◌+◌, ◌-◌, ◌*◌, ◌≤◌, leb, eqb, length}
+use Rattle.std.specs.Prelude.{◌≡◌, Bool, true, ◌&&◌, List, ℕ, ◌+◌, ◌-◌, ◌*◌, ◌≤◌, leb, eqb, length}
 use Rattle.queue.specs.layout.FormsCodec.{rec_in_value, Many}
 use Rattle.queue.specs.layout.RecordsAs.{recs_at}
 use Rattle.queue.specs.check.RulesAs.{right_f, weight, sum}

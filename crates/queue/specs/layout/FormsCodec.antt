@@ -1,5 +1,8 @@
 -- A frame as bytes in an area or as a line of text in an image; a queue's frames in either form
-use Rattle.queue.specs.Prelude.{◌≡◌, refl, sym, ap, ◌∙◌, Bool, true, false, cond, ◌&&◌, Option, List, [], ◌∷◌, ◌++◌, append_assoc, ℕ, ◌+◌, ◌-◌, ◌*◌, ◌^◌, ◌≤◌, ◌<◌, arith, add-one, ltb, eqb, length, take, drop, get_or, length-append, length-drop, take-append-drop, drop-cons, drop-drop, get_or-drop, get_or_at, drop_at, take_at, lt-ltb, le-ltb, ltb-true, ltb-false, eqb-true, eq-eqb}
+use Rattle.std.specs.Prelude.{◌≡◌, refl, Bool, true, false, cond, ◌&&◌, List, [], ◌∷◌, ◌++◌, ℕ, ◌+◌, ◌-◌, ◌*◌, ◌^◌, ◌≤◌, ◌<◌, ltb, eqb, length, take, drop, get_or}
+use Rattle.std.proofs.Common.{sym, ap, ◌∙◌, append_assoc, arith, add-one, length-append, length-drop, take-append-drop, drop-cons, drop-drop, get_or-drop, drop_at, take_at, lt-ltb, le-ltb, ltb-true, ltb-false, eqb-true, eq-eqb}
+use Rattle.std.proofs.Math.Option.{Option}
+use Rattle.std.proofs.lemmas.List.{get_or_at}
 use Rattle.queue.specs.Codec.{Got, fail, got, ◌>>=◌, bind_got, if_got, cases, All, all_append, Codec, be, be_c, pair_c, map_c, encs, decs, vec_fwd, vec_bwd, vec_small, vec_most, vec_fits}
 use Rattle.queue.specs.Lists.{and_true}
 use Rattle.queue.specs.layout.FrameCodec.{Head, head_k, rec_k, head_c, rec_c}

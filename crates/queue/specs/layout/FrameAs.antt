@@ -1,5 +1,7 @@
 -- What the rules look at in a record, and how what was read stands to the record or the header.
-use Rattle.queue.specs.Prelude.{◌≡◌, ap, sym, Bool, true, false, cond, Option, none, some, List, ◌++◌, ℕ, ◌+◌, ◌^◌, ◌≤◌, ◌<◌, length, take, drop}
+use Rattle.std.specs.Prelude.{◌≡◌, Bool, true, false, cond, List, ◌++◌, ℕ, ◌+◌, ◌^◌, ◌≤◌, ◌<◌, length, take, drop}
+use Rattle.std.proofs.Common.{ap, sym}
+use Rattle.std.proofs.Math.Option.{Option, none, some}
 use Rattle.queue.specs.Codec.{be_c, opt_c}
 use Rattle.queue.specs.paper.Records.{Bytes, Id, Limits, Terms, Held, Rec}
 use Rattle.queue.specs.paper.Lists.{is_some}

@@ -1,5 +1,6 @@
 -- The shares as they are lent to a fresh queue: a list of 64 bytes; and those of a queue, lent again, are its own.
-use Rattle.queue.specs.Prelude.{◌≡◌, refl, ap, sym, ◌∙◌, true, List, [], ◌∷◌, ◌++◌, ℕ, zero, suc, ◌+◌, ◌*◌, ◌/◌, ◌%◌, ◌^◌, ◌≤◌, ◌<◌, arith, div-add-mod', mod-lt, pow-suc, leb, eqb, length, drop, replicate, length-append, take_at, drop_at, leb-true, eqb-true, ◌≢◌}
+use Rattle.std.specs.Prelude.{◌≡◌, refl, true, List, [], ◌∷◌, ◌++◌, ℕ, zero, suc, ◌+◌, ◌*◌, ◌/◌, ◌%◌, ◌^◌, ◌≤◌, ◌<◌, leb, eqb, length, drop, replicate, ◌≢◌}
+use Rattle.std.proofs.Common.{ap, sym, ◌∙◌, arith, div-add-mod', mod-lt, pow-suc, length-append, take_at, drop_at, leb-true, eqb-true}
 use Rattle.queue.specs.Codec.{All, be, be_length}
 use Rattle.queue.specs.Lists.{and_true}
 use Rattle.queue.specs.bytes.ReaderLaws.{SmallAt}

@@ -1,5 +1,5 @@
 -- Bytes that stand near a frame's start, where there are enough of them.
-use Rattle.queue.specs.Prelude.{◌≡◌, ℕ, ◌+◌, ◌-◌, ◌≤◌, length}
+use Rattle.std.specs.Prelude.{◌≡◌, ℕ, ◌+◌, ◌-◌, ◌≤◌, length}
 use Rattle.queue.specs.bytes.ReaderLaws.{SmallAt, be_at}
 use Rattle.queue.specs.paper.Records.{Bytes}
 use Rattle.queue.specs.declared.layout.frame.TermsR.{TermsR}

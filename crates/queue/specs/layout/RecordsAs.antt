@@ -1,5 +1,5 @@
 -- Records that stand in bytes or in a text.
-use Rattle.queue.specs.Prelude.{◌≡◌, true, List, ℕ, ◌≤◌, length}
+use Rattle.std.specs.Prelude.{◌≡◌, true, List, ℕ, ◌≤◌, length}
 use Rattle.queue.specs.Codec.{Codec}
 use Rattle.queue.specs.bytes.ReaderAs.{whole, list_at}
 use Rattle.queue.specs.paper.Records.{Bytes, Rec}

@@ -1,7 +1,7 @@
 -- The calls on lent bytes: document 01's "Numbers a call may give back", "Settling", and docs/CALLS.md. "Checked in the order
 -- 1, 16, 3, 2, 5, 6, then as above, 15, 4, 17. Each gives only its number; lent bytes keep their values, except the next area
 -- after 17."
-use Rattle.std.specs.Prelude.{ℕ, zero, suc, ◌+◌, ◌-◌, ◌*◌, ◌/◌, ◌%◌, Bool, true, false, cond, not, ◌&&◌, ◌||◌, List, [], ◌∷◌, ◌++◌, length, take, drop, ◌==◌, nat_eq, nat_le, nat_lt}
+use Rattle.std.specs.Prelude.{ℕ, zero, suc, ◌+◌, ◌-◌, ◌/◌, ◌%◌, Bool, true, cond, not, ◌&&◌, ◌||◌, List, [], ◌∷◌, ◌++◌, length, take, drop, ◌==◌, nat_eq, nat_le, nat_lt}
 use Rattle.std.proofs.Math.Option.{Option, none, some}
 use Rattle.queue.specs.declared.Kind.{Kind}
 use Rattle.queue.specs.declared.Kind.TheVariants.{Nothing, Memory, Whole, Cursor}
@@ -9,7 +9,7 @@ use Rattle.queue.specs.declared.Answer.{Answer}
 use Rattle.queue.specs.declared.Answer.TheVariants.{Refused, Done}
 use Rattle.queue.specs.Codec.{be}
 use Rattle.queue.specs.Areas.{read_area}
-use Rattle.queue.specs.paper.Records.{Bytes, Id, Limits, Terms, Held, Rec, Queue}
+use Rattle.queue.specs.paper.Records.{Bytes, Id, Limits, Held, Rec, Queue}
 use Rattle.queue.specs.paper.Lists.{is_some, maybe, one, find, map, concat}
 use Rattle.queue.specs.paper.Ids.{rise?}
 use Rattle.queue.specs.paper.Sound.{in_range, shares_right?, need, inputs, reads, caller_right?}

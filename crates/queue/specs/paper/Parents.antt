@@ -2,7 +2,7 @@
 -- order beside the old one." The order is said of any records and any test of who waits for whom; then of a queue's records.
 use Rattle.std.specs.Prelude.{◌≡◌, ℕ, zero, suc, ◌≤◌, Bool, true, cond, not, ◌&&◌, ◌⊎◌, List, [], ◌∷◌, ◌++◌, length}
 use Rattle.queue.specs.declared.Answer.{Answer}
-use Rattle.queue.specs.paper.Records.{Bytes, Id, Rec, Queue}
+use Rattle.queue.specs.paper.Records.{Bytes, Rec, Queue}
 use Rattle.queue.specs.paper.Lists.{maybe, any?, find, map}
 use Rattle.queue.specs.paper.Ids.{same?}
 use Rattle.queue.specs.paper.Sound.{outputs, wanted, among?}

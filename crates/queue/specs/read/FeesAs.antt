@@ -1,5 +1,6 @@
 -- What the functions of the search ensure: candidates are records that stand at places of an area.
-use Rattle.queue.specs.Prelude.{◌≡◌, false, none, List, [], ◌++◌, ℕ, ◌+◌, ◌≤◌, length, get_or}
+use Rattle.std.specs.Prelude.{◌≡◌, false, List, [], ◌++◌, ℕ, ◌+◌, ◌≤◌, length, get_or}
+use Rattle.std.proofs.Math.Option.{none}
 use Rattle.queue.specs.Codec.{be}
 use Rattle.queue.specs.layout.FrameCodec.{rec_c}
 use Rattle.queue.specs.bytes.ReaderAs.{list_at}

@@ -1,5 +1,6 @@
 -- Where the record of an id stands among records, or would stand.
-use Rattle.queue.specs.Prelude.{◌≡◌, Bool, true, false, cond, some, List, [], ◌∷◌, ℕ, ◌+◌, eqb, length}
+use Rattle.std.specs.Prelude.{◌≡◌, Bool, true, false, cond, List, [], ◌∷◌, ℕ, ◌+◌, eqb, length}
+use Rattle.std.proofs.Math.Option.{some}
 use Rattle.queue.specs.layout.FrameCodec.{rec_c}
 use Rattle.queue.specs.layout.FormsCodec.{form_c}
 use Rattle.queue.specs.layout.RecordsAs.{recs_at}

@@ -1,5 +1,5 @@
 -- Who waits for whom, as the code goes: rows for the ids that records want, a bit for each pair of rows of the selection.
-use Rattle.queue.specs.Prelude.{◌≡◌, Bool, true, false, cond, not, ◌&&◌, ◌||◌, List, [], ◌∷◌, ◌++◌, ℕ, zero, suc, ◌+◌, ◌-◌, ◌*◌, ◌/◌, ◌%◌, ◌^◌, ◌≤◌, ◌<◌, ltb, eqb, length, get_or, set, take, drop, replicate}
+use Rattle.std.specs.Prelude.{◌≡◌, Bool, true, false, cond, not, ◌&&◌, ◌||◌, List, [], ◌∷◌, ◌++◌, ℕ, zero, suc, ◌+◌, ◌-◌, ◌*◌, ◌/◌, ◌%◌, ◌^◌, ◌≤◌, ◌<◌, ltb, eqb, length, get_or, set, take, drop, replicate}
 use Rattle.queue.specs.check.FilterAs.{slot_l, marked, mark_l, hash_all_value}
 use Rattle.queue.specs.check.SuspectsAs.{id_r, no_r, later, InOrder, Cut}
 use Rattle.queue.specs.Codec.{All}

@@ -1,5 +1,5 @@
 -- The reading calls that write a piece for each record that passes.
-use Rattle.queue.specs.Prelude.{◌≡◌, Bool, true, cond, ◌&&◌, List, [], ◌∷◌, ◌++◌, ℕ, ◌+◌, ◌-◌, ◌*◌, ◌≤◌, eqb, length, take, drop}
+use Rattle.std.specs.Prelude.{◌≡◌, Bool, true, cond, ◌&&◌, List, [], ◌∷◌, ◌++◌, ℕ, ◌+◌, ◌-◌, ◌*◌, ◌≤◌, eqb, length, take, drop}
 use Rattle.queue.specs.Codec.{be}
 use Rattle.queue.specs.layout.FrameAs.{facts_of}
 use Rattle.queue.specs.check.RulesAs.{due_f}

@@ -1,5 +1,6 @@
 -- What the reading calls' functions ensure.
-use Rattle.queue.specs.Prelude.{◌≡◌, true, false, cond, Option, none, some, List, [], ◌∷◌, ◌++◌, ℕ, ◌+◌, ◌-◌, ◌*◌, ◌≤◌, ◌<◌, length, take, drop, ◌≢◌}
+use Rattle.std.specs.Prelude.{◌≡◌, true, false, cond, List, [], ◌∷◌, ◌++◌, ℕ, ◌+◌, ◌-◌, ◌*◌, ◌≤◌, ◌<◌, length, take, drop, ◌≢◌}
+use Rattle.std.proofs.Math.Option.{Option, none, some}
 use Rattle.queue.specs.bytes.PutAs.{be_last}
 use Rattle.queue.specs.layout.FrameCodec.{rec_c}
 use Rattle.queue.specs.bytes.ReaderAs.{whole, list_at}

@@ -1,5 +1,8 @@
 -- What admission leaves.
-use Rattle.queue.specs.Prelude.{◌≡◌, refl, ap, sym, ◌∙◌, Bool, true, false, cond, not, ◌&&◌, ◌||◌, Option, none, some, List, [], ◌∷◌, ℕ, ◌+◌, ◌^◌, ◌≤◌, ◌<◌, arith, ltb, leb, eqb, length, ltb-false, leb-false, eqb-true, eq-eqb, not-true}
+use Rattle.std.specs.Prelude.{◌≡◌, refl, Bool, true, false, cond, not, ◌&&◌, ◌||◌, List, [], ◌∷◌, ℕ, ◌+◌, ◌^◌, ◌≤◌, ◌<◌, ltb, leb, eqb, length}
+use Rattle.std.proofs.Common.{ap, sym, ◌∙◌, arith, ltb-false, leb-false, eqb-true, eq-eqb}
+use Rattle.std.proofs.Math.Option.{Option, none, some}
+use Rattle.std.proofs.lemmas.Bool.{not-true}
 use Rattle.queue.specs.Codec.{cases, All, byte_c, be_c, pair_c, map_c, opt_c, counted_c}
 use Rattle.queue.specs.layout.FrameCodec.{id_c, label_c, terms_k, held_k, place_c, body_k}
 use Rattle.queue.specs.Lists.{all_map, total_split, sub_all, sub_pairwise, sub_total}

@@ -1,5 +1,8 @@
 -- Lent bytes and numbers that fit as the arguments of a call.
-use Rattle.queue.specs.Prelude.{◌≡◌, refl, ap, ◌∙◌, true, false, ◌&&◌, ◌||◌, List, [], ◌∷◌, ℕ, zero, suc, ◌*◌, ◌/◌, ◌^◌, ◌≤◌, ◌<◌, arith, pow-succ', div-add-mod', ltb, eqb, digits_lt, length, take, drop, length-drop, length-take-le, ltb-false, leb-true, eqb-true}
+use Rattle.std.specs.Prelude.{◌≡◌, refl, true, false, ◌&&◌, ◌||◌, List, [], ◌∷◌, ℕ, zero, suc, ◌*◌, ◌/◌, ◌^◌, ◌≤◌, ◌<◌, ltb, eqb, length, take, drop}
+use Rattle.std.proofs.Common.{ap, ◌∙◌, arith, div-add-mod', length-drop, length-take-le, ltb-false, leb-true, eqb-true}
+use Rattle.std.proofs.Math.Nat.{pow-succ'}
+use Rattle.std.proofs.Math.Arith.{digits_lt}
 use Rattle.queue.specs.Codec.{cases, All, Codec, byte_c, be_c, opt_c, vec_c}
 use Rattle.queue.specs.layout.FrameCodec.{id_c}
 use Rattle.queue.specs.Lists.{and_true}

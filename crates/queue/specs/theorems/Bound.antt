@@ -1,5 +1,8 @@
 -- Every sound queue fits its area; so an area and an image are read as a queue exactly where they are its bytes.
-use Rattle.queue.specs.Prelude.{◌≡◌, refl, ap, sym, ◌∙◌, Bool, true, false, not, Option, none, some, List, [], ◌∷◌, ◌++◌, ℕ, ◌+◌, ◌*◌, ◌≤◌, arith, mul-le-mul_right, length, drop, length-append, length-replicate, length-drop, drop_at}
+use Rattle.std.specs.Prelude.{◌≡◌, refl, Bool, true, false, not, List, [], ◌∷◌, ◌++◌, ℕ, ◌+◌, ◌*◌, ◌≤◌, length, drop}
+use Rattle.std.proofs.Common.{ap, sym, ◌∙◌, arith, mul-le-mul_right, length-append, length-drop, drop_at}
+use Rattle.std.proofs.Math.Option.{Option, none, some}
+use Rattle.std.proofs.lemmas.List.{length-replicate}
 use Rattle.queue.specs.Codec.{All, byte_c, be_c, pair_c, map_c, opt_c, vec_c, counted_c, vec_most}
 use Rattle.queue.specs.layout.Choice.{then_c}
 use Rattle.queue.specs.layout.FrameCodec.{Head, tag_c, id_c, label_c, terms_k, terms_c, held_k, body_k, body_c, place_c, rec_k, rec_c, four_c, sixteen_c, limits_k, limits_c, head_k, head_c}

@@ -1,5 +1,8 @@
 -- What a changing call leaves: a sound queue with numbers that fit. Fresh queues, cursor setting, cancellation, expiry, reopening.
-use Rattle.queue.specs.Prelude.{◌≡◌, refl, ap, sym, ◌∙◌, Bool, true, false, cond, not, ◌&&◌, ◌||◌, Option, none, some, List, [], ◌∷◌, ℕ, ◌+◌, ◌^◌, ◌≤◌, ◌<◌, arith, mod-lt, ltb, leb, eqb, length, ltb-false, leb-true, le-leb, eqb-true, ne_eqb, not-true, ◌≢◌}
+use Rattle.std.specs.Prelude.{◌≡◌, refl, Bool, true, false, cond, not, ◌&&◌, ◌||◌, List, [], ◌∷◌, ℕ, ◌+◌, ◌^◌, ◌≤◌, ◌<◌, ltb, leb, eqb, length, ◌≢◌}
+use Rattle.std.proofs.Common.{ap, sym, ◌∙◌, arith, mod-lt, ltb-false, leb-true, le-leb, eqb-true, ne_eqb}
+use Rattle.std.proofs.Math.Option.{Option, none, some}
+use Rattle.std.proofs.lemmas.Bool.{not-true}
 use Rattle.queue.specs.Codec.{cases, All, opt_c}
 use Rattle.queue.specs.layout.FrameCodec.{id_c, place_c, body_k, body_c}
 use Rattle.queue.specs.Lists.{Pairwise, and_true, and_both, all_map, sub_all}

@@ -1,6 +1,7 @@
 -- Document 01's bench cards, its worked image and docs/AREA.md's worked areas, and the cards of document 02's requests, as one table
 -- of tests.
-use Rattle.queue.specs.Prelude.{◌≡◌, refl, Bool, true, false, cond, not, ◌&&◌, Option, none, some, List, [], ◌∷◌, ◌++◌, ℕ, ◌+◌, ◌-◌, ◌*◌, eqb, length, take, drop, replicate}
+use Rattle.std.specs.Prelude.{◌≡◌, refl, Bool, true, false, cond, not, ◌&&◌, List, [], ◌∷◌, ◌++◌, ℕ, ◌+◌, ◌-◌, ◌*◌, eqb, length, take, drop, replicate}
+use Rattle.std.proofs.Math.Option.{Option, none, some}
 use Rattle.queue.specs.declared.Answer.{Answer}
 use Rattle.queue.specs.Hex.{text_of, dig_of}
 use Rattle.queue.specs.paper.Records.{Bytes, Id, Limits, Held, Rec, Queue, queued, mined, conflicted}

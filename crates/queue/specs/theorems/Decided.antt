@@ -1,5 +1,7 @@
 -- Request P5: its promises hold, of every sound queue and every reconciliation.
-use Rattle.queue.specs.Prelude.{◌≡◌, refl, sym, ap, ◌∙◌, Bool, true, false, cond, not, ◌&&◌, ◌||◌, Option, none, some, ◌⊎◌, inl, inr, ⊎_elim, List, [], ◌∷◌, ℕ, ◌+◌, ◌-◌, ◌≤◌, min, arith, ltb, leb, eqb, length}
+use Rattle.std.specs.Prelude.{◌≡◌, refl, Bool, true, false, cond, not, ◌&&◌, ◌||◌, ◌⊎◌, List, [], ◌∷◌, ℕ, ◌+◌, ◌-◌, ◌≤◌, min, ltb, leb, eqb, length}
+use Rattle.std.proofs.Common.{sym, ap, ◌∙◌, inl, inr, ⊎_elim, arith}
+use Rattle.std.proofs.Math.Option.{Option, none, some}
 use Rattle.queue.specs.Codec.{cases}
 use Rattle.queue.specs.Lists.{and_true, Pairwise}
 use Rattle.queue.specs.bytes.ListLaws.{all_every, filter_total, total_eq, map_total_le, count_one, pairwise_with, sort_total, sort_length, filter_length, map_length}

@@ -1,5 +1,8 @@
 -- What reconciliation leaves: each record by itself, then the walk over the Mined holders.
-use Rattle.queue.specs.Prelude.{◌≡◌, refl, sym, ◌∙◌, Bool, true, false, cond, not, ◌&&◌, ◌||◌, Option, none, some, List, [], ◌∷◌, ℕ, zero, suc, ◌+◌, ◌*◌, ◌-◌, ◌^◌, ◌≤◌, ◌<◌, min, arith, ltb, leb, eqb, length, ltb-false, leb-false, eqb-true, eqb-false, eq-eqb, ne_eqb, not-true, ◌≢◌}
+use Rattle.std.specs.Prelude.{◌≡◌, refl, Bool, true, false, cond, not, ◌&&◌, ◌||◌, List, [], ◌∷◌, ℕ, zero, suc, ◌+◌, ◌*◌, ◌-◌, ◌^◌, ◌≤◌, ◌<◌, min, ltb, leb, eqb, length, ◌≢◌}
+use Rattle.std.proofs.Common.{sym, subst, ◌∙◌, arith, ltb-false, leb-false, eqb-true, eq-eqb, ne_eqb}
+use Rattle.std.proofs.Math.Option.{Option, none, some}
+use Rattle.std.proofs.lemmas.Bool.{eqb-false, not-true}
 use Rattle.queue.specs.Codec.{cases, cond_cases, All, be_c, pair_c, opt_c}
 use Rattle.queue.specs.layout.FrameCodec.{id_c, place_c}
 use Rattle.queue.specs.Lists.{Pairwise, and_true, all_map, both_pairwise, sub_all, sub_pairwise, sub_total}
@@ -216,11 +219,15 @@ module _ (m : Limits) (height window : ℕ) where
       let ids = releases m height window (n + 1) (b + length (content r.body)) l in
       let k = walk_other r.id (n + 1) (b + length (content r.body)) l h.0 in
       cases (release? n b r)
-      (λ t. let j = unlisted_more (λ r. one (is_some r.body)) r ids l h.0 in rw (t, same_self r.id) (omega arith))
-      (λ t. let u = or_false (leb window (height - mined_height r)) _ t in
+      (λ t. let e : releases m height window n b (r ∷ l) ≡ r.id ∷ ids = rw t in
+      let j = unlisted_more (λ r. one (is_some r.body)) r ids l h.0 in
+      subst (λ z. total (unlisted z (λ r. one (is_some r.body))) (r ∷ l) ≤ m.P - n) (sym e) (rw (same_self r.id) (omega arith)))
+      (λ t. let e : releases m height window n b (r ∷ l) ≡ ids = rw t in
+      let u = or_false (leb window (height - mined_height r)) _ t in
       let v = or_false (leb m.P n) (ltb m.B (b + length (content r.body))) u.1 in
       let x = leb-false m.P n v.0 in
-      let y = one_le (is_some r.body) in rw (t, k) (omega arith))
+      let y = one_le (is_some r.body) in
+      subst (λ z. total (unlisted z (λ r. one (is_some r.body))) (r ∷ l) ≤ m.P - n) (sym e) (rw k (omega arith)))
 
   walk_light : (n b : ℕ) (l : List Rec) → Pairwise Diff l → total (unlisted (releases m height window n b l) (λ r. length (content r.body))) l ≤ m.B - b
   unfolding releases
@@ -230,16 +237,24 @@ module _ (m : Limits) (height window : ℕ) where
       let ids = releases m height window (n + 1) (b + length (content r.body)) l in
       let k = walk_other r.id (n + 1) (b + length (content r.body)) l h.0 in
       cases (release? n b r)
-      (λ t. let j = unlisted_more (λ r. length (content r.body)) r ids l h.0 in rw (t, same_self r.id) (omega arith))
-      (λ t. let u = or_false (leb window (height - mined_height r)) _ t in
+      (λ t. let e : releases m height window n b (r ∷ l) ≡ r.id ∷ ids = rw t in
+      let j = unlisted_more (λ r. length (content r.body)) r ids l h.0 in
+      subst (λ z. total (unlisted z (λ r. length (content r.body))) (r ∷ l) ≤ m.B - b) (sym e) (rw (same_self r.id) (omega arith)))
+      (λ t. let e : releases m height window n b (r ∷ l) ≡ ids = rw t in
+      let u = or_false (leb window (height - mined_height r)) _ t in
       let v = or_false (leb m.P n) (ltb m.B (b + length (content r.body))) u.1 in
-      let x = ltb-false m.B (b + length (content r.body)) v.1 in rw (t, k) (omega arith))
+      let x = ltb-false m.B (b + length (content r.body)) v.1 in
+      subst (λ z. total (unlisted z (λ r. length (content r.body))) (r ∷ l) ≤ m.B - b) (sym e) (rw k (omega arith)))
 
 pub filter_differs : (p : Rec → Bool) (l : List Rec) → Pairwise Diff l → All (λ r. p r ≡ false → All (Diff r) (filter p l)) l
 filter_differs p [] h = tt
 filter_differs p (x ∷ l) h = let i = filter_differs p l h.1 in cases (p x)
-    (λ t. rw t (λ e. false_true (sym e), all_with (Diff x) _ _ (λ r d k e. (diff_sym x r d, k e)) l h.0 i))
-    (λ t. rw t (λ e. sub_all (Diff x) (filter_sub p l) h.0, i))
+    (λ t. let e : filter p (x ∷ l) ≡ x ∷ filter p l = rw t in
+    subst (λ z. All (λ r. p r ≡ false → All (Diff r) z) (x ∷ l)) (sym e)
+    (λ f. false_true (sym f ∙ t), all_with (Diff x) _ _ (λ r d k f. (diff_sym x r d, k f)) l h.0 i))
+    (λ t. let e : filter p (x ∷ l) ≡ filter p l = rw t in
+    subst (λ z. All (λ r. p r ≡ false → All (Diff r) z) (x ∷ l)) (sym e)
+    (λ f. sub_all (Diff x) (filter_sub p l) h.0, i))
 
 mined_place : (s : ℕ) (b : Bool) → eqb s mined ≡ true → place_right? s b ≡ true → place_right? mined b ≡ true
 mined_place s true n e = refl

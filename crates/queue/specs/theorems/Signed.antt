@@ -1,5 +1,7 @@
 -- What `signed_part` names is a record's signed bytes, where they stand in the area.
-use Rattle.queue.specs.Prelude.{◌≡◌, refl, ap, sym, ◌∙◌, Option, none, some, List, [], ◌∷◌, ◌++◌, append_assoc, ℕ, ◌+◌, ◌-◌, arith, length, take, drop, replicate, length-append, take_at, drop_at}
+use Rattle.std.specs.Prelude.{◌≡◌, refl, List, [], ◌∷◌, ◌++◌, ℕ, ◌+◌, ◌-◌, length, take, drop, replicate}
+use Rattle.std.proofs.Common.{ap, sym, ◌∙◌, append_assoc, arith, length-append, take_at, drop_at}
+use Rattle.std.proofs.Math.Option.{Option, none, some}
 use Rattle.queue.specs.Codec.{be, be_length, cases}
 use Rattle.queue.specs.Areas.{read_area}
 use Rattle.queue.specs.theorems.Bound.{reads_area}

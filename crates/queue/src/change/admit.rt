@@ -35,7 +35,7 @@ use crate::read::find::{Spot, find_spot};
 use crate::{Answer, Kind, refusal};
 
 // What an admission is asked with, but for the lent lists: id and numbers.
-#[derive(Drop)]
+#[derive(Clone, Copy)]
 pub struct Asked {
     pub id: [u8; 32],
     pub caller: u64,
@@ -310,7 +310,7 @@ fn entry_new_len(x: Asked, inputs: &[u8], reads: &[u8], label: &[u8]) -> usize
 }
 
 // A cursor: its height, and its tip where there is one.
-#[derive(Drop)]
+#[derive(Clone, Copy)]
 pub struct Tip {
     pub height: Height,
     pub has: bool,

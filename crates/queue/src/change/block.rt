@@ -3,7 +3,7 @@ use crate::layout::frame::Height;
 
 // Height and tip, how many applied entries are lent, whether the scan has caught up with the tip, how many available ids are lent, and
 // the window.
-#[derive(Drop)]
+#[derive(Clone, Copy)]
 pub struct Block {
     pub height: Height,
     pub tip: [u8; 32],

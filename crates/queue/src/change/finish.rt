@@ -24,7 +24,7 @@ use crate::layout::frame::{AREA, Finish, Height, Seen, Time, rec_at};
 use crate::layout::records::Records;
 
 // Which records a call finishes: the one of an id, or those that are due.
-#[derive(Drop)]
+#[derive(Clone, Copy)]
 pub enum Change {
     Named,
     Due(Time, Height),

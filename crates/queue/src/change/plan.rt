@@ -8,7 +8,7 @@ use crate::layout::frame::{Facts, Finish};
 
 // Where a record stands, which of the area's records it is, its rank among those that the call finishes, from 1 on (0: it does not
 // finish it), and what becomes of it. There are at most 3,072, one for each record.
-#[derive(Drop)]
+#[derive(Clone, Copy)]
 pub struct Row {
     pub place: usize,
     pub index: usize,
@@ -83,7 +83,7 @@ pub fn fate_of(what: u64, rank: u64, counter: Finish, floor: Finish, f: Facts) -
 }
 
 // What a planner leaves: how many rows, and how many records stay.
-#[derive(Drop)]
+#[derive(Clone, Copy)]
 pub struct Plan {
     pub rows: usize,
     pub kept: u64,

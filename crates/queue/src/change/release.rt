@@ -99,7 +99,7 @@ fn is_out(height: Height, window: u64, p: u64, b: u64, level: Height, seen: u64,
 }
 
 // What the walk came to: how many Mined holders it decided, and how many of these are released.
-#[derive(Drop)]
+#[derive(Clone, Copy)]
 pub struct Walked {
     pub decided: u64,
     pub gone: usize,

@@ -156,7 +156,7 @@ fn all_owned(
 }
 
 // What becomes of a record (`verdict`), and where the applied entry begins that confirms it.
-#[derive(Drop)]
+#[derive(Clone, Copy)]
 pub struct Verdict {
     pub what: u64,
     pub at: usize,

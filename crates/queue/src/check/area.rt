@@ -17,7 +17,7 @@ use crate::layout::limits::Limits;
 use crate::layout::records::Records;
 
 // A queue without its persisted height: its header, where its records start and end, and what they come to.
-#[derive(Drop)]
+#[derive(Clone, Copy)]
 pub struct Open {
     pub ok: bool,
     pub head: HeadR,
@@ -139,7 +139,7 @@ pub fn sound_at(s: &[u8], form: Form, x: Open) -> bool
 }
 
 // A lent area: its persisted height and its queue; ok says that it is sound.
-#[derive(Drop)]
+#[derive(Clone, Copy)]
 pub struct Area {
     pub ok: bool,
     pub persisted: Height,

@@ -8,7 +8,7 @@ use crate::layout::frame::{Facts, Finish, Height, Time};
 use crate::layout::{reason, state};
 
 // What to count.
-#[derive(Drop)]
+#[derive(Clone, Copy)]
 pub enum Query {
     Holders,
     HeldBytes,

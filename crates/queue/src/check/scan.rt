@@ -23,7 +23,7 @@ use crate::layout::forms::{after_in, ends_line};
 use crate::layout::frame::{Facts, Finish, Form, Seen, id_read, rec_at, rec_in};
 use crate::layout::records::Records;
 
-#[derive(Drop)]
+#[derive(Clone, Copy)]
 pub struct Span {
     pub ok: bool,
     pub next: usize,
@@ -50,7 +50,7 @@ pub fn tally(s: &[u8], recs: Records, q: Query) -> u64
 // What the rules ask of the records: four counts, whether each is right, whether their ids rise, whether none reads an id; `clear` says
 // that no input is in two of them and no finish number is twice, where a filter could tell. The number of inputs is in no contract:
 // it only says which tables serve.
-#[derive(Drop)]
+#[derive(Clone, Copy)]
 pub struct Sums {
     pub holders: u64,
     pub bytes: u64,
@@ -161,7 +161,7 @@ fn new_record(clear: bool, s: &[u8], hex: bool, base: usize, x: Seen, t: &mut [u
 }
 
 // Records read: do they stand there, where do they end, and what do they come to?
-#[derive(Drop)]
+#[derive(Clone, Copy)]
 pub struct Read {
     pub ok: bool,
     pub next: usize,

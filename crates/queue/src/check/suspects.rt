@@ -78,7 +78,7 @@ fn swap(v: &mut [u64], i: usize, j: usize)
 }
 
 // What rows are put in order by: themselves as numbers, or the ids at their places.
-#[derive(Drop)]
+#[derive(Clone, Copy)]
 pub enum Order {
     Numbers,
     Ids(bool),
@@ -279,7 +279,7 @@ pub fn crossed(s: &[u8], form: Form, recs: Records, v: &mut [u64]) -> bool
 
 // How many rows there are; not ok: a full table was looked through and a row's id is in a record before its own, or it was not the last
 // table and is given up.
-#[derive(Drop)]
+#[derive(Clone, Copy)]
 pub struct Rows {
     pub ok: bool,
     pub len: usize,

@@ -16,19 +16,19 @@ use crate::layout::limits::Limits;
 use crate::layout::near::rec_near;
 
 // Milliseconds.
-#[derive(Drop)]
+#[derive(Clone, Copy)]
 pub struct Time(pub u64);
 
 // A block's height.
-#[derive(Drop)]
+#[derive(Clone, Copy)]
 pub struct Height(pub u64);
 
 // A finish number.
-#[derive(Drop)]
+#[derive(Clone, Copy)]
 pub struct Finish(pub u64);
 
 // How the frames of a queue stand: as bytes or as lines of text, and under which header kind.
-#[derive(Drop)]
+#[derive(Clone, Copy)]
 pub struct Form {
     pub hex: bool,
     pub kind: u8,
@@ -55,34 +55,34 @@ pub const AREA: Form = Form {
     kind: NEWEST,
 };
 
-#[derive(Drop)]
+#[derive(Clone, Copy)]
 pub struct Part {
     pub ok: bool,
     pub next: usize,
 }
 
-#[derive(Drop)]
+#[derive(Clone, Copy)]
 pub struct NumR {
     pub ok: bool,
     pub value: u64,
     pub next: usize,
 }
 
-#[derive(Drop)]
+#[derive(Clone, Copy)]
 pub struct IdR {
     pub ok: bool,
     pub id: [u8; 32],
     pub next: usize,
 }
 
-#[derive(Drop)]
+#[derive(Clone, Copy)]
 pub struct Opt {
     pub ok: bool,
     pub has: bool,
     pub next: usize,
 }
 
-#[derive(Drop)]
+#[derive(Clone, Copy)]
 pub struct OptN {
     pub ok: bool,
     pub has: bool,
@@ -90,7 +90,7 @@ pub struct OptN {
     pub next: usize,
 }
 
-#[derive(Drop)]
+#[derive(Clone, Copy)]
 pub struct Items {
     pub ok: bool,
     pub len: u64,
@@ -99,7 +99,7 @@ pub struct Items {
 }
 
 // Terms, and `at`, where the priority begins.
-#[derive(Drop)]
+#[derive(Clone, Copy)]
 pub struct TermsR {
     pub ok: bool,
     pub created: Time,
@@ -114,7 +114,7 @@ pub struct TermsR {
     pub next: usize,
 }
 
-#[derive(Drop)]
+#[derive(Clone, Copy)]
 pub struct PlaceR {
     pub ok: bool,
     pub has: bool,
@@ -123,7 +123,7 @@ pub struct PlaceR {
 }
 
 // What a holder has: how many inputs, outputs, read ids and signed bytes, and where they start.
-#[derive(Drop)]
+#[derive(Clone, Copy)]
 pub struct BodyR {
     pub ok: bool,
     pub holder: bool,
@@ -139,7 +139,7 @@ pub struct BodyR {
 }
 
 // What stands behind the terms, with where the mark and the holder flag stand.
-#[derive(Drop)]
+#[derive(Clone, Copy)]
 pub struct RestR {
     pub ok: bool,
     pub placed: bool,
@@ -153,7 +153,7 @@ pub struct RestR {
 }
 
 // What the rules look at in a record; what is absent is 0.
-#[derive(Drop)]
+#[derive(Clone, Copy)]
 pub struct Facts {
     pub caller: u64,
     pub state: u64,
@@ -182,7 +182,7 @@ pub const TERMS: usize = 36;
 
 // A record read. Its terms end at after, its place at after..mark, its withdrawn mark at mark, its holder flag at
 // body, its inputs at at, its outputs at outs, its read ids at reads, its signed bytes at content; the frame ends at size.
-#[derive(Drop)]
+#[derive(Clone, Copy)]
 pub struct Seen {
     pub ok: bool,
     pub id: [u8; 32],
@@ -197,7 +197,7 @@ pub struct Seen {
     pub size: usize,
 }
 
-#[derive(Drop)]
+#[derive(Clone, Copy)]
 pub struct Lim {
     pub ok: bool,
     pub p: u64,
@@ -208,14 +208,14 @@ pub struct Lim {
 }
 
 // The shares as their bytes.
-#[derive(Drop)]
+#[derive(Clone, Copy)]
 pub struct SharesR {
     pub ok: bool,
     pub bytes: [u8; 64],
     pub next: usize,
 }
 
-#[derive(Drop)]
+#[derive(Clone, Copy)]
 pub struct LimitsR {
     pub ok: bool,
     pub limits: Limits,
@@ -223,7 +223,7 @@ pub struct LimitsR {
 }
 
 // A header read. Its cursor height and tip stand at marks..after, its counter at after; the frame ends at size.
-#[derive(Drop)]
+#[derive(Clone, Copy)]
 pub struct HeadR {
     pub ok: bool,
     pub limits: Limits,

@@ -16,7 +16,7 @@ use crate::layout::head::{Marks, put_front};
 use crate::{Answer, Kind, refusal};
 
 // The shares as they stand in a header: sixteen numbers of 4 bytes.
-#[derive(Drop)]
+#[derive(Clone, Copy)]
 pub struct Limits {
     pub p: u64,
     pub b: u64,

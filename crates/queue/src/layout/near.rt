@@ -212,7 +212,7 @@ fn rest_near(s: &[u8], base: usize, at: usize) -> RestR
 }
 
 // Numbers of terms and rest, read once more behind all branches: the compiler then makes one load of each, and the first reading goes.
-#[derive(Drop)]
+#[derive(Clone, Copy)]
 pub struct Late {
     pub created: Time,
     pub priority: u64,

@@ -25,7 +25,7 @@ use crate::read::select::{add_place, gather, order, put_ids};
 use crate::{Answer, Kind, refusal};
 
 // The best set and its fee, the nodes counted, the largest bound: so far.
-#[derive(Drop)]
+#[derive(Clone, Copy)]
 pub struct SoFar {
     pub set: u64,
     pub fee: u64,
@@ -34,7 +34,7 @@ pub struct SoFar {
 }
 
 // The best set and its fee, the nodes counted, the distance.
-#[derive(Drop)]
+#[derive(Clone, Copy)]
 pub struct Choice {
     pub set: u64,
     pub fee: u64,
@@ -43,7 +43,7 @@ pub struct Choice {
 }
 
 // How many signed bytes a candidate has, and its fee.
-#[derive(Drop)]
+#[derive(Clone, Copy)]
 pub struct Candidate {
     pub size: u64,
     pub fee: u64,

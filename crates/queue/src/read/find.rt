@@ -13,7 +13,7 @@ use crate::layout::forms::after_in;
 use crate::layout::frame::rec_at;
 use crate::layout::records::Records;
 
-#[derive(Drop)]
+#[derive(Clone, Copy)]
 pub struct Found {
     pub found: bool,
     pub at: usize,
@@ -42,7 +42,7 @@ pub fn find_id(s: &[u8], recs: Records, id: [u8; 32]) -> Found
 }
 
 // Where the record of an id stands, and where the next one begins; or, not found, where it would stand: both places are the same then.
-#[derive(Drop)]
+#[derive(Clone, Copy)]
 pub struct Spot {
     pub found: bool,
     pub at: usize,

@@ -21,7 +21,7 @@ use crate::check::suspects::{Order, bisect, cmp_rows, in_order, order_rows, row_
 use crate::layout::frame::{id_read, rec_at};
 
 // The line of a row: its bits, in `width` words from `start` on.
-#[derive(Drop)]
+#[derive(Clone, Copy)]
 pub struct Line {
     pub width: usize,
     pub start: usize,
@@ -29,7 +29,7 @@ pub struct Line {
 }
 
 // The records up to row `next` have their rows; so many of these stand behind each other.
-#[derive(Drop)]
+#[derive(Clone, Copy)]
 pub struct Batch {
     pub next: usize,
     pub len: usize,

@@ -218,7 +218,7 @@ fn put_listed(s: &[u8], picked: &[usize], out: &mut [u8]) -> Answer
 // With room for few rows: tables for `links`, bits in lines of w words, and the places that are listed. The counters stand in cs.
 fn parents_few(s: &[u8], at: &[usize], cs: &mut [u64], w: usize, out: &mut [u8]) -> Answer
     requires { Named s.now at.now × (length s.now < 4294967296) × (length at.now ≡ length cs.old) × (length at.now ≤ 64 * w) × (w ≤ 8) }
-    ensures* { λ r. ⌜ written r out.new ≡ told_out (ids_bytes (map (λ r. r.id) (parents_first_value waits_for? (map (rec_at_value s.now) at.now)))) out.old ⌝ }
+    ensures { written result out.new ≡ told_out (ids_bytes (map (λ r. r.id) (parents_first_value waits_for? (map (rec_at_value s.now) at.now)))) out.old }
 {
     let mut slots = [0u64; 2048];
     let mut t = [0u64; 512];
@@ -235,7 +235,7 @@ fn parents_few(s: &[u8], at: &[usize], cs: &mut [u64], w: usize, out: &mut [u8])
 // The same with room for as many as there are without rollbacks.
 fn parents_some(s: &[u8], at: &[usize], cs: &mut [u64], w: usize, out: &mut [u8]) -> Answer
     requires { Named s.now at.now × (length s.now < 4294967296) × (length at.now ≡ length cs.old) × (length at.now ≤ 64 * w) × (w ≤ 16) }
-    ensures* { λ r. ⌜ written r out.new ≡ told_out (ids_bytes (map (λ r. r.id) (parents_first_value waits_for? (map (rec_at_value s.now) at.now)))) out.old ⌝ }
+    ensures { written result out.new ≡ told_out (ids_bytes (map (λ r. r.id) (parents_first_value waits_for? (map (rec_at_value s.now) at.now)))) out.old }
 {
     let mut slots = [0u64; 32768];
     let mut t = [0u64; 1024];
@@ -252,7 +252,7 @@ fn parents_some(s: &[u8], at: &[usize], cs: &mut [u64], w: usize, out: &mut [u8]
 // The same with room for all.
 fn parents_many(s: &[u8], at: &[usize], cs: &mut [u64], w: usize, out: &mut [u8]) -> Answer
     requires { Named s.now at.now × (length s.now < 4294967296) × (length at.now ≡ length cs.old) × (length at.now ≤ 64 * w) × (w ≤ 32) }
-    ensures* { λ r. ⌜ written r out.new ≡ told_out (ids_bytes (map (λ r. r.id) (parents_first_value waits_for? (map (rec_at_value s.now) at.now)))) out.old ⌝ }
+    ensures { written result out.new ≡ told_out (ids_bytes (map (λ r. r.id) (parents_first_value waits_for? (map (rec_at_value s.now) at.now)))) out.old }
 {
     let mut slots = [0u64; 8192];
     let mut t = [0u64; 4096];
@@ -270,7 +270,7 @@ fn parents_many(s: &[u8], at: &[usize], cs: &mut [u64], w: usize, out: &mut [u8]
 // itself: it is then too large for the compiler to take it in here together with its tables.
 fn parents_sized(s: &[u8], at: &[usize], cs: &mut [u64], out: &mut [u8]) -> Answer
     requires { Named s.now at.now × (length s.now < 4294967296) × (length at.now ≡ length cs.old) × (length at.now ≤ 2048) }
-    ensures* { λ r. ⌜ written r out.new ≡ told_out (ids_bytes (map (λ r. r.id) (parents_first_value waits_for? (map (rec_at_value s.now) at.now)))) out.old ⌝ }
+    ensures { written result out.new ≡ told_out (ids_bytes (map (λ r. r.id) (parents_first_value waits_for? (map (rec_at_value s.now) at.now)))) out.old }
 {
     let n = at.len();
     if n <= 256 {
@@ -300,7 +300,7 @@ fn parents_rows(
     out: &mut [u8],
 ) -> Answer
     requires { Even (length ranks.old) ranks.old times.old at.old × (length ranks.old ≤ 2048) × (length s.now < 4294967296) × Named s.now (map (λ w. w.1.1) (rows ranks.old times.old at.old)) }
-    ensures* { λ r. ⌜ written r out.new ≡ told_out (ids_bytes (map (λ r. r.id) (parents_first_value waits_for? (map (rec_of_row s.now) (sort ahead? (rows ranks.old times.old at.old)))))) out.old ⌝ }
+    ensures { written result out.new ≡ told_out (ids_bytes (map (λ r. r.id) (parents_first_value waits_for? (map (rec_of_row s.now) (sort ahead? (rows ranks.old times.old at.old)))))) out.old }
 {
     order(ranks, times, at);
     parents_sized(s, at, ranks, out)
@@ -317,7 +317,7 @@ fn parents_select(
     out: &mut [u8],
 ) -> Answer
     requires { RecordsIn (form_c false rec_c) s.now recs × Even 2048 ranks.old times.old places.old × (length (chosen time.0 height.0 s.now recs) ≤ 2048) × Pairwise Before (chosen time.0 height.0 s.now recs) × All Modest (chosen time.0 height.0 s.now recs) × (length s.now < 4294967296) }
-    ensures* { λ r. ⌜ written r out.new ≡ told_out (ids_bytes (map (λ r. r.id) (parents_first_value waits_for? (sort first? (chosen time.0 height.0 s.now recs))))) out.old ⌝ }
+    ensures { written result out.new ≡ told_out (ids_bytes (map (λ r. r.id) (parents_first_value waits_for? (sort first? (chosen time.0 height.0 s.now recs))))) out.old }
 {
     let m = gather(s, recs, time, height, ranks, times, places);
     parents_rows(s, &mut ranks[..m], &mut times[..m], &mut places[..m], out)

@@ -21,7 +21,7 @@ use crate::read::entry::{entry_len, put_entry};
 use crate::{Answer, Kind, refusal};
 
 // What to write of which records.
-#[derive(Drop)]
+#[derive(Clone, Copy)]
 pub enum What {
     Ids,
     Guarded,
@@ -30,7 +30,7 @@ pub enum What {
     Entries,
 }
 
-#[derive(Drop)]
+#[derive(Clone, Copy)]
 pub struct Sizes {
     pub count: u64,
     pub size: usize,

@@ -19,7 +19,7 @@ use crate::read::find::find_id;
 use crate::{Answer, Kind, refusal};
 
 // A record looked up: the refusal's number, or 0 and where the record stands.
-#[derive(Drop)]
+#[derive(Clone, Copy)]
 pub struct Looked {
     pub refusal: u64,
     pub at: usize,
@@ -54,7 +54,7 @@ pub fn look(area: &[u8], id: &[u8]) -> Looked
 }
 
 // Where signed bytes stand: start and len are 0 with a refusal.
-#[derive(Drop)]
+#[derive(Clone, Copy)]
 pub struct Place {
     pub answer: Answer,
     pub start: usize,

@@ -1,5 +1,7 @@
 -- What the text claims of the answer, and what a reader takes for granted.
-use Rattle.queue.specs.Prelude.{◌≡◌, refl, ap, ◌∙◌, subst, Bool, true, false, cond, List, [], ◌∷◌, ◌++◌, ℕ, suc, ◌+◌, ◌-◌, ◌^◌, ◌≤◌, ◌<◌, min, arith, pow-suc, pow-le-pow_right, ltb, leb, length, take, drop, length-append, length-take, take_all, ltb-true, ltb-false, leb-true, le-leb}
+use Rattle.std.specs.Prelude.{◌≡◌, refl, Bool, true, false, cond, List, [], ◌∷◌, ◌++◌, ℕ, suc, ◌+◌, ◌-◌, ◌^◌, ◌≤◌, ◌<◌, min, ltb, leb, length, take, drop}
+use Rattle.std.proofs.Common.{ap, ◌∙◌, subst, arith, pow-suc, length-append, length-take, take_all, ltb-true, ltb-false, leb-true, le-leb}
+use Rattle.std.proofs.Math.Nat.{pow-le-pow_right}
 use Rattle.queue.specs.Codec.{cases, All, all_append}
 use Rattle.queue.specs.Lists.{Sub, done, keep, skip, sub_total}
 use Rattle.queue.specs.paper.Lists.{map, filter, total}

@@ -1,5 +1,6 @@
 -- Laws of lists that the search for the best fees is proved with.
-use Rattle.queue.specs.Prelude.{◌≡◌, refl, ap, Bool, List, [], ◌∷◌, ◌++◌, ℕ, zero, suc, ◌-◌, ◌≤◌, arith, leb, length, take, drop, le-leb}
+use Rattle.std.specs.Prelude.{◌≡◌, refl, Bool, List, [], ◌∷◌, ◌++◌, ℕ, zero, suc, ◌-◌, ◌≤◌, leb, length, take, drop}
+use Rattle.std.proofs.Common.{ap, arith, le-leb}
 use Rattle.queue.specs.Codec.{cases, All}
 use Rattle.queue.specs.Lists.{Sub, done, keep, skip}
 use Rattle.queue.specs.paper.Lists.{map, filter, total}

@@ -1,5 +1,6 @@
 -- The same search over another list of the same sizes and fees, as places of lists or rows of a table.
-use Rattle.queue.specs.Prelude.{◌≡◌, refl, ap, sym, ◌∙◌, List, [], ◌∷◌, ◌++◌, ℕ, ◌+◌, ◌-◌, ◌<◌, ltb, leb}
+use Rattle.std.specs.Prelude.{◌≡◌, refl, List, [], ◌∷◌, ◌++◌, ℕ, ◌+◌, ◌-◌, ◌<◌, ltb, leb}
+use Rattle.std.proofs.Common.{ap, sym, ◌∙◌}
 use Rattle.queue.specs.Codec.{cases, All}
 use Rattle.queue.specs.paper.Lists.{map}
 use Rattle.queue.specs.paper.Fees.{Best, best_fees_value}

@@ -1,5 +1,5 @@
 -- The walk over places of lent lists, with a set as a number: place p counts 2^p in it.
-use Rattle.queue.specs.Prelude.{◌≡◌, cond, List, [], ◌∷◌, ℕ, zero, suc, ◌+◌, ◌-◌, ◌/◌, ◌%◌, ◌^◌, ◌≤◌, ◌<◌, max, ltb, leb, eqb, length, get_or}
+use Rattle.std.specs.Prelude.{◌≡◌, cond, List, [], ◌∷◌, ℕ, zero, suc, ◌+◌, ◌-◌, ◌/◌, ◌%◌, ◌^◌, ◌≤◌, ◌<◌, max, ltb, leb, eqb, length, get_or}
 use Rattle.queue.specs.paper.Lists.{total}
 use Rattle.queue.specs.read.fees.Walk.{fitting}
 use Rattle.queue.specs.paper.Fees.{Best}

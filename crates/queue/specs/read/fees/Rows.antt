@@ -1,6 +1,7 @@
 -- What the call's answer says of the candidates themselves: places of lent columns stand for rows, and the set's number gives
 -- the set back.
-use Rattle.queue.specs.Prelude.{◌≡◌, refl, ap, sym, ◌∙◌, List, [], ◌∷◌, ℕ, zero, suc, ◌+◌, ◌-◌, ◌*◌, ◌/◌, ◌%◌, ◌^◌, ◌≤◌, ◌<◌, arith, pow-suc, length, get_or, drop, drop_of_length-le, drop-cons}
+use Rattle.std.specs.Prelude.{◌≡◌, refl, List, [], ◌∷◌, ℕ, zero, suc, ◌+◌, ◌-◌, ◌*◌, ◌/◌, ◌%◌, ◌^◌, ◌≤◌, ◌<◌, length, get_or, drop}
+use Rattle.std.proofs.Common.{ap, sym, ◌∙◌, arith, pow-suc, drop_of_length-le, drop-cons}
 use Rattle.queue.specs.Codec.{All}
 use Rattle.queue.specs.Lists.{Sub, done, keep, skip, sub_all}
 use Rattle.queue.specs.paper.Lists.{map, total}

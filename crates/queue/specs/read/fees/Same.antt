@@ -1,5 +1,8 @@
 -- The walk gives the answer by the words: it visits the first nodes of the tree, and passes by those outside.
-use Rattle.queue.specs.Prelude.{◌≡◌, refl, ap, sym, ◌∙◌, fun_ext, Bool, true, false, cond, not, ◌&&◌, List, [], ◌∷◌, ◌++◌, append_assoc, append-nil, ℕ, zero, suc, ◌+◌, ◌-◌, ◌<◌, max, arith, zero-add, add-zero, sub-zero, ltb, leb, length, take, drop, length-take, lt-ltb, le-ltb}
+use Rattle.std.specs.Prelude.{◌≡◌, refl, Bool, true, false, cond, not, ◌&&◌, List, [], ◌∷◌, ◌++◌, ℕ, zero, suc, ◌+◌, ◌-◌, ◌<◌, max, ltb, leb, length, take, drop}
+use Rattle.std.proofs.Common.{ap, sym, ◌∙◌, append_assoc, append-nil, arith, zero-add, add-zero, length-take, lt-ltb, le-ltb}
+use Rattle.std.proofs.Math.Path.{fun_ext}
+use Rattle.std.proofs.Math.Nat.{sub-zero}
 use Rattle.queue.specs.Codec.{cases, All, all_append}
 use Rattle.queue.specs.paper.Lists.{map, filter, total}
 use Rattle.queue.specs.paper.Fees.{largest, Node, parent, same_node?, among_nodes?, tree, taken, undecided, fees, best, bound, visited, outside, chosen, best_fees_value}

@@ -1,5 +1,5 @@
 -- The same search as a walk: a recursion over the undecided candidates that carries what it has found.
-use Rattle.queue.specs.Prelude.{cond, List, [], ◌∷◌, ◌++◌, ℕ, suc, ◌+◌, ◌-◌, max, ltb, leb}
+use Rattle.std.specs.Prelude.{cond, List, [], ◌∷◌, ◌++◌, ℕ, suc, ◌+◌, ◌-◌, max, ltb, leb}
 use Rattle.queue.specs.paper.Lists.{filter, total}
 use Rattle.queue.specs.paper.Fees.{Best}
 

@@ -1,5 +1,8 @@
 -- What the request asks to be shown, and that its words leave the list no choice.
-use Rattle.queue.specs.Prelude.{◌≡◌, refl, sym, ap, ◌∙◌, Bool, true, false, none, some, ◌⊎◌, inl, inr, ⊎_elim, List, [], ◌∷◌, ◌++◌, append_assoc, append-nil, ℕ, zero, suc, ◌≤◌, arith, length, not-true, not-false}
+use Rattle.std.specs.Prelude.{◌≡◌, refl, Bool, true, false, ◌⊎◌, List, [], ◌∷◌, ◌++◌, ℕ, zero, suc, ◌≤◌, length}
+use Rattle.std.proofs.Common.{sym, ap, ◌∙◌, inl, inr, ⊎_elim, append_assoc, append-nil, arith}
+use Rattle.std.proofs.Math.Option.{none, some}
+use Rattle.std.proofs.lemmas.Bool.{not-true, not-false}
 use Rattle.queue.specs.Lists.{Pairwise, both, sub_all, sub_pairwise}
 use Rattle.queue.specs.bytes.ListLaws.{filter_sub, filter_all, sort_all, sort_apart}
 use Rattle.queue.specs.bytes.ReaderLaws.{false_true}

@@ -1,5 +1,9 @@
 -- The counters list the same as the definition.
-use Rattle.queue.specs.Prelude.{◌≡◌, refl, sym, ap, ◌∙◌, Bool, true, false, cond, not, none, some, List, [], ◌∷◌, ℕ, zero, suc, ◌+◌, ◌-◌, ◌<◌, arith, ltb, eqb, length, get_or, set, replicate, length-set, length-replicate, get_or-replicate, get_or-set_other, get_or-set_same, ltb-true, lt-ltb, eqb-true, eqb-false, eq-eqb, ne_eqb}
+use Rattle.std.specs.Prelude.{◌≡◌, refl, Bool, true, false, cond, not, List, [], ◌∷◌, ℕ, zero, suc, ◌+◌, ◌-◌, ◌<◌, ltb, eqb, length, get_or, set, replicate}
+use Rattle.std.proofs.Common.{sym, ap, ◌∙◌, arith, length-set, get_or-set_other, get_or-set_same, ltb-true, lt-ltb, eqb-true, eq-eqb, ne_eqb}
+use Rattle.std.proofs.Math.Option.{none, some}
+use Rattle.std.proofs.lemmas.List.{length-replicate, get_or-replicate}
+use Rattle.std.proofs.lemmas.Bool.{eqb-false}
 use Rattle.queue.specs.Codec.{cases}
 use Rattle.queue.specs.paper.Lists.{any?, find}
 use Rattle.queue.specs.paper.Parents.{remove, free?, listed, parents_first_value}

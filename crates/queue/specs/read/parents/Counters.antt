@@ -2,7 +2,7 @@
 --
 -- One number a row: 0, it is listed; 1, it is unlisted and waits for nothing unlisted; more, it waits. `kids i` names the rows
 -- that wait for row i, in any order and as often as one likes: a counter goes up and down by the same list.
-use Rattle.queue.specs.Prelude.{◌≡◌, Bool, cond, List, [], ◌∷◌, ℕ, zero, suc, ◌+◌, ◌-◌, ◌<◌, ltb, eqb, length, get_or, set, replicate}
+use Rattle.std.specs.Prelude.{◌≡◌, Bool, cond, List, [], ◌∷◌, ℕ, zero, suc, ◌+◌, ◌-◌, ◌<◌, ltb, eqb, length, get_or, set, replicate}
 use Rattle.queue.specs.paper.Lists.{any?}
 
 -- the first place that holds 1, or the length

@@ -1,5 +1,7 @@
 -- Laws of membership, of lists without repeats, and of the first that passes.
-use Rattle.queue.specs.Prelude.{◌≡◌, refl, Bool, true, false, Option, none, some, ◌⊎◌, inl, inr, ⊎_elim, List, [], ◌∷◌, ◌++◌, ℕ, suc, ◌≤◌, arith, length, length-append}
+use Rattle.std.specs.Prelude.{◌≡◌, refl, Bool, true, false, ◌⊎◌, List, [], ◌∷◌, ◌++◌, ℕ, suc, ◌≤◌, length}
+use Rattle.std.proofs.Math.Option.{Option, none, some}
+use Rattle.std.proofs.Common.{inl, inr, ⊎_elim, arith, length-append}
 use Rattle.queue.specs.Codec.{cases, cond_cases, All}
 use Rattle.queue.specs.Lists.{Pairwise}
 use Rattle.queue.specs.bytes.ReaderLaws.{false_true}

@@ -1,0 +1,10 @@
+use Rattle.image.proofs.ImageLaws.{Turning}
+use Rattle.queue.specs.layout.FormsCodec.{area_form, rec_in_value, text_form}
+use Rattle.queue.specs.paper.Kinds.{newest}
+use Rattle.image.proofs.frames.put_lines.Given as goal
+
+abbrev pub invariant-loop-left : goal.invariant-loop-left
+invariant-loop-left l = Turning area_form (rec_in_value (text_form newest)) l.s l.initial.left l.initial.i l.initial.dst l.to l.i l.left l.dst l.o
+
+abbrev pub decreases-loop-left : goal.decreases-loop-left
+decreases-loop-left l = l.left

@@ -1,0 +1,14 @@
+use Rattle.std.specs.Prelude.{◌≡◌, ◌≤◌, length, take}
+use Rattle.queue.proofs.check.SuspectsLaws.{Noting}
+use Rattle.queue.specs.bytes.ReaderAs.{list_at}
+use Rattle.queue.specs.bytes.ViewAs.{view}
+use Rattle.queue.specs.layout.FormsCodec.{rec_in_value}
+use Rattle.queue.specs.layout.FrameCodec.{id_c}
+use Rattle.queue.specs.layout.RecordsAs.{recs_at}
+use Rattle.queue.proofs.check.suspects.note_all.Given as goal
+
+abbrev pub invariant-loop-left : goal.invariant-loop-left
+invariant-loop-left l = Noting l.form.hex l.s (recs_at (rec_in_value l.form) l.s l.recs) l.k (view l.form.hex l.s l.base) (list_at id_c l.c (view l.form.hex l.s l.base) l.ids) l.initial.t (take l.m l.initial.v) l.i l.left l.t (take l.len l.v) × (l.len ≤ length l.initial.v) × (length l.v ≡ length l.initial.v)
+
+abbrev pub decreases-loop-left : goal.decreases-loop-left
+decreases-loop-left l = l.left

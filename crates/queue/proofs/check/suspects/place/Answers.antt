@@ -1,0 +1,19 @@
+use Rattle.queue.proofs.check.SuspectsRowLaws.{place_hex, place_raw}
+use Rattle.queue.specs.bytes.ViewAs.{hex_in, raw_in}
+use Rattle.std.proofs.Common.{arith}
+use Rattle.queue.proofs.check.suspects.place.Goals as goal
+
+pub overflow_mul-result : goal.overflow_mul-result
+overflow_mul-result c = let h = hex_in c.args.s.now c.args.base c.args.i c.args.hex c.if-hex.true (omega (arith, c.requires)) in omega (arith, h, c.well_formed.0)
+
+pub overflow_add-result : goal.overflow_add-result
+overflow_add-result c = let h = hex_in c.args.s.now c.args.base c.args.i c.args.hex c.if-hex.true (omega (arith, c.requires)) in omega (arith, h, c.well_formed.0)
+
+pub returns-then-hex : goal.returns-then-hex
+returns-then-hex c = let h = hex_in c.args.s.now c.args.base c.args.i c.args.hex c.if-hex.true (omega (arith, c.requires)) in (place_hex c.args.hex _ _ _ c.if-hex.true, omega (arith, h))
+
+pub overflow_add-result-2 : goal.overflow_add-result-2
+overflow_add-result-2 c = let h = raw_in c.args.s.now c.args.base c.args.i c.args.hex c.if-hex.false (omega (arith, c.requires)) in omega (arith, h, c.well_formed.0)
+
+pub returns : goal.returns
+returns c = let h = raw_in c.args.s.now c.args.base c.args.i c.args.hex c.if-hex.false (omega (arith, c.requires)) in (place_raw c.args.hex _ _ _ c.if-hex.false, omega (arith, h))

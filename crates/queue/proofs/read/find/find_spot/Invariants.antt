@@ -1,0 +1,12 @@
+use Rattle.queue.proofs.layout.TurnLaws.{Scan}
+use Rattle.queue.proofs.read.FindLaws.{spots_f}
+use Rattle.queue.specs.layout.FormsCodec.{form_c}
+use Rattle.queue.specs.layout.FrameCodec.{rec_c}
+use Rattle.std.specs.Prelude.{false}
+use Rattle.queue.proofs.read.find.find_spot.Given as goal
+
+abbrev pub invariant-loop-left : goal.invariant-loop-left
+invariant-loop-left l = Scan (form_c false rec_c) (spots_f l.id) l.s l.initial.left l.initial.i l.initial.i l.i l.left l.i
+
+abbrev pub decreases-loop-left : goal.decreases-loop-left
+decreases-loop-left l = l.left
