@@ -1,6 +1,6 @@
 #!/usr/bin/env bash
 # install.sh PREFIX: installs the static library, the C header and a pkg-config file below PREFIX. The library is made by
-# `rt staticlib pokerbox`; POKERBOX_LIB_DIR names another folder that has it.
+# tools/staticlib.sh; POKERBOX_LIB_DIR names another folder that has it.
 set -euo pipefail
 
 if [ $# -ne 1 ] || [ -z "$1" ] || [ "${1#-}" != "$1" ]; then
@@ -12,7 +12,7 @@ prefix=$(cd "$1" && pwd)
 root=$(cd "$(dirname "${BASH_SOURCE[0]}")/.." && pwd)
 library=${POKERBOX_LIB_DIR:-$root/target/staticlib}/libpokerbox.a
 if [ ! -f "$library" ]; then
-    echo "install.sh: $library is not there: run \`rt staticlib pokerbox\` in $root first" >&2
+    echo "install.sh: $library is not there: run \`bash tools/staticlib.sh\` in $root first" >&2
     exit 1
 fi
 version=$(sed -n 's/^version = "\(.*\)"$/\1/p' "$root/rust/node/Cargo.toml")

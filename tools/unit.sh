@@ -13,7 +13,7 @@ cd "$(dirname "${BASH_SOURCE[0]}")/.."
 
 if [ ! -f target/staticlib/libpokerbox.a ]; then
     echo "The library is not built yet. Its proofs are checked first, which takes some minutes (docs/PROOFS.md has the times)."
-    rt staticlib pokerbox
+    bash tools/staticlib.sh
 fi
 bash tools/packages.sh
 cd rust

@@ -1,16 +1,19 @@
 #!/usr/bin/env python3
-"""Tries each wrong answer of tools/wrong-answers.txt: edits a copy of the repository and asks the prover.
+"""Tries each wrong answer of tools/wrong-answers.txt: edits a copy of the crates and asks the prover.
 
-  wrong_answers.py DIR [WORD..]   DIR: a folder to make the copy in (kept, so that a second run is quicker);
-                                  WORD..: only the calls whose names have one of these words
+  wrong_answers.py DIR [WORD..]   DIR: a folder outside the repository to make the copy in (kept, so that a second run is
+                                  quicker); WORD..: only those with one of these words in the call's name or in what is wrong
 
-A function's proof rests on the contracts of the functions that it calls, not on their code: so one check judges many edits, as
-long as no two are in one function. Each edit has to be refused at a fact, and these are shown; a proof that no longer fits the
-edited code refuses nothing. Exit status 1 if an edit is not refused.
+A function's proof rests on the contracts of the functions that it calls, not on their code: so one `rt check` judges many
+edits, as long as no two are in one function. Each edit has to be refused at a fact, and these are shown; a proof file that no
+longer fits the edited code, as one that names a goal which is gone, refuses nothing. Goals and facts are named after what the
+code tests (`if c == 0`: `c-eq0`), so an edit of a test also has lines '~ OLD NEW', which bring these names in the function's
+proof files. Exit status 1 if an edit is not refused. What `rt check` said of each round stands in DIR/round-N.log.
 """
-import os, re, shutil, subprocess, sys
+import glob, os, re, shutil, subprocess, sys
 
 HERE = os.path.dirname(os.path.dirname(os.path.abspath(__file__)))
+CRATES = ("queue", "image", "pokerbox")
 
 
 def edits():
@@ -24,7 +27,8 @@ def edits():
         crate, rest = path.split("/", 1)
         old = [l[2:] for l in lines[2:] if l[0] == "-"]
         new = [l[2:] for l in lines[2:] if l[0] == "+"]
-        yield {"call": call, "wrong": wrong, "crate": crate, "file": os.path.join("crates", path), "fn": fn, "old": old, "new": new}
+        names = dict(l[2:].split() for l in lines[2:] if l[0] == "~")
+        yield {"call": call, "wrong": wrong, "crate": crate, "file": os.path.join("crates", path), "src": rest, "fn": fn, "old": old, "new": new, "names": names}
 
 
 def span(lines, fn):
@@ -49,12 +53,25 @@ def apply(folder, e):
     i = hits[-1]
     lines[i:i + n] = e["new"]
     open(path, "w").write("\n".join(lines))
+    if not e["names"]:
+        return
+    found = [f for at in ("", "*/") for plus in ("", "+") for f in glob.glob(os.path.join(folder, "crates", e["crate"], "proofs", module(e), at + plus + e["fn"], "*.antt"))]
+    names = re.compile(r"(?<![\w'])(%s)(?![\w'])" % "|".join(map(re.escape, sorted(e["names"], key=len, reverse=True))))
+    for path in found:
+        text = open(path).read()
+        open(path, "w").write(names.sub(lambda m: e["names"][m[1]], text))
+
+
+def module(e):
+    """The folder of the module's proofs, below proofs/: that of its file, and none for the root."""
+    found = re.sub(r"^src/|\.rt$", "", e["src"])
+    return "" if found in ("lib", "main") else found
 
 
 def rounds(todo):
     out = []
     for e in todo:
-        key = (e["crate"], e["fn"])
+        key = (e["file"], e["fn"])
         for r in out:
             if r["crate"] == e["crate"] and key not in r["keys"]:
                 break
@@ -67,32 +84,39 @@ def rounds(todo):
 
 
 def restore(folder):
-    for crate in ("queue", "image", "pokerbox"):
-        src = os.path.join("crates", crate, "src")
-        shutil.rmtree(os.path.join(folder, src), ignore_errors=True)
-        shutil.copytree(os.path.join(HERE, src), os.path.join(folder, src))
+    """The crates as they are here; what a check kept in out/ stays."""
+    for crate in CRATES:
+        for part in ("src", "specs", "proofs"):
+            to = os.path.join(folder, "crates", crate, part)
+            shutil.rmtree(to, ignore_errors=True)
+            shutil.copytree(os.path.join(HERE, "crates", crate, part), to)
+    with open(os.path.join(HERE, "crates.txt")) as f:
+        listed = [l for l in f if l.split(":")[0].strip() in CRATES]
+    with open(os.path.join(folder, "crates.txt"), "w") as f:
+        f.writelines(listed)
 
 
 def main():
     if len(sys.argv) < 2 or sys.argv[1].startswith("-"):
         sys.exit(__doc__)
-    folder = sys.argv[1]
+    folder = os.path.abspath(sys.argv[1])
+    if (folder + os.sep).startswith(HERE + os.sep):
+        sys.exit("wrong_answers.py: %s is inside the repository, whose `rt ci` would refuse the copy" % folder)
     words = sys.argv[2:]
-    todo = [e for e in edits() if not words or any(w in e["call"] for w in words)]
-    if not os.path.exists(folder):
-        shutil.copytree(HERE, folder, ignore=shutil.ignore_patterns(".git"), symlinks=True)
+    todo = [e for e in edits() if not words or any(w in e["call"] + ": " + e["wrong"] for w in words)]
+    os.makedirs(folder, exist_ok=True)
     taken = 0
     for n, r in enumerate(rounds(todo)):
         restore(folder)
         for e in r["edits"]:
             apply(folder, e)
         print("== round %d: %d edits of %s" % (n + 1, len(r["edits"]), r["crate"]), flush=True)
-        p = subprocess.run(["rt", "dev", r["crate"]], cwd=folder, env=dict(os.environ, RT_CUT="0"),
+        p = subprocess.run(["rt", "check"], cwd=os.path.join(folder, "crates", r["crate"]),
                            stdout=subprocess.PIPE, stderr=subprocess.STDOUT, text=True, errors="replace")
-        log = os.path.join(folder, "target", "wrong-%d.log" % (n + 1))
+        log = os.path.join(folder, "round-%d.log" % (n + 1))
         open(log, "w").write(p.stdout)
         for e in r["edits"]:
-            facts = refused(p.stdout, e)
+            facts = refused(p.stdout, e, folder)
             taken += not facts
             print("%s  %s: %s (%s)" % ("refused" if facts else "NOT REFUSED", e["call"], e["wrong"], ", ".join(facts) or log), flush=True)
     restore(folder)
@@ -100,20 +124,26 @@ def main():
     sys.exit(1 if taken else 0)
 
 
-def refused(out, e):
-    """The facts at which e was refused; none where its function was proved, or where the proof's text did not fit the edit."""
+def refused(out, e, folder):
+    """The facts at which e was refused; none where its function was proved, or where its proof files do not fit the edit."""
     facts = []
-    at = re.compile(r"proofs/(?:\S*/)?\+?%s/Proof\.antt:\S* error: `(\S+)`: (.*)" % re.escape(e["fn"]))
+    # With a file: the goal whose answer no longer says what the function has to.
+    files = re.compile(r"\./proofs/%s(?:\w+/)?\+?%s/(?:Answers|Invariants|Proof)\.antt:\S* error: (.*)" % (re.escape(module(e)) + "/" if module(e) else "", re.escape(e["fn"])))
+    # Without: the goal that the prover does not close by itself, at a line of the function.
+    lines = open(os.path.join(folder, e["file"])).read().split("\n")
+    a, b = span(lines, e["fn"])
+    alone = re.compile(r"(?:note|error): %s:(\d+):\d+: it is not proved that .*?\(`([^`]+)`\)" % re.escape(e["src"]))
     for line in out.split("\n"):
-        m = at.search(line)
-        if m and "was not admitted" not in m[2]:
-            if re.search(r"has no field|has no `Need-", m[2]):
-                return []
-            if m[1] not in facts:
-                facts.append(m[1])
-        m = re.match(r"fn \S*::%s: no proof: .*`search` does not close (.*)" % re.escape(e["fn"]), line)
+        m = files.search(line)
         if m:
-            facts += re.findall(r"`([^`]+)`", m[1])
+            goal = re.match(r"`([^`]+)`: (.*)", m[1])
+            if not goal or re.search(r"has no field|has no `|no goal|not in scope|cannot be named", goal[2]):
+                return []
+            if goal[1] not in facts:
+                facts.append(goal[1])
+        m = alone.search(line)
+        if m and a < int(m[1]) <= b + 1 and m[2] not in facts:
+            facts.append(m[2])
     return facts
 
 

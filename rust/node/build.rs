@@ -165,7 +165,7 @@ fn check_library(library: &Path, missing: &[String]) {
     println!("cargo:rerun-if-changed={}", library.display());
     let archive = fs::read(library).unwrap_or_else(|error| {
         stop(&format!(
-            "cannot read {}: {error}. Run `rt staticlib pokerbox` in the repository's root, or \
+            "cannot read {}: {error}. Run `bash tools/staticlib.sh` in the repository's root, or \
              set {FOLDER_VARIABLE} to the folder that holds libpokerbox.a",
             library.display()
         ))
@@ -181,7 +181,7 @@ fn check_library(library: &Path, missing: &[String]) {
         }
         if !exported && !is_in(missing, call) {
             stop(&format!(
-                "{} does not export pokerbox_{call}: run `rt staticlib pokerbox` again, or put \
+                "{} does not export pokerbox_{call}: run `bash tools/staticlib.sh` again, or put \
                  the name on NOT_EXPORTED_YET in node/build.rs",
                 library.display()
             ));
