@@ -1,4 +1,4 @@
--- The counters' loops, and that the list they make is the parents_first order. Assumes nothing.
+-- The counters' loops, and that the list they make is the parents-first order. Assumes nothing.
 use Rattle.std.specs.Prelude.{◌≡◌, refl, Bool, true, false, cond, not, ◌&&◌, ◌||◌, List, [], ◌∷◌, ◌++◌, ℕ, zero, suc, ◌+◌, ◌-◌, ◌*◌, ◌/◌, ◌%◌, ◌^◌, ◌≤◌, ◌<◌, ltb, eqb, length, take, drop, get_or, set, replicate}
 use Rattle.std.proofs.Common.{ap, sym, ◌∙◌, subst, append_assoc, append-nil, arith, pow-suc, pow_pos, div-one, div-add-mod', add-zero, suc-mul, zero-mul, mul-le-mul_right, mul_comm, le_of_suc-le-suc, div-lt_iff_lt-mul, add-one, length-set, length-append, take-append-drop, get_or-set_same, get_or-set_other, take-suc-set, ext_get_or, length-take-le, eqb-true, eq-eqb, ne_eqb, ltb-true, ltb-false, lt-ltb, le-ltb}
 use Rattle.std.proofs.Math.Option.{some}

@@ -661,7 +661,7 @@ cards =
     ∷ sound? (holding (with_reads (9 ∷ []) (waiting (1, (0, (8 ∷ [], [])))) ∷ with_reads (9 ∷ []) (waiting (2, (0, ([], [])))) ∷ []))
     ∷ sound? (holding (with_reads (8 ∷ 8 ∷ []) (waiting (1, (0, (8 ∷ [], [])))) ∷ []))
     ∷ not (sound? (holding (with_reads (1 ∷ 2 ∷ 3 ∷ []) (waiting (1, (0, ([], [])))) ∷ [])))
-    -- "the parents_first order waits for them as for inputs"
+    -- "the parents-first order waits for them as for inputs"
     ∷ lists_at? 0 0 (with_reads (60 ∷ []) (waiting (1, (0, ([], [])))) ∷ waiting (2, (0, (50 ∷ [], 60 ∷ []))) ∷ []) (2 ∷ 1 ∷ [])
     ∷ lists_at? 0 0 (with_reads (60 ∷ []) (waiting (1, (0, ([], 60 ∷ [])))) ∷ waiting (2, (0, (50 ∷ [], []))) ∷ []) (1 ∷ 2 ∷ [])
     ∷ lists_at? 0 0 (with_reads (60 ∷ []) (waiting (1, (0, ([], [])))) ∷ in_block (2, (0, (50 ∷ [], 60 ∷ []))) ∷ []) (1 ∷ [])
