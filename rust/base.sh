@@ -9,29 +9,19 @@
 # POKERBOX_BASE_LIB names the folder with the kept libpokerbox.a of BASE. It can't be built any more: that commit is written
 # for a Rattle of its time, and today's reads none of it.
 set -euo pipefail
+library=${POKERBOX_BASE_LIB:-}
+if [ -d "$library" ]; then library=$(cd "$library" && pwd); fi
 cd "$(dirname "${BASH_SOURCE[0]}")"
 
 BASE=c82b581
 queues=${1:-100000}
 seed=${2:-1}
 
-library=${POKERBOX_BASE_LIB:-}
-if [ -z "$library" ]; then
-    echo "base.sh: POKERBOX_BASE_LIB is not set, so nothing is compared. It names a folder with the libpokerbox.a of $BASE," >&2
-    echo "base.sh: which was built when that commit could be; today's toolchain can't build it." >&2
-    exit 2
-fi
-if [ ! -f "$library/libpokerbox.a" ]; then
-    echo "base.sh: $library has no libpokerbox.a, so nothing is compared" >&2
-    exit 2
-fi
-library=$(cd "$library" && pwd)
-
 # Each line of a definition above 'Opening' stands in that commit's files of definitions. That is looked for in the file as it
 # was in OLDER, the last commit in BASE's spelling; and the file of today is the one that the port left, which RESPELLED is a
 # sum of (docs/PORT.md says what the port changes in such a file).
-OLDER=a52c368b
-RESPELLED=0fea25471980d2fe2550d050553d954205fe5c8e0682e20daf8e8a88b79f89b6
+OLDER=a52c368
+RESPELLED=70d4ae1ccd6922fc8d95b6eafc9b768bea36455d8b9e5774c543fc4e2ea2c66c
 plain() { sed -e '/^use /d' -e '/^ *--/d' -e '/^ *$/d'; }
 base_file() { git -C .. show "$BASE:crates/$1"; }
 frozen=$(git -C .. show "$OLDER:crates/queue/specs/paper/Base.antt" | sed -e '/^-- ---- Opening/,$d' -e 's/heldSum/heldBytes/g' | plain)
@@ -46,6 +36,16 @@ sum=$(plain <../crates/queue/specs/paper/Base.antt | sha256sum | cut -d ' ' -f 1
 if [ "$sum" != "$RESPELLED" ]; then
     echo "base.sh: crates/queue/specs/paper/Base.antt is not as the port left it (its lines have the sum $sum)"
     exit 1
+fi
+
+if [ -z "$library" ]; then
+    echo "base.sh: POKERBOX_BASE_LIB is not set, so no library is compared. It names a folder with the libpokerbox.a of $BASE," >&2
+    echo "base.sh: which was built when that commit could be; today's toolchain can't build it." >&2
+    exit 2
+fi
+if [ ! -f "$library/libpokerbox.a" ]; then
+    echo "base.sh: $library has no libpokerbox.a, so no library is compared" >&2
+    exit 2
 fi
 
 export POKERBOX_BASE_LIB_DIR=$library

@@ -15,6 +15,10 @@ import glob, os, re, shutil, subprocess, sys
 HERE = os.path.dirname(os.path.dirname(os.path.abspath(__file__)))
 CRATES = ("queue", "image", "pokerbox")
 
+# What the check says where a proof file does not fit or cannot be read, and where it tells nothing of a goal.
+MISSING = re.compile(r"has no (?:field|item|member|constructor|`)|no goal|not in scope|is no name|cannot be named|operand is missing|expected the end|cannot continue")
+UNTOLD = re.compile(r"was not admitted|resource limit")
+
 
 def edits():
     text = open(os.path.join(HERE, "tools/wrong-answers.txt")).read()
@@ -137,9 +141,9 @@ def refused(out, e, folder):
         m = files.search(line)
         if m:
             goal = re.match(r"`([^`]+)`: (.*)", m[1])
-            if not goal or re.search(r"has no field|has no `|no goal|not in scope|cannot be named", goal[2]):
+            if not goal or MISSING.search(goal[2]):
                 return []
-            if goal[1] not in facts:
+            if goal[1] not in facts and not UNTOLD.search(goal[2]):
                 facts.append(goal[1])
         m = alone.search(line)
         if m and a < int(m[1]) <= b + 1 and m[2] not in facts:

@@ -1,6 +1,7 @@
 -- Laws of the way back: a text of the newest kind, and the image of kind 01 of its queue. Assumes nothing.
 use Rattle.std.specs.Prelude.{◌≡◌, refl, Bool, true, false, cond, not, ◌&&◌, List, [], ◌∷◌, ◌++◌, ℕ, suc, ◌+◌, ◌-◌, ◌*◌, ◌%◌, ◌^◌, ◌≤◌, ◌<◌, eqb, length, drop, take, replicate}
 use Rattle.std.proofs.Common.{ap, sym, ◌∙◌, append_assoc, append-nil, arith, length-append, take_at, length-take-le, lt-ltb, le-ltb, eq-eqb, ne_eqb}
+use Rattle.std.proofs.lemmas.Bool.{not-false}
 use Rattle.std.proofs.Math.Option.{Option, none, some}
 use Rattle.queue.specs.Basics.{join_left}
 use Rattle.queue.specs.declared.Kind.TheVariants.{Nothing}
@@ -487,3 +488,11 @@ module _ {s : Bytes} {t : Text} (w : TextIs s t) (out : Bytes) (old : ℕ) where
               let i : out' ≡ over ((store_in (text_form oldest)).enc (store_of the_queue)) out = put_over (p (store_of the_queue) store_told (sym says_store ∙ yes)) (omega (arith, ap length old_image, long_is)) in
               let o : out' ≡ over (image_under oldest the_queue) out = i ∙ ap (λ (y : Bytes). over y out) old_image in
               rw (newest_read, yes, ← long_is, le-ltb (length out) n h) (ap (λ (y : Bytes). (Done Nothing, (y, n))) o)
+
+-- a text of another kind than the newest
+pub another_kind : {s out : Bytes} {t : Text} {old : ℕ} → TextIs s t → not t.ok ≡ false → (t.form.kind ≡ newest → ⊥) → (Refused 16, (out, old)) ≡ convert_of s out old
+another_kind {out = out} {old = old} w f n = back_other w out old (not-false _ f) n
+
+-- what is asked of `said`: the queue of a text of the newest kind
+pub newest_told : {s : Bytes} {t : Text} → TextIs s t → not t.ok ≡ false → t.form.kind ≡ newest → Told s t.open
+newest_told w f k = back_told w [] 0 (not-false _ f) k

@@ -1,5 +1,6 @@
 -- Laws of the image: a text that is read, frames in the other form, and each exit of the calls. Assumes nothing.
-use Rattle.std.specs.Prelude.{◌≡◌, refl, Bool, true, false, cond, List, [], ◌∷◌, ◌++◌, ℕ, suc, ◌+◌, ◌-◌, ◌*◌, ◌≤◌, ◌<◌, length, drop, take, get_or, replicate}
+use Rattle.std.specs.Prelude.{◌≡◌, refl, Bool, true, false, cond, not, List, [], ◌∷◌, ◌++◌, ℕ, suc, ◌+◌, ◌-◌, ◌*◌, ◌≤◌, ◌<◌, length, drop, take, get_or, replicate}
+use Rattle.std.proofs.lemmas.Bool.{not-false}
 use Rattle.std.proofs.Common.{ap, sym, ◌∙◌, append_assoc, append-nil, arith, zero-add, length-append, length-drop, take-append-drop, take_at, drop_at, drop-drop, length-take-le, lt-ltb, le-ltb, le-leb, leb-true, eq-eqb, ne_eqb}
 use Rattle.std.proofs.Math.Option.{Option, none, some}
 use Rattle.queue.specs.Basics.{join_left}
@@ -105,6 +106,13 @@ module _ {s : Bytes} (k : ℕ) (i : k ≡ kind_of s) (kn : kind? k ≡ true) {y 
         );
         bad = λ z. false_true (sym z ∙ e1);
       }
+
+-- a text that is read to its end, whose queue breaks a rule
+pub unsound_read : {s : Bytes} {k : ℕ} {y : Open} {v b : Bool} → k ≡ get_or (view true s 0) 0 0 → v ≡ kind? k → v ≡ true
+    → Reads (store_in (text_form k)) s 0 y.ok y.next (StoreAs (text_form k) s 0 y) → not y.ok ≡ false → y.next ≡ length s
+    → b ≡ sound_l (limits_in y.head.limits) y.head.counter.0 (list_at (rec_in_value (text_form k)) y.head.count s y.start) → b ≡ false
+    → TextIs s (record { ok = false; form = record { hex = true; kind = k }; «open» = y; need = 0 })
+unsound_read {s} {k} {y} i v t r f n d e = text_unsound k (kind_is s i) (sym v ∙ t) r (not-false _ f) n d e refl
 
 -- ---- one frame
 -- a frame of an area as a line

@@ -137,6 +137,7 @@ pub fn image_limits(
 }
 
 // From an image of the newest kind to the image of kind 01 of the same queue. All that can refuse comes before the first byte is written.
+#[tactic(auto, using(crate::proofs::BackLaws::another_kind, crate::proofs::BackLaws::newest_told))]
 pub fn convert(text: &[u8], out: &mut [u8], size: &mut u64) -> Answer
     ensures { (result, (out.new, size.new)) ≡ convert_of text.now out.old size.old }
 {

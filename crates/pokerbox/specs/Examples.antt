@@ -13,7 +13,7 @@ use Rattle.queue.specs.paper.Sound.{in_range, shares_right?, limits_right?, need
 use Rattle.queue.specs.paper.Area.{terms_under, place_bytes}
 use Rattle.queue.specs.paper.Changing.{committed, moved, new_rec, admit, finished, finish_those, forget, cancel, reconcile, touch, releases, touched_recs, to_release}
 use Rattle.queue.specs.paper.Calls.{number, items, entry_bytes, ids_bytes, released_bytes, Call, admitting, cancelling, reconciling, work}
-use Rattle.pokerbox.specs.paper.Machine.{kept, failed, cutBefore, cutAfter, Lent, Step, call, cut, Told, run, Plain, restart, plain_step, World, world_step}
+use Rattle.pokerbox.specs.paper.Machine.{kept, failed, cut_before, cut_after, Lent, Step, call, cut, Told, run, Plain, restart, plain_step, World, world_step}
 use Rattle.pokerbox.specs.paper.Claim.{Small, CallOk, moved_last, Holds, Image, Claim}
 use Rattle.pokerbox.specs.Runs.{image_cursor}
 use Rattle.pokerbox.specs.Theorem.{the_claim, image_room, RoomyOk, roomy, world}
@@ -66,8 +66,8 @@ steps =
     ∷ call (enters 1) lent kept
     ∷ call (enters 2) short kept
     ∷ call (seen 131) lent kept
-    ∷ call (cancelling (id 1)) lent (cutBefore (some (1 ∷ [])))
-    ∷ call (cancelling (id 1)) lent cutAfter
+    ∷ call (cancelling (id 1)) lent (cut_before (some (1 ∷ [])))
+    ∷ call (cancelling (id 1)) lent cut_after
     ∷ cut lent
     ∷ call (seen 132) lent (failed (some []))
     ∷ []

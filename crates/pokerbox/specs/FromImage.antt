@@ -15,7 +15,7 @@ use Rattle.queue.specs.paper.Sound.{limits_right?}
 use Rattle.queue.specs.paper.Area.{area_bytes, image_bytes, over}
 use Rattle.queue.specs.paper.Calls.{call_of, settle_of}
 use Rattle.image.specs.paper.Image.{open_of}
-use Rattle.pokerbox.specs.paper.Machine.{Fate, kept, failed, cutBefore, cutAfter, Lent, Step, call, cut, run, restart, plain_step, World, image_text, starts, restarted, wrote_bytes, settling_bytes, world_step, tells}
+use Rattle.pokerbox.specs.paper.Machine.{Fate, kept, failed, cut_before, cut_after, Lent, Step, call, cut, run, restart, plain_step, World, image_text, starts, restarted, wrote_bytes, settling_bytes, world_step, tells}
 use Rattle.pokerbox.specs.paper.Claim.{TextOr, FromImage}
 use Rattle.pokerbox.specs.Runs.{images, StoredOk, starts_is, restart_inv, run_same}
 use Rattle.pokerbox.specs.Theorem.{same_holds}
@@ -58,8 +58,8 @@ module _ (m : Limits) (t t' : Bytes) (same : (other : Bytes) → open_of t other
     wrote_twin : (kind : ℕ) (fate : Fate) → Alike t t' (wrote_bytes m w l next kind fate) (wrote_bytes m w' l next kind fate)
     wrote_twin kind kept = record { told = ap (λ z. some z.0) (settled kind 0); twin = anew _ _ (some (image_text next l.text)) none none (ap (λ z. z.1) (settled kind 0)) }
     wrote_twin kind (failed second) = record { told = ap (λ z. some z.0) (settled kind 1); twin = as_was _ _ second second (ap (λ z. z.1) (settled kind 1)) }
-    wrote_twin kind (cutBefore second) = record { told = refl; twin = cut_twin l.other second }
-    wrote_twin kind cutAfter = record { told = refl; twin = anew _ _ (some (image_text next l.text)) none none refl }
+    wrote_twin kind (cut_before second) = record { told = refl; twin = cut_twin l.other second }
+    wrote_twin kind cut_after = record { told = refl; twin = anew _ _ (some (image_text next l.text)) none none refl }
 
     settling_twin : (fate : Fate) (a : Answer) → Alike t t' (settling_bytes m w l next fate a) (settling_bytes m w' l next fate a)
     settling_twin fate (Refused n) = record { told = refl; twin = x }

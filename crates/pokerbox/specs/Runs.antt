@@ -23,7 +23,7 @@ use Rattle.queue.specs.paper.Kinds.{newest}
 use Rattle.queue.specs.paper.Changing.{moved}
 use Rattle.queue.specs.paper.Calls.{Call, Worked, work, next_area, fresh, fresh_of, settle_of, by_kind}
 use Rattle.image.specs.paper.Image.{image_of, open_of}
-use Rattle.pokerbox.specs.paper.Machine.{Fate, kept, failed, cutBefore, cutAfter, Lent, Step, call, cut, run, Plain, restart, settling, plain_step, World, image_text, fresh_under, starts, restarted, settled_in, settling_bytes, world_step, tells}
+use Rattle.pokerbox.specs.paper.Machine.{Fate, kept, failed, cut_before, cut_after, Lent, Step, call, cut, run, Plain, restart, settling, plain_step, World, image_text, fresh_under, starts, restarted, settled_in, settling_bytes, world_step, tells}
 use Rattle.pokerbox.specs.paper.Claim.{by_answer, mover, moved_by, moved_last, StepOk, StepsOk, CallOk}
 use Rattle.pokerbox.specs.Answers.{Good, call_is, work_good}
 
@@ -215,14 +215,14 @@ module _ (m : Limits) (range : limits_right? m ≡ true) (old : Bool) (p : Plain
     whole_same : (fate : Fate) → Same m (by_answer old new fate (Done Whole)) (settling m p x fate (Done Whole)) (settling_bytes m w l next fate (Done Whole))
     whole_same kept = kept_same (settle_of w.area next 2 0) (settle_kept2 w.area next p.queue x cur_reads next_reads)
     whole_same (failed second) = back_same second
-    whole_same (cutBefore second) = cut_same none second false
-    whole_same cutAfter = after_same
+    whole_same (cut_before second) = cut_same none second false
+    whole_same cut_after = after_same
 
     cursor_same : (fate : Fate) → x.recs ≡ p.queue.recs → Same m (by_answer old new fate (Done Cursor)) (settling m p x fate (Done Cursor)) (settling_bytes m w l next fate (Done Cursor))
     cursor_same kept h = kept_same (settle_of w.area next 3 0) (settle_kept3 w.area next p.queue x cur_reads next_reads)
     cursor_same (failed second) h = lost_same second h
-    cursor_same (cutBefore second) h = cut_same none second false
-    cursor_same cutAfter h = after_same
+    cursor_same (cut_before second) h = cut_same none second false
+    cursor_same cut_after h = after_same
 
   settle_same : (new : Bool) (a : Answer) (x : Queue) (fate : Fate) → Good new p.queue a x → TextOk a x l.text
       → Same m (by_answer old new fate a) (settling m p x fate a) (settling_bytes m w l (next_area a x l.next) fate a)

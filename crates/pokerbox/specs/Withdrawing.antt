@@ -27,7 +27,7 @@ use Rattle.queue.specs.paper.Fees.{best_fees_value, candidates, size_of, fee_of}
 use Rattle.queue.specs.paper.Parents.{waits_for?, parents_first_at}
 use Rattle.queue.specs.read.parents.Laws.{all_in, in_all}
 use Rattle.queue.specs.read.parents.Claims.{selected_once, such}
-use Rattle.pokerbox.specs.paper.Machine.{Fate, kept, failed, cutBefore, cutAfter, Step, call, cut, run, Plain, restart, wrote, settling, plain_step, world_step}
+use Rattle.pokerbox.specs.paper.Machine.{Fate, kept, failed, cut_before, cut_after, Step, call, cut, run, Plain, restart, wrote, settling, plain_step, world_step}
 use Rattle.pokerbox.specs.paper.Claim.{StepOk, StepsOk, mover, moved_by}
 use Rattle.pokerbox.specs.paper.Withdrawn.{withdraws, admits, History, with_write, resumed, noted, history_by, history, NotSelected, WithdrawnUnselected, kept_here?, kept_ids, NotAdmitted, after, WithdrawnStays}
 use Rattle.pokerbox.specs.Answers.{Good, work_good}
@@ -100,8 +100,8 @@ module _ (m : Limits) (p : Plain) (h : History) (v : Covered m p h) where
   unfolding moved
   noted_covered x lost l k o kept = record { now = k; stored = k }
   noted_covered x lost l k o (failed second) = record { now = o; stored = v.stored }
-  noted_covered x lost l k o (cutBefore second) = resumed_covered m p.stored h.stored v.stored
-  noted_covered x lost l k o cutAfter = resumed_covered m (some x) (some l) k
+  noted_covered x lost l k o (cut_before second) = resumed_covered m p.stored h.stored v.stored
+  noted_covered x lost l k o cut_after = resumed_covered m (some x) (some l) k
 
   settled_covered : (near : Bool) (c : Call) (x : Queue) (fate : Fate) (a : Answer) → Good near p.queue a x → WrittenBy c p.queue a x
       → Covered m (settling m p x fate a).1 (by_kind a h h (noted h (with_write c p.queue h.now) fate) (noted h h.now fate))
@@ -187,8 +187,8 @@ InHistory i h = (among? i h.now ≡ true) × (among? i (resumed h.stored).now �
 noted_there : (i : Id) (h : History) (l : List Id) (fate : Fate) → (kept_here? fate ≡ true → among? i l ≡ true) → InHistory i h → InHistory i (noted h l fate)
 noted_there i h l kept k n = (k refl, k refl)
 noted_there i h l (failed second) k n = n
-noted_there i h l (cutBefore second) k n = (n.1, n.1)
-noted_there i h l cutAfter k n = (k refl, k refl)
+noted_there i h l (cut_before second) k n = (n.1, n.1)
+noted_there i h l cut_after k n = (k refl, k refl)
 
 module _ (p : Plain) (h : History) (i : Id) where
   -- by a withdrawal that was kept
@@ -201,8 +201,8 @@ module _ (p : Plain) (h : History) (i : Id) where
       put : (fate : Fate) → among? i (cond (kept_here? fate) (withdraws c p.queue) []) ≡ true → InHistory i (noted h (with_write c p.queue h.now) fate)
       put kept t = (new t, new t)
       put (failed second) t = false_true t
-      put (cutBefore second) t = false_true t
-      put cutAfter t = (new t, new t)
+      put (cut_before second) t = false_true t
+      put cut_after t = (new t, new t)
 
       go : (a : Answer) (fate : Fate) → among? i (by_kind a [] [] (cond (kept_here? fate) (withdraws c p.queue) []) []) ≡ true
           → InHistory i (by_kind a h h (noted h (with_write c p.queue h.now) fate) (noted h h.now fate))

@@ -13,7 +13,7 @@ use Rattle.queue.specs.paper.Area.{terms_under, place_bytes, be_val}
 use Rattle.queue.specs.paper.Changing.{committed, moved, new_rec, admit, finished, finish_those, forget, cancel, due?, expire, confirm, touch, touched_recs, releases, to_release, reconcile, reopened, reopen}
 use Rattle.queue.specs.paper.Reading.{selection_at}
 use Rattle.queue.specs.paper.Calls.{items, entry_bytes, ids_bytes, released_bytes, Call, admitting, cancelling, expiring, reconciling, reopening, work, told_out, selection_at_of}
-use Rattle.pokerbox.specs.paper.Machine.{kept, failed, cutBefore, cutAfter, Lent, Step, call, cut, run, restart, plain_step, world_step}
+use Rattle.pokerbox.specs.paper.Machine.{kept, failed, cut_before, cut_after, Lent, Step, call, cut, run, restart, plain_step, world_step}
 use Rattle.pokerbox.specs.paper.Claim.{CallOk}
 use Rattle.pokerbox.specs.paper.Withdrawn.{resumed, history, after, NotSelected, WithdrawnUnselected, WithdrawnStays}
 use Rattle.pokerbox.specs.Theorem.{image_room, RoomyOk, roomy, world}
@@ -81,17 +81,17 @@ abbrev with_failed : List Step
 with_failed = call (enters 1) lent kept ∷ call cancels lent (failed none) ∷ []
 
 abbrev with_cut_before : List Step
-with_cut_before = call (enters 1) lent kept ∷ call cancels lent (cutBefore (some (1 ∷ []))) ∷ []
+with_cut_before = call (enters 1) lent kept ∷ call cancels lent (cut_before (some (1 ∷ []))) ∷ []
 
 abbrev with_cut_after : List Step
-with_cut_after = call (enters 1) lent kept ∷ call cancels lent cutAfter ∷ []
+with_cut_after = call (enters 1) lent kept ∷ call cancels lent cut_after ∷ []
 
 -- cancelled, and admitted again: with a failed write, and with one that is cut after its rename
 abbrev again_failed : List Step
 again_failed = call (enters 1) lent kept ∷ call cancels lent kept ∷ call (enters 1) lent (failed none) ∷ []
 
 abbrev again_cut_after : List Step
-again_cut_after = call (enters 1) lent kept ∷ call cancels lent kept ∷ call (enters 1) lent cutAfter ∷ []
+again_cut_after = call (enters 1) lent kept ∷ call cancels lent kept ∷ call (enters 1) lent cut_after ∷ []
 
 -- confirmed and released, rolled back (Expired with reason 3), then a cancellation of kind 0
 abbrev nothing_to_cancel : List Step

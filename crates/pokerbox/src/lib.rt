@@ -1,4 +1,4 @@
-// The calls that a node links. Each gives back document 01's number; docs/CALLS.md has the arguments and the answers.
+// The calls, which pokerbox_c exports to C and Rust. Each gives back document 01's number; docs/CALLS.md has the arguments and the answers.
 #![tactic(auto)]
 
 ghost use Rattle.std.specs.Prelude.{◌≡◌, [], ◌++◌, ◌≤◌};

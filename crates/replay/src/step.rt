@@ -1,4 +1,4 @@
-// The steps: an exported call each, or what a node does between calls. README.md has the letters.
+// The steps: a call of pokerbox each, or what a node does between calls. README.md has the letters.
 use super::text::{
     arguments, copy, fill, filled, least, length_at, letter, number, number_8, number_32, part,
     read_line, rest, say, say_bytes, say_decimal, say_number,

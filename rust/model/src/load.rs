@@ -17,7 +17,7 @@ pub enum Ids {
     Front,
     /// The first and the last 8 bytes alike.
     Ends,
-    /// The sum of the first and the last 8 bytes alike: one number in the filter (`Filter.hashL`).
+    /// The sum of the first and the last 8 bytes alike: one number in the filter (`FilterAs.hash_l`).
     Filter,
     /// The sum of all four words of 8 bytes alike: one number where parents are looked for.
     Sum,

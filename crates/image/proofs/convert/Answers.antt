@@ -1,15 +1,9 @@
-use Rattle.image.proofs.BackLaws.{back_22, back_4, back_done, back_len, back_none, back_other, back_room, back_told}
+use Rattle.image.proofs.BackLaws.{back_22, back_4, back_done, back_len, back_none, back_room}
 use Rattle.std.proofs.lemmas.Bool.{not-false, not-true}
 use Rattle.image.proofs.convert.Goals as goal
 
 pub returns-then-not-t : goal.returns-then-not-t
 returns-then-not-t c = back_none c.text_at-t.ensures _ _ (not-true _ c.if-not-t.true)
-
-pub returns-then-form-ne-NEWEST : goal.returns-then-form-ne-NEWEST
-returns-then-form-ne-NEWEST c = back_other c.text_at-t.ensures _ _ (not-false _ c.if-not-t.false) c.if-form-ne-NEWEST.true
-
-pub said-requires : goal.said-requires
-said-requires c = back_told c.text_at-t.ensures c.args.out.now 0 (not-false _ c.if-not-t.false) c.if-form-ne-NEWEST.false
 
 pub returns-then-not-said : goal.returns-then-not-said
 returns-then-not-said c = back_22 c.text_at-t.ensures _ _ (not-false _ c.if-not-t.false) c.if-form-ne-NEWEST.false c.said.ensures c.if-not-said.true

@@ -18,7 +18,7 @@ use Rattle.queue.specs.paper.Calls.{ids_bytes, Call, admitting, cancelling, expi
 use Rattle.queue.specs.paper.Fees.{best_fees_value, candidates, size_of, fee_of, search_of, budget?, best_fees_of}
 use Rattle.queue.specs.paper.Parents.{parents_first_at, parents_first_of, ParentsFirst}
 use Rattle.image.specs.paper.Image.{open_of}
-use Rattle.pokerbox.specs.paper.Machine.{Fate, kept, failed, cutBefore, cutAfter, Step, call, cut, Told, run, Plain, restart, plain_step, World, world_step, fresh_under, starts}
+use Rattle.pokerbox.specs.paper.Machine.{Fate, kept, failed, cut_before, cut_after, Step, call, cut, Told, run, Plain, restart, plain_step, World, world_step, fresh_under, starts}
 
 -- ---- which lists: any, as far as numbers fit their widths and bytes are bytes (a caller can lend nothing else), and "all
 -- other areas, and the output lent to the image writer, are long enough"
@@ -55,10 +55,10 @@ StepsOk m p (x ∷ xs) = StepOk m p x × StepsOk m (plain_step m p x).1 xs
 -- cut .. for next's if the rename had happened": next's cursor is also the one that opening then gives, so it is claimed on.
 
 abbrev pub by_write : Bool → Bool → Fate → Bool
-by_write new afterFailed kept = new
-by_write new afterFailed (failed second) = afterFailed
-by_write new afterFailed (cutBefore second) = false
-by_write new afterFailed cutAfter = new
+by_write new after_failed kept = new
+by_write new after_failed (failed second) = after_failed
+by_write new after_failed (cut_before second) = false
+by_write new after_failed cut_after = new
 
 abbrev pub by_answer : Bool → Bool → Fate → Answer → Bool
 by_answer old new fate a = by_kind a old new (by_write new old fate) (by_write new false fate)

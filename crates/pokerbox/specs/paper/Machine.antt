@@ -14,8 +14,8 @@ use Rattle.image.specs.paper.Image.{image_of, open_of}
 -- "the outcome of each write": kept, failed, cut before the rename or after it. "Cut before the rename, the second file may hold
 -- anything", and so it may after a failed write.
 pub data Fate : Type 0 where
-  kept cutAfter : Fate
-  failed cutBefore : Option Bytes → Fate
+  kept cut_after : Fate
+  failed cut_before : Option Bytes → Fate
 
 -- What the node lends in a step: the next area and the output to the call; the output to the image writer, should a write be
 -- due; the area to opening or to a fresh queue, should there be a cut.
@@ -63,8 +63,8 @@ restart m (some q) = record { queue = moved q.cursor q.cursor q.tip q; stored = 
 abbrev pub wrote : Limits → Plain → Queue → Queue → Fate → Option Answer × Plain
 wrote m p next lost kept = (some (Done Nothing), record { queue = next; stored = some next })
 wrote m p next lost (failed second) = (some (Refused 17), record { queue = lost; stored = p.stored })
-wrote m p next lost (cutBefore second) = (none, restart m p.stored)
-wrote m p next lost cutAfter = (none, restart m (some next))
+wrote m p next lost (cut_before second) = (none, restart m p.stored)
+wrote m p next lost cut_after = (none, restart m (some next))
 
 -- "Refusals other than 17, and kind 0, move neither." "Kind 1: the queue becomes next, stored stays."
 abbrev pub settling : Limits → Plain → Queue → Fate → Answer → Option Answer × Plain
@@ -107,8 +107,8 @@ settled_in s file second = (some s.0, record { area = s.1; file = file; second =
 abbrev pub wrote_bytes : Limits → World → Lent → Bytes → ℕ → Fate → Option Answer × World
 wrote_bytes m w l next kind kept = settled_in (settle_of w.area next kind 0) (some (image_text next l.text)) none
 wrote_bytes m w l next kind (failed second) = settled_in (settle_of w.area next kind 1) w.file second
-wrote_bytes m w l next kind (cutBefore second) = (none, restarted m l.other w.file second)
-wrote_bytes m w l next kind cutAfter = (none, restarted m l.other (some (image_text next l.text)) none)
+wrote_bytes m w l next kind (cut_before second) = (none, restarted m l.other w.file second)
+wrote_bytes m w l next kind cut_after = (none, restarted m l.other (some (image_text next l.text)) none)
 
 abbrev pub settling_bytes : Limits → World → Lent → Bytes → Fate → Answer → Option Answer × World
 settling_bytes m w l next fate a = by_kind a (none, w) (none, record { area = next; file = w.file; second = w.second })

@@ -23,7 +23,7 @@ use Rattle.queue.specs.paper.Reading.{selection_at}
 use Rattle.queue.specs.paper.Calls.{ids_bytes, Call, admitting, cancelling, expiring, reconciling, reopening, setting_cursor, work, by_kind, told_out, selection_at_of}
 use Rattle.queue.specs.paper.Fees.{best_fees_value, candidates, size_of, fee_of}
 use Rattle.queue.specs.paper.Parents.{parents_first_at}
-use Rattle.pokerbox.specs.paper.Machine.{Fate, kept, failed, cutBefore, cutAfter, Step, call, cut, run, Plain, restart, plain_step}
+use Rattle.pokerbox.specs.paper.Machine.{Fate, kept, failed, cut_before, cut_after, Step, call, cut, run, Plain, restart, plain_step}
 use Rattle.pokerbox.specs.paper.Claim.{Always}
 
 -- ---- whom a call withdraws, and whom it admits
@@ -66,8 +66,8 @@ resumed o = record { now = maybe [] (λ l. l) o; stored = o }
 abbrev pub noted : History → List Id → Fate → History
 noted h l kept = record { now = l; stored = some l }
 noted h l (failed second) = h
-noted h l (cutBefore second) = resumed h.stored
-noted h l cutAfter = resumed (some l)
+noted h l (cut_before second) = resumed h.stored
+noted h l cut_after = resumed (some l)
 
 -- Refusals, kind 0 and kind 1 write nothing. Kind 2 is a whole write. Kind 3 writes the cursor and changes no record: nobody is
 -- withdrawn or admitted by it.
@@ -101,8 +101,8 @@ WithdrawnUnselected = Always λ m xs v p. (i : Id) → among? i (history m (rest
 abbrev pub kept_here? : Fate → Bool
 kept_here? kept = true
 kept_here? (failed second) = false
-kept_here? (cutBefore second) = false
-kept_here? cutAfter = true
+kept_here? (cut_before second) = false
+kept_here? cut_after = true
 
 -- the ids of a withdrawal (f is `withdraws`), or of an admission (`admits`), that was kept in this step: kind 2, with such an
 -- outcome

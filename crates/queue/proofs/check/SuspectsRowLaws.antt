@@ -3,7 +3,7 @@ use Rattle.std.specs.Prelude.{◌≡◌, refl, Bool, true, false, ◌&&◌, ◌|
 use Rattle.std.proofs.Common.{ap, sym, ◌∙◌, arith, add-one, length-drop, length-set, drop_of_length-le, drop-drop, drop-cons, get_or-set_same, get_or-set_other, eqb-true, eq-eqb, ne_eqb, ltb-true, ltb-false, le-ltb, leb-true, le-leb}
 use Rattle.std.proofs.Math.Arith.{digits_div, digits_mod}
 use Rattle.std.proofs.Math.Seq.{drop-nil}
-use Rattle.std.proofs.lemmas.Bool.{eqb-false}
+use Rattle.std.proofs.lemmas.Bool.{eqb-false, lt-leb}
 use Rattle.queue.specs.Codec.{cases}
 use Rattle.queue.specs.bytes.Parts.{part}
 use Rattle.queue.specs.Lists.{and_true}
@@ -46,9 +46,6 @@ module _ (hex : Bool) (s : Bytes) (x : ℕ) where
   pub id_short : length (view hex s (x / 4294967296)) < 32 → id_r hex s x ≡ []
   unfolding id_r
   id_short h = rw (lt-leb 32 _ h)
-    where
-      lt-leb : (a b : ℕ) → b < a → leb a b ≡ false
-      lt-leb a b h = cases (leb a b) (λ t. let k = leb-true a b t in absurd (let z : ⊥ = omega arith in z)) (λ t. t)
 
   pub id_long : 32 ≤ length (view hex s (x / 4294967296)) → id_r hex s x ≡ part 32 (view hex s (x / 4294967296)) 0
   unfolding id_r

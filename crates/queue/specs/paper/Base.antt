@@ -1,6 +1,6 @@
 -- The base, frozen: the values, limits, rules of sound queues and image of the units in the field, which write header kind 01. Its text is that of
--- commit c82b581 (crates/queue/specs/paper: Records, Sound, Area; crates/image/specs/paper: Image); of two definitions named held_bytes
--- there the one of Sound is held_sum here. Nothing in this file changes, whatever later kinds bring: document 02's "opens there as the same
+-- commit c82b581 (crates/queue/specs/paper: Records, Sound, Area; crates/image/specs/paper: Image); of two definitions named heldBytes
+-- there the one of Sound is held_sum here; names have today's spelling. Nothing in this file changes, whatever later kinds bring: document 02's "opens there as the same
 -- queue" (P13) is said against it. List functions, the order of ids, `be` and `text_of` are today's: they know nothing of queues.
 use Rattle.std.specs.Prelude.{◌≡◌, ℕ, ◌+◌, ◌*◌, ◌^◌, ◌<◌, Bool, true, cond, not, ◌&&◌, ◌||◌, List, [], ◌∷◌, ◌++◌, length, ◌==◌, nat_le}
 use Rattle.std.proofs.Math.Option.{Option, none, some}

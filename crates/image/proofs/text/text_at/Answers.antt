@@ -1,4 +1,4 @@
-use Rattle.image.proofs.ImageLaws.{kind_is, text_facts, text_good, text_long, text_none, text_other, text_unsound}
+use Rattle.image.proofs.ImageLaws.{kind_is, text_facts, text_good, text_long, text_none, text_other}
 use Rattle.queue.proofs.check.AreaLaws.{recs_stand, sound_range}
 use Rattle.std.proofs.Common.{◌∙◌, sym}
 use Rattle.std.specs.Prelude.{refl}
@@ -16,9 +16,6 @@ returns-then-x-s c = text_long _ (kind_is c.args.s.now c.kind_at.ensures) (sym c
 
 pub sound_at-requires : goal.sound_at-requires
 sound_at-requires c = let w = (text_facts _ (kind_is c.args.s.now c.kind_at.ensures) (sym c.known.ensures ∙ c.if-not-known.false) c.store_at-x.ensures (not-false _ c.if-not-x.false)).1 in (recs_stand w, w.head.fit.long, w.sums)
-
-pub returns-then-not-sound_at : goal.returns-then-not-sound_at
-returns-then-not-sound_at c = text_unsound _ (kind_is c.args.s.now c.kind_at.ensures) (sym c.known.ensures ∙ c.if-not-known.false) c.store_at-x.ensures (not-false _ c.if-not-x.false) c.if-x-s.false c.sound_at.ensures c.if-not-sound_at.true refl
 
 pub need-m-requires : goal.need-m-requires
 need-m-requires c = sound_range _ _ _ (sym c.sound_at.ensures ∙ c.if-not-sound_at.false)
