@@ -37,7 +37,7 @@ def edits():
 
 def span(lines, fn):
     """The lines of function fn: from its head to the brace that closes it."""
-    heads = [i for i, l in enumerate(lines) if re.match(r"\s*(pub )?fn %s\b" % re.escape(fn), l)]
+    heads = [i for i, l in enumerate(lines) if re.match(r"\s*(pub(?:\(crate\))? )?fn %s\b" % re.escape(fn), l)]
     if len(heads) != 1:
         sys.exit("function %s: %d of them" % (fn, len(heads)))
     indent = re.match(r"\s*", lines[heads[0]]).group()
@@ -134,8 +134,11 @@ def refused(out, e, folder):
     # With a file: the goal whose answer no longer says what the function has to.
     files = re.compile(r"\./proofs/%s(?:\w+/)?\+?%s/(?:Answers|Invariants|Proof)\.antt:\S* error: (.*)" % (re.escape(module(e)) + "/" if module(e) else "", re.escape(e["fn"])))
     # Without: the goal that the prover does not close by itself, at a line of the function.
+    # An attribute above its head counts as a line of the function.
     lines = open(os.path.join(folder, e["file"])).read().split("\n")
     a, b = span(lines, e["fn"])
+    while a and lines[a - 1].lstrip().startswith("#["):
+        a -= 1
     alone = re.compile(r"(?:note|error): %s:(\d+):\d+: it is not proved that .*?\(`([^`]+)`\)" % re.escape(e["src"]))
     for line in out.split("\n"):
         m = files.search(line)

@@ -1,15 +1,17 @@
 -- Laws of the way back: a text of the newest kind, and the image of kind 01 of its queue. Assumes nothing.
 use Rattle.std.specs.Prelude.{◌≡◌, refl, Bool, true, false, cond, not, ◌&&◌, List, [], ◌∷◌, ◌++◌, ℕ, suc, ◌+◌, ◌-◌, ◌*◌, ◌%◌, ◌^◌, ◌≤◌, ◌<◌, eqb, length, drop, take, replicate}
 use Rattle.std.proofs.Common.{ap, sym, ◌∙◌, append_assoc, append-nil, arith, length-append, take_at, length-take-le, lt-ltb, le-ltb, eq-eqb, ne_eqb}
-use Rattle.std.proofs.lemmas.Bool.{not-false}
+use Rattle.std.proofs.lemmas.Bool.Decides.{Decides-eqb}
+use Rattle.std.proofs.lemmas.Slice.Eq.{slice_eq-Decides}
+use Rattle.std.specs.Str.{bytes_eq}
 use Rattle.std.proofs.Math.Option.{Option, none, some}
 use Rattle.queue.specs.Basics.{join_left}
 use Rattle.queue.specs.declared.Kind.TheVariants.{Nothing}
-use Rattle.queue.specs.declared.Answer.TheVariants.{Refused, Done}
+use Rattle.queue.specs.paper.Answer.{Refused, Done}
 use Rattle.queue.specs.declared.check.rules.Query.TheVariants.{Holders}
 use Rattle.queue.specs.declared.layout.frame.Form.{Form}
 use Rattle.queue.specs.declared.layout.frame.Facts.{Facts}
-use Rattle.queue.specs.declared.layout.frame.HeadR.{HeadR}
+use Rattle.queue.specs.declared.layout.frame.Head as code_head
 use Rattle.queue.specs.declared.layout.frame.Seen.{Seen}
 use Rattle.queue.specs.declared.check.area.Open.{Open}
 use Rattle.queue.specs.declared.layout.limits.Limits as code
@@ -17,15 +19,15 @@ use Rattle.queue.specs.Codec as codec
 use Rattle.queue.specs.Codec.{be_c, byte_c, pair_c, map_c, vec_c, counted_c, encs, cases}
 use Rattle.queue.specs.layout.Choice.{fix_c, then_c}
 use Rattle.queue.specs.layout.FrameCodec.{Head, id_c, low32, reads_enc, signed_enc, four_c, sixteen_c, limits_k, head_k, rec_k, shares_c}
-use Rattle.queue.specs.bytes.ReaderAs.{whole, list_at}
+use Rattle.queue.specs.bytes.ReaderAs.{reads?, whole, list_at}
 use Rattle.queue.specs.bytes.ReaderLaws.{false_true, Turn, none_left}
 use Rattle.queue.specs.bytes.ViewAs.{view}
 use Rattle.queue.specs.Hex.{dig_of, text_of, text_append}
 use Rattle.queue.specs.bytes.PutAs.{be_last, Put}
-use Rattle.queue.specs.layout.FormsCodec.{form_c, line_enc, after_in_value, Framed, Store, head_for, head_in, rec_in_value, store_in, text_form, line_length, store_of, image_enc, ok_store, ok_queue, turn_in, lines_length, queue_c, area_form}
+use Rattle.queue.specs.layout.FormsCodec.{form_c, line_enc, after_in_value, Store, head_for, head_in, rec_in_value, store_in, text_form, line_length, store_of, image_enc, ok_store, ok_queue, turn_in, stands_in, lines_length, queue_c, area_form}
 use Rattle.queue.specs.layout.FrameAs.{facts_of, limits_in, LimitsFit, SeenUnder, HeadUnder}
 use Rattle.queue.specs.theorems.OlderKinds.{narrow_enc, rec_enc, rec_fore, rec_mid, head_tail, head_first}
-use Rattle.queue.specs.Areas.{kind_of, image}
+use Rattle.queue.specs.Areas.{kind_of, read_image, image}
 use Rattle.queue.specs.theorems.Bound.{reads_told}
 use Rattle.queue.specs.check.RulesAs.{sum, weight}
 use Rattle.queue.specs.check.AreaAs.{StoreAs}
@@ -41,12 +43,12 @@ use Rattle.queue.specs.paper.Sound.{reads, content}
 use Rattle.queue.specs.paper.Calls.{numbers}
 use Rattle.queue.specs.paper.Area.{shares_bytes, image_under, over}
 use Rattle.queue.proofs.layout.LimitsLaws.{shares_bytes_law, shares_first}
-use Rattle.queue.proofs.layout.TurnLaws.{SeenForm, ReadsForm}
+use Rattle.queue.proofs.layout.TurnLaws.{SeenForm, FoundForm}
 use Rattle.image.specs.declared.text.Text.{Text}
 use Rattle.image.specs.declared.back.Cut.{Cut}
-use Rattle.image.specs.ImageAs.{TextIs, priority_from_value, said_f, store_said, CutIn, CutAt, Told, SaidIs, OldRecRoom, OldRoom, OldPut, OldLen, OldRecPut}
+use Rattle.image.specs.ImageAs.{TextIn, FrameIn, priority_from_value, said_f, store_said, CutIn, CutAt, Told, SaidIs, OldRecRoom, OldRoom, OldPut, OldLen, OldRecPut}
 use Rattle.image.specs.paper.Image.{read_newest, convert_of}
-use Rattle.image.proofs.ImageLaws.{slice, slice_end, be_size, front_long, fore_long, empty_ids, tail_parts, Turning, turn_here, turn_room, turn_on, put_over}
+use Rattle.image.proofs.ImageLaws.{slice, slice_end, be_size, front_long, fore_long, empty_ids, tail_parts, Turning, turn_here, turn_room, turn_on, put_over, in_view}
 
 -- ---- what kind 01 can say of a record
 empty_length : {A : Type 0} (l : List A) → eqb (length l) 0 ≡ is_empty? l
@@ -70,8 +72,12 @@ module _ (s : Bytes) (n at : ℕ) where
   pub saying : at ≤ length s → whole (rec_in_value (text_form newest)) n s at ≡ true → Saying at n
   saying h w = record { within = h; all = w; is = refl }
 
-  module _ {i left m : ℕ} {ok : Bool} {y : Seen} (x : Saying i left) (p : 0 < left) (r : ReadsForm (text_form newest) s i ok m y) where
-    turn : Turn (rec_in_value (text_form newest)) s left i (after_in_value true s i m) (SeenForm (text_form newest) s i ok m y)
+  -- a record stands at the place of a turn
+  pub saying_stands : {i left : ℕ} → Saying i left → 0 < left → reads? (rec_k newest) (view true s i) 0 ≡ true
+  saying_stands {left = left} x p = stands_in (rec_k newest) true s left x.within x.all p
+
+  module _ {i left m : ℕ} {y : Seen} (x : Saying i left) (p : 0 < left) (r : FoundForm (text_form newest) s i m y) where
+    turn : Turn (rec_in_value (text_form newest)) s left i (after_in_value true s i m) (SeenForm (text_form newest) s i m y)
     turn = turn_in true left x.within x.all p r
 
     split : rest left i ≡ (said_f y.facts && rest (left - 1) (after_in_value true s i m))
@@ -94,19 +100,18 @@ module _ (s : Bytes) (n at : ℕ) where
   saying_end {i} {left} x z = sym (ap (all? (rec_said? oldest)) (none_left (rec_in_value (text_form newest)) s left i z).0) ∙ x.is
 
 -- ---- the shares
-pub first_said : (l : code.Limits) {d' : Bytes} {o : ℕ} {b : Bool} → LimitsFit l → Put (replicate 64 0) 0 (be_last 4 l.p) 4 o d' → b ≡ same? l.shares d' → b ≡ shares_said? oldest (limits_in l)
+pub first_said : (l : code.Limits) {d' : Bytes} {o : ℕ} {b : Bool} → LimitsFit l → Put (replicate 64 0) 0 (be_last 4 l.p) 4 o d' → b ≡ bytes_eq l.shares d' → b ≡ shares_said? oldest (limits_in l)
 first_said l {d'} {o} {b} f y e =
     let u = shares_first f.p y in
-    e ∙ cases (same? l.shares d')
+    let d = slice_eq-Decides Decides-eqb l.shares d' b e in
+    cases b
     (λ t.
-    let k : l.shares ≡ d' = same_is l.shares d' t in
-    let g : numbers l.shares ≡ first_share l.p = ap numbers k ∙ u.0 in
+    let g : numbers l.shares ≡ first_share l.p = ap numbers (d.0 t) ∙ u.0 in
     t ∙ sym (ap (λ (z : List ℕ). same? z (first_share l.p)) g ∙ same_self (first_share l.p)))
     (λ t. cases (same? (numbers l.shares) (first_share l.p))
     (λ v.
     let g : numbers l.shares ≡ numbers d' = same_is (numbers l.shares) (first_share l.p) v ∙ sym u.0 in
-    let k : l.shares ≡ d' = sym (shares_bytes_law l.shares f.long f.small) ∙ ap shares_bytes g ∙ shares_bytes_law d' u.1 u.2 in
-    false_true (sym t ∙ ap (λ (z : Bytes). same? z d') k ∙ same_self d'))
+    false_true (sym t ∙ d.1 (sym (shares_bytes_law l.shares f.long f.small) ∙ ap shares_bytes g ∙ shares_bytes_law d' u.1 u.2)))
     (λ v. t ∙ sym v))
 
 pub says_it : {s : Bytes} {x : Open} {a b r : Bool} → a ≡ shares_said? oldest (limits_in x.head.limits) → b ≡ all? (rec_said? oldest) (list_at (rec_in_value (text_form newest)) x.head.count s x.start) → r ≡ (a && b) → SaidIs s x r
@@ -153,10 +158,7 @@ old_enc r = rec_enc oldest r ∙ join (2 ∷ id_c.enc r.id) (rec_fore r) (rec_mi
 old_sizes : (a b l m z : Bytes) → length (a ++ (b ++ ((l ++ m) ++ z))) ≡ length a + length b + length l + length m + length z
 old_sizes a b l m z = simp length-append (omega arith)
 
-module _ {s : Bytes} {base : ℕ} {x : Seen} {r : Rec} (w : SeenUnder newest (view true s base) x r) (f : Framed (rec_k newest) true s base x.ok x.size r) (q : rec_said? oldest r ≡ true) where
-  abbrev seen : Bytes
-  seen = view true s base
-
+module _ {seen : Bytes} {x : Seen} {r : Rec} (w : SeenUnder newest seen x r) (f : FrameIn (rec_k newest) seen x.size r) (q : rec_said? oldest r ≡ true) where
   abbrev front : Bytes
   front = 2 ∷ id_c.enc r.id
 
@@ -170,10 +172,10 @@ module _ {s : Bytes} {base : ℕ} {x : Seen} {r : Rec} (w : SeenUnder newest (vi
   pr = priority_from_value newest x.facts
 
   first_long : length front ≡ 33
-  first_long = front_long (text_form newest) w f
+  first_long = front_long newest w f
 
   before_long : 34 + length (rec_fore r) ≡ pr
-  before_long = fore_long (text_form newest) w f
+  before_long = fore_long newest w f
 
   signed_long : length (signed_enc r.body) ≡ cond x.facts.holder (4 + x.facts.bytes) 0
   unfolding facts_of
@@ -320,7 +322,7 @@ unfolding text_of dig_of
 one_text = refl
 
 -- ---- the header
-module _ {s : Bytes} {x : HeadR} {h : Head} (w : HeadUnder newest (view true s 0) x h) (f : Framed (head_k newest) true s 0 x.ok x.size h) where
+module _ {v : Bytes} {x : code_head.Head} {h : Head} (w : HeadUnder newest v x h) where
   abbrev four : Bytes
   four = four_c.enc (h.limits.P, (h.limits.B, (h.limits.T, h.limits.K)))
 
@@ -333,32 +335,32 @@ module _ {s : Bytes} {x : HeadR} {h : Head} (w : HeadUnder newest (view true s 0
       sizes : (a b c d : Bytes) → length (a ++ (b ++ (c ++ d))) ≡ length a + length b + length c + length d
       sizes a b c d = simp length-append (omega arith)
 
-  the_four : take 16 (drop 1 (view true s 0)) ≡ four
+  the_four : take 16 (drop 1 v) ≡ four
   the_four =
-      ap (take 16) (w.limits ∙ ap (λ (y : Bytes). y ++ drop 81 (view true s 0)) (limits_encs newest h.limits) ∙ append_assoc four ((shares_c newest h.limits.P).enc h.limits.shares) (drop 81 (view true s 0)))
+      ap (take 16) (w.limits ∙ ap (λ (y : Bytes). y ++ drop 81 v) (limits_encs newest h.limits) ∙ append_assoc four ((shares_c newest h.limits.P).enc h.limits.shares) (drop 81 v))
       ∙ take_at four _ 16 four_long
 
   abbrev from : ℕ
   from = x.marks - 8
 
-  pub old_head_in : (8 ≤ x.marks) × (1 + 16 ≤ length (view true s 0)) × (from ≤ x.size) × (x.size ≤ length (view true s 0))
+  pub old_head_in : (8 ≤ x.marks) × (1 + 16 ≤ length v) × (from ≤ x.size) × (x.size ≤ length v)
   old_head_in = (omega (arith, w.marks_at), omega (arith, w.marks_at, w.up, w.size_at, w.end), omega (arith, w.marks_at, w.up, w.size_at), w.end)
 
-  pub old_head_line : (head_in (text_form oldest)).enc h ≡ ((((48 ∷ []) ++ (49 ∷ [])) ++ text_of (take 16 (drop 1 (view true s 0)))) ++ text_of (take (x.size - from) (drop from (view true s 0)))) ++ (10 ∷ [])
+  pub old_head_line : (head_in (text_form oldest)).enc h ≡ ((((48 ∷ []) ++ (49 ∷ [])) ++ text_of (take 16 (drop 1 v))) ++ text_of (take (x.size - from) (drop from v))) ++ (10 ∷ [])
   unfolding form_c line_enc
   old_head_line =
       ap (λ (y : Bytes). text_of y ++ (10 ∷ [])) (old_head h)
       ∙ ap (λ (y : Bytes). y ++ (10 ∷ [])) (three (1 ∷ []) four (head_tail h))
-      ∙ sym (ap (λ (y : Bytes). ((text_of (1 ∷ []) ++ text_of y) ++ text_of (take (x.size - from) (drop from (view true s 0)))) ++ (10 ∷ [])) the_four
-      ∙ ap (λ (y : Bytes). ((text_of (1 ∷ []) ++ text_of four) ++ text_of y) ++ (10 ∷ [])) (tail_parts (text_form newest) w f).0)
-      ∙ ap (λ (y : Bytes). ((y ++ text_of (take 16 (drop 1 (view true s 0)))) ++ text_of (take (x.size - from) (drop from (view true s 0)))) ++ (10 ∷ [])) one_text
+      ∙ sym (ap (λ (y : Bytes). ((text_of (1 ∷ []) ++ text_of y) ++ text_of (take (x.size - from) (drop from v))) ++ (10 ∷ [])) the_four
+      ∙ ap (λ (y : Bytes). ((text_of (1 ∷ []) ++ text_of four) ++ text_of y) ++ (10 ∷ [])) (tail_parts newest w).0)
+      ∙ ap (λ (y : Bytes). ((y ++ text_of (take 16 (drop 1 v))) ++ text_of (take (x.size - from) (drop from v))) ++ (10 ∷ [])) one_text
     where
       three : (a b c : Bytes) → text_of (a ++ (b ++ c)) ≡ (text_of a ++ text_of b) ++ text_of c
       three a b c = text_append a (b ++ c) ∙ ap (λ (y : Bytes). text_of a ++ y) (text_append b c) ∙ sym (append_assoc (text_of a) (text_of b) (text_of c))
 
   pub old_head_size : length ((head_in (text_form oldest)).enc h) ≡ 2 * (17 + (x.size - from)) + 1
   unfolding form_c
-  old_head_size = line_length (head_k oldest) h ∙ omega (arith, ap length (old_head h), length-append four (head_tail h), four_long, (tail_parts (text_form newest) w f).1)
+  old_head_size = line_length (head_k oldest) h ∙ omega (arith, ap length (old_head h), length-append four (head_tail h), four_long, (tail_parts newest w).1)
 
 -- ---- all frames
 module _ (s : Bytes) (n at : ℕ) (d₀ : Bytes) (to : ℕ) where
@@ -366,25 +368,25 @@ module _ (s : Bytes) (n at : ℕ) (d₀ : Bytes) (to : ℕ) where
   abbrev pub Olding : ℕ → ℕ → Bytes → ℕ → Type 0
   Olding i left d o = Turning (text_form newest) (rec_in_value (text_form oldest)) s n at d₀ to i left d o × (all? (rec_said? oldest) (list_at (rec_in_value (text_form newest)) left s i) ≡ true)
 
-  module _ {i left o : ℕ} {d : Bytes} {y : Seen} (x : Olding i left d o) (p : 0 < left) (r : ReadsForm (text_form newest) s i y.ok y.size y) where
-    abbrev here : Turn (rec_in_value (text_form newest)) s left i (after_in_value true s i y.size) (SeenForm (text_form newest) s i y.ok y.size y)
+  module _ {i left o : ℕ} {d : Bytes} {y : Seen} (x : Olding i left d o) (p : 0 < left) (r : FoundForm (text_form newest) s i y.size y) where
+    abbrev here : Turn (rec_in_value (text_form newest)) s left i (after_in_value true s i y.size) (SeenForm (text_form newest) s i y.size y)
     here = turn_here (text_form newest) (rec_in_value (text_form oldest)) s n at d₀ to x.0 p r
 
     both_said : (rec_said? oldest here.item ≡ true) × (all? (rec_said? oldest) (list_at (rec_in_value (text_form newest)) (left - 1) s (after_in_value true s i y.size)) ≡ true)
     both_said = and_true (rec_said? oldest here.item) _ (sym (ap (all? (rec_said? oldest)) here.list) ∙ x.1)
 
-    pub olding_room : to + length (encs (rec_in_value (text_form oldest)) (list_at (rec_in_value (text_form newest)) n s at)) ≤ length d₀ → OldRecRoom s i y o (length d)
+    pub olding_room : to + length (encs (rec_in_value (text_form oldest)) (list_at (rec_in_value (text_form newest)) n s at)) ≤ length d₀ → OldRecRoom (view true s i) y o (length d)
     olding_room h = record {
       rec = here.item;
       is = here.is.0;
-      frame = here.is.1;
+      frame = in_view here.is.1;
       said = both_said.0;
       room = turn_room (text_form newest) (rec_in_value (text_form oldest)) s n at d₀ to x.0 p r h;
     }
 
-    pub olding_on : {d' : Bytes} {q j : ℕ} → OldRecPut s i y d o q d' → j ≡ after_in_value true s i y.size → Olding j (left - 1) d' q
+    pub olding_on : {d' : Bytes} {q j : ℕ} → OldRecPut (view true s i) y d o q d' → j ≡ after_in_value true s i y.size → Olding j (left - 1) d' q
     olding_on w e = (
-      turn_on (text_form newest) (rec_in_value (text_form oldest)) s n at d₀ to x.0 p r (w here.item here.is.0 here.is.1 both_said.0) e,
+      turn_on (text_form newest) (rec_in_value (text_form oldest)) s n at d₀ to x.0 p r (w here.item here.is.0 (in_view here.is.1) both_said.0) e,
       ap (λ (k : ℕ). all? (rec_said? oldest) (list_at (rec_in_value (text_form newest)) (left - 1) s k)) e ∙ both_said.1,
     )
 
@@ -416,83 +418,82 @@ no_choice : {A : Type 0} (b : Bool) → cond {A = Option A} b none none ≡ none
 no_choice true = refl
 no_choice false = refl
 
-module _ {s : Bytes} {t : Text} (w : TextIs s t) (out : Bytes) (old : ℕ) where
-  pub back_none : t.ok ≡ false → (Refused 16, (out, old)) ≡ convert_of s out old
+pub back_none : (s out : Bytes) (old : ℕ) → read_image s ≡ none → (Refused 16, (out, old)) ≡ convert_of s out old
+unfolding convert_of read_newest
+back_none s out old e = rw (e, no_choice {A = Queue} (eqb (kind_of s) newest))
+
+module _ {s : Bytes} {t : Text} (w : TextIn s t) (out : Bytes) (old : ℕ) where
+  abbrev the_queue : Queue
+  the_queue = w.q
+
+  pub back_other : (t.form.kind ≡ newest → ⊥) → (Refused 16, (out, old)) ≡ convert_of s out old
   unfolding convert_of read_newest
-  back_none e = rw (w.bad e, no_choice {A = Queue} (eqb (kind_of s) newest))
+  back_other n = rw (ne_eqb (kind_of s) newest (λ z. n (ap (λ (f : Form). f.kind) w.read.told ∙ z)))
 
-  module _ (e : t.ok ≡ true) where
-    abbrev the_queue : Queue
-    the_queue = (w.good e).0
+  old_image : (store_in (text_form oldest)).enc (store_of the_queue) ≡ image_under oldest the_queue
+  unfolding image
+  old_image = image_plain oldest the_queue
 
-    pub back_other : (t.form.kind ≡ newest → ⊥) → (Refused 16, (out, old)) ≡ convert_of s out old
-    unfolding convert_of read_newest
-    back_other n = rw (ne_eqb (kind_of s) newest (λ z. n (ap (λ (f : Form). f.kind) (w.good e).2.told ∙ z)))
+  module _ (k : t.form.kind ≡ newest) where
+    kind_told : kind_of s ≡ newest
+    kind_told = sym (ap (λ (f : Form). f.kind) w.read.told) ∙ k
 
-    old_image : (store_in (text_form oldest)).enc (store_of the_queue) ≡ image_under oldest the_queue
-    unfolding image
-    old_image = image_plain oldest the_queue
+    newest_read : read_newest s ≡ some the_queue
+    unfolding read_newest
+    newest_read = rw (eq-eqb (kind_of s) newest kind_told) w.is
 
-    module _ (k : t.form.kind ≡ newest) where
-      kind_told : kind_of s ≡ newest
-      kind_told = sym (ap (λ (f : Form). f.kind) (w.good e).2.told) ∙ k
+    store_told : StoreAs (text_form newest) s 0 t.open (store_of the_queue)
+    store_told = let f : t.form ≡ text_form newest = w.read.told ∙ ap text_form kind_told in rw f at w.read.store
 
-      newest_read : read_newest s ≡ some the_queue
-      unfolding read_newest
-      newest_read = rw (eq-eqb (kind_of s) newest kind_told) (w.good e).1
+    pub back_told : Told s t.open
+    back_told = record { store = store_of the_queue; is = store_told }
 
-      store_told : StoreAs (text_form newest) s 0 t.open (store_of the_queue)
-      store_told = let f : t.form ≡ text_form newest = (w.good e).2.told ∙ ap text_form kind_told in rw f at (w.good e).2.store
+    says_store : says? oldest the_queue ≡ store_said (store_of the_queue)
+    unfolding says?
+    says_store = refl
 
-      pub back_told : Told s t.open
-      back_told = record { store = store_of the_queue; is = store_told }
+    said_this : {b : Bool} → SaidIs s t.open b → b ≡ says? oldest the_queue
+    said_this d = d (store_of the_queue) store_told ∙ sym says_store
 
-      says_store : says? oldest the_queue ≡ store_said (store_of the_queue)
-      unfolding says?
-      says_store = refl
+    pub back_22 : {b : Bool} → SaidIs s t.open b → b ≡ false → (Refused 22, (out, old)) ≡ convert_of s out old
+    unfolding convert_of
+    back_22 d f = rw (newest_read, sym (said_this d) ∙ f)
 
-      said_this : {b : Bool} → SaidIs s t.open b → b ≡ says? oldest the_queue
-      said_this d = d (store_of the_queue) store_told ∙ sym says_store
+    module _ {b : Bool} (d : SaidIs s t.open b) (f : b ≡ true) where
+      yes : says? oldest the_queue ≡ true
+      yes = sym (said_this d) ∙ f
 
-      pub back_22 : {b : Bool} → SaidIs s t.open b → b ≡ false → (Refused 22, (out, old)) ≡ convert_of s out old
-      unfolding convert_of
-      back_22 d f = rw (newest_read, sym (said_this d) ∙ f)
+      text_long : length s ≡ length (image_under oldest the_queue) + (128 + 10 * t.open.head.count + 4 * t.open.sums.holders)
+      text_long =
+          let a : s ≡ image_under newest the_queue = (reads_told s the_queue w.is).1 ∙ ap (λ (j : ℕ). image_under j the_queue) kind_told in
+          let c : sum Holders the_queue.recs ≡ t.open.sums.holders = sym (store_told.sums.holders ∙ ap (sum Holders) store_told.list) in
+          omega (arith, ap length a, image_shorter the_queue w.read.range yes, c, store_told.count)
 
-      module _ {b : Bool} (d : SaidIs s t.open b) (f : b ≡ true) where
-        yes : says? oldest the_queue ≡ true
-        yes = sym (said_this d) ∙ f
+      pub back_len : OldLen (length s) t.open
+      back_len = omega (arith, text_long)
 
-        text_long : length s ≡ length (image_under oldest the_queue) + (128 + 10 * t.open.head.count + 4 * t.open.sums.holders)
-        text_long =
-            let a : s ≡ image_under newest the_queue = (reads_told s the_queue (w.good e).1).1 ∙ ap (λ (j : ℕ). image_under j the_queue) kind_told in
-            let c : sum Holders the_queue.recs ≡ t.open.sums.holders = sym (store_told.sums.holders ∙ ap (sum Holders) store_told.list) in
-            omega (arith, ap length a, image_shorter the_queue (w.good e).2.range yes, c, store_told.count)
+      module _ {n : ℕ} (l : length s ≡ n + (128 + 10 * t.open.head.count + 4 * t.open.sums.holders)) where
+        long_is : n ≡ length (image_under oldest the_queue)
+        long_is = omega (arith, text_long)
 
-        pub back_len : OldLen (length s) t.open
-        back_len = omega (arith, text_long)
+        pub back_4 : length out < n → (Refused 4, (out, old)) ≡ convert_of s out old
+        unfolding convert_of
+        back_4 h = rw (newest_read, yes, ← long_is, lt-ltb (length out) n h)
 
-        module _ {n : ℕ} (l : length s ≡ n + (128 + 10 * t.open.head.count + 4 * t.open.sums.holders)) where
-          long_is : n ≡ length (image_under oldest the_queue)
-          long_is = omega (arith, text_long)
+        pub back_room : n ≤ length out → OldRoom s t.open (length out)
+        back_room h = record { store = store_of the_queue; is = store_told; said = sym says_store ∙ yes; room = omega (arith, ap length old_image, long_is) }
 
-          pub back_4 : length out < n → (Refused 4, (out, old)) ≡ convert_of s out old
-          unfolding convert_of
-          back_4 h = rw (newest_read, yes, ← long_is, lt-ltb (length out) n h)
-
-          pub back_room : n ≤ length out → OldRoom s t.open (length out)
-          back_room h = record { store = store_of the_queue; is = store_told; said = sym says_store ∙ yes; room = omega (arith, ap length old_image, long_is) }
-
-          pub back_done : {out' : Bytes} {r : ℕ} → n ≤ length out → OldPut s t.open out r out' → (Done Nothing, (out', n)) ≡ convert_of s out old
-          unfolding convert_of
-          back_done {out'} h p =
-              let i : out' ≡ over ((store_in (text_form oldest)).enc (store_of the_queue)) out = put_over (p (store_of the_queue) store_told (sym says_store ∙ yes)) (omega (arith, ap length old_image, long_is)) in
-              let o : out' ≡ over (image_under oldest the_queue) out = i ∙ ap (λ (y : Bytes). over y out) old_image in
-              rw (newest_read, yes, ← long_is, le-ltb (length out) n h) (ap (λ (y : Bytes). (Done Nothing, (y, n))) o)
+        pub back_done : {out' : Bytes} {r : ℕ} → n ≤ length out → OldPut s t.open out r out' → (Done Nothing, (out', n)) ≡ convert_of s out old
+        unfolding convert_of
+        back_done {out'} h p =
+            let i : out' ≡ over ((store_in (text_form oldest)).enc (store_of the_queue)) out = put_over (p (store_of the_queue) store_told (sym says_store ∙ yes)) (omega (arith, ap length old_image, long_is)) in
+            let o : out' ≡ over (image_under oldest the_queue) out = i ∙ ap (λ (y : Bytes). over y out) old_image in
+            rw (newest_read, yes, ← long_is, le-ltb (length out) n h) (ap (λ (y : Bytes). (Done Nothing, (y, n))) o)
 
 -- a text of another kind than the newest
-pub another_kind : {s out : Bytes} {t : Text} {old : ℕ} → TextIs s t → not t.ok ≡ false → (t.form.kind ≡ newest → ⊥) → (Refused 16, (out, old)) ≡ convert_of s out old
-another_kind {out = out} {old = old} w f n = back_other w out old (not-false _ f) n
+pub another_kind : {s out : Bytes} {t : Text} → TextIn s t → (t.form.kind ≡ newest → ⊥) → (old : ℕ) → (Refused 16, (out, old)) ≡ convert_of s out old
+another_kind {out = out} w n old = back_other w out old n
 
 -- what is asked of `said`: the queue of a text of the newest kind
-pub newest_told : {s : Bytes} {t : Text} → TextIs s t → not t.ok ≡ false → t.form.kind ≡ newest → Told s t.open
-newest_told w f k = back_told w [] 0 (not-false _ f) k
+pub newest_told : {s : Bytes} {t : Text} → TextIn s t → t.form.kind ≡ newest → Told s t.open
+newest_told w k = back_told w [] 0 k

@@ -1,34 +1,34 @@
 -- Laws of the image: a text that is read, frames in the other form, and each exit of the calls. Assumes nothing.
-use Rattle.std.specs.Prelude.{◌≡◌, refl, Bool, true, false, cond, not, List, [], ◌∷◌, ◌++◌, ℕ, suc, ◌+◌, ◌-◌, ◌*◌, ◌≤◌, ◌<◌, length, drop, take, get_or, replicate}
-use Rattle.std.proofs.lemmas.Bool.{not-false}
+use Rattle.std.specs.Prelude.{◌≡◌, refl, Bool, true, false, cond, List, [], ◌∷◌, ◌++◌, ℕ, suc, ◌+◌, ◌-◌, ◌*◌, ◌≤◌, ◌<◌, length, drop, take, get_or, replicate, is_some}
 use Rattle.std.proofs.Common.{ap, sym, ◌∙◌, append_assoc, append-nil, arith, zero-add, length-append, length-drop, take-append-drop, take_at, drop_at, drop-drop, length-take-le, lt-ltb, le-ltb, le-leb, leb-true, eq-eqb, ne_eqb}
 use Rattle.std.proofs.Math.Option.{Option, none, some}
 use Rattle.queue.specs.Basics.{join_left}
 use Rattle.queue.specs.declared.Kind.TheVariants.{Nothing}
-use Rattle.queue.specs.declared.Answer.TheVariants.{Refused, Done}
+use Rattle.queue.specs.paper.Answer.{Refused, Done}
 use Rattle.queue.specs.declared.layout.frame.Form.{Form}
-use Rattle.queue.specs.declared.layout.frame.HeadR.{HeadR}
+use Rattle.queue.specs.declared.layout.frame.Head as code_head
 use Rattle.queue.specs.declared.layout.frame.Seen.{Seen}
 use Rattle.queue.specs.declared.check.area.Open.{Open}
 use Rattle.queue.specs.declared.check.area.Area.{Area}
 use Rattle.queue.specs.Codec as codec
 use Rattle.queue.specs.Codec.{Codec, be_c, pair_c, map_c, opt_enc, opt_c, vec_c, counted_c, encs}
 use Rattle.queue.specs.layout.Choice.{fix_c, pick_c, since_c}
-use Rattle.queue.specs.layout.FrameCodec.{Head, id_c, ids_c, low32, narrow_c, priority_c, reads_enc, signed_enc, limits_c, head_k, head_c, rec_k, rec_c, spans_id}
-use Rattle.queue.specs.bytes.ReaderAs.{Reads, whole, list_at}
+use Rattle.queue.specs.layout.FrameCodec.{Head, id_c, ids_c, low32, narrow_c, priority_c, reads_enc, signed_enc, limits_c, head_c, rec_k, rec_c, spans_id}
+use Rattle.queue.specs.bytes.ReaderAs.{Fails, Found, reads?, whole, list_at}
 use Rattle.queue.specs.bytes.ReaderLaws.{false_true, Turn, none_left, values}
-use Rattle.queue.specs.bytes.ViewAs.{view, view_raw}
+use Rattle.queue.specs.bytes.ViewAs.{view}
 use Rattle.queue.specs.Hex.{text_length}
 use Rattle.queue.specs.bytes.PutAs.{splice, be_last, Put}
-use Rattle.queue.specs.layout.FormsCodec.{form_c, line_enc, after_in_value, Framed, turn_in, Store, head_for, head_in, rec_in_value, store_in, area_form, text_form, frames_c, frames_enc, store_length, store_of, queue_with, queue_c, form_raw, ok_queue}
-use Rattle.queue.specs.layout.FrameAs.{facts_of, limits_in, limits_len, SeenUnder, HeadUnder}
+use Rattle.queue.specs.layout.FormsCodec.{form_c, line_enc, after_in_value, Framed, turn_in, stands_in, Store, head_for, head_in, rec_in_value, store_in, area_form, text_form, frames_c, frames_enc, store_length, store_of, queue_with, queue_c, form_raw, ok_queue}
+use Rattle.queue.specs.layout.FrameAs.{times, heights, facts_of, limits_in, limits_len, SeenUnder, HeadUnder}
 use Rattle.queue.specs.theorems.OlderKinds.{narrow_enc, rec_enc, rec_fore, rec_mid, body_said, head_tail, head_first}
-use Rattle.queue.specs.Areas.{kind_of, read_image, layout, image, image_found, image_none, image_unknown}
-use Rattle.queue.specs.check.AreaAs.{limits, StoreAs, sound_l, sound_list, AreaAs, AreaIs}
+use Rattle.queue.specs.Areas.{kind_of, read_area, read_image, layout, image, image_found, image_none, image_unknown}
+use Rattle.queue.specs.check.AreaAs.{limits, StoreAs, sound_l, sound_list, AreaAs, AreaIn}
 use Rattle.queue.specs.theorems.Plain.{area_plain, image_plain}
 use Rattle.queue.specs.theorems.Bound.{fits_need, area_size, reads_image}
 use Rattle.queue.specs.paper.Records.{Bytes, Id, Limits, Held, Rec, Queue}
-use Rattle.queue.specs.paper.Lists.{is_some, is_empty?, maybe}
+use Rattle.queue.specs.paper.Lists as lists
+use Rattle.queue.specs.paper.Lists.{is_empty?, maybe}
 use Rattle.queue.specs.declared.layout.frame.Facts.{Facts}
 use Rattle.queue.specs.paper.Kinds.{newest, kind?, has_callers, has_reads, has_wide, reads_said?}
 use Rattle.queue.specs.paper.Sound.{need, in_range, sound?}
@@ -39,62 +39,58 @@ use Rattle.queue.proofs.bytes.PutLaws.{splice_is, then, kept, recast, sized, Lef
 use Rattle.queue.proofs.bytes.PutByteLaws.{be_same, between}
 use Rattle.queue.proofs.layout.LimitsLaws.{sixteen, shares_bytes_law}
 use Rattle.queue.proofs.change.WriteLaws.{limits_long}
-use Rattle.queue.proofs.layout.TurnLaws.{SeenForm, ReadsForm}
+use Rattle.queue.proofs.layout.TurnLaws.{SeenForm, FoundForm}
+use Rattle.queue.specs.declared.refusal.Refusal.TheVariants.{NotAnImage}
 use Rattle.image.specs.declared.text.Text.{Text}
-use Rattle.image.specs.ImageAs.{TextAs, TextIs, caller_end_value, priority_from_value, rec_back, StoreRoom, StorePut, AreaHeld, ImageLen, AreaRoom, AreaPut}
+use Rattle.image.specs.ImageAs.{TextAs, TextIn, NoText, FrameIn, caller_end_value, priority_from_value, rec_back, StoreRoom, StorePut, AreaHeld, ImageLen, AreaRoom, AreaPut}
 use Rattle.image.specs.paper.Image.{image_of, open_of, Five, need_of, image_limits_of}
 use Rattle.queue.specs.layout.LimitsAs.{need_most}
 
 -- ---- a text
-pub kind_is : {k : ℕ} (s : Bytes) → k ≡ get_or (view true s 0) 0 0 → k ≡ kind_of s
+pub kind_is : {k : ℕ} (s : Bytes) {v : Bytes} → v ≡ view true s 0 → k ≡ get_or v 0 0 → k ≡ kind_of s
 unfolding kind_of
-kind_is s e = e
+kind_is s h e = e ∙ ap (λ (b : Bytes). get_or b 0 0) h
 
-pub text_other : {s : Bytes} {x : Text} (k : ℕ) → k ≡ kind_of s → kind? k ≡ false → x.ok ≡ false → TextIs s x
-text_other {s} k i g e = record { good = λ z. false_true (sym e ∙ z); bad = λ z. image_unknown s k i g }
+pub text_other : (s : Bytes) (k : ℕ) → k ≡ kind_of s → kind? k ≡ false → read_image s ≡ none
+text_other s k i g = image_unknown s k i g
 
-module _ {s : Bytes} (k : ℕ) (i : k ≡ kind_of s) (kn : kind? k ≡ true) {y : Open} (r : Reads (store_in (text_form k)) s 0 y.ok y.next (StoreAs (text_form k) s 0 y)) where
-  abbrev lim : Limits
-  lim = limits_in y.head.limits
+module _ {s : Bytes} (k : ℕ) (i : k ≡ kind_of s) (kn : kind? k ≡ true) where
+  pub text_none : Fails (store_in (text_form k)) s 0 → read_image s ≡ none
+  text_none f = image_none k i kn f
 
-  abbrev rules : Bool
-  rules = sound_l lim y.head.counter.0 (list_at (rec_in_value (text_form k)) y.head.count s y.start)
+  module _ {y : Open} (r : Found (store_in (text_form k)) s 0 y.next (StoreAs (text_form k) s 0 y)) where
+    abbrev lim : Limits
+    lim = limits_in y.head.limits
 
-  pub text_facts : y.ok ≡ true → (st : Store) × StoreAs (text_form k) s 0 y st
-  text_facts f = let u = r.good (omega arith) f in (u.0, u.4)
+    abbrev rules : Bool
+    rules = sound_l lim y.head.counter.0 (list_at (rec_in_value (text_form k)) y.head.count s y.start)
 
-  the_limits : (st : Store) → StoreAs (text_form k) s 0 y st → st.limits ≡ lim
-  the_limits st w = sym w.head.lim
+    the_limits : (st : Store) → StoreAs (text_form k) s 0 y st → st.limits ≡ lim
+    the_limits st w = sym w.head.lim
 
-  the_rules : (st : Store) → StoreAs (text_form k) s 0 y st → sound? (queue_with st.cursor st) ≡ rules
-  the_rules st w =
-      let m = the_limits st w in
-      let c : st.counter ≡ y.head.counter.0 = w.head.counter in
-      let l = w.list in
-      let e : sound_l st.limits st.counter st.recs ≡ rules = cc in
-      sound_list (queue_with st.cursor st) ∙ e
+    the_rules : (st : Store) → StoreAs (text_form k) s 0 y st → sound? (queue_with st.cursor st) ≡ rules
+    the_rules st w =
+        let m = the_limits st w in
+        let c : st.counter ≡ y.head.counter.0 = w.head.counter in
+        let l = w.list in
+        let e : sound_l st.limits st.counter st.recs ≡ rules = cc in
+        sound_list (queue_with st.cursor st) ∙ e
 
-  pub text_none : {x : Text} → y.ok ≡ false → x.ok ≡ false → TextIs s x
-  text_none f e = record { good = λ z. false_true (sym e ∙ z); bad = λ z. image_none k i kn r f }
+    pub text_long : (y.next ≡ length s → ⊥) → read_image s ≡ none
+    text_long n = let u = image_found k i kn r in u.2 ∙ rw (ne_eqb y.next (length s) n) refl
 
-  pub text_long : {x : Text} → y.ok ≡ true → (y.next ≡ length s → ⊥) → x.ok ≡ false → TextIs s x
-  text_long f n e = let u = image_found k i kn r f in record { good = λ z. false_true (sym e ∙ z); bad = λ z. u.2 ∙ rw (ne_eqb y.next (length s) n) }
+    pub text_unsound : {b : Bool} → y.next ≡ length s → b ≡ rules → b ≡ false → read_image s ≡ none
+    text_unsound n d t = let u = image_found k i kn r in u.2 ∙ rw (eq-eqb y.next (length s) n, the_rules u.0 u.1, ← d, t) refl
 
-  pub text_unsound : {x : Text} {b : Bool} → y.ok ≡ true → y.next ≡ length s → b ≡ rules → b ≡ false → x.ok ≡ false → TextIs s x
-  text_unsound f n d t e =
-      let u = image_found k i kn r f in
-      record { good = λ z. false_true (sym e ∙ z); bad = λ z. u.2 ∙ rw (eq-eqb y.next (length s) n, the_rules u.0 u.1, ← d, t) }
-
-  pub text_good : {x : Text} {b : Bool} {m : ℕ} → y.ok ≡ true → y.next ≡ length s → b ≡ rules → b ≡ true → m ≡ need lim → m ≤ need_most → x.ok ≡ true → x.form ≡ text_form k → x.open ≡ y → x.need ≡ m → TextIs s x
-  text_good {x} {b} {m} f n d t g l e1 e4 e2 e3 =
-      let u = image_found k i kn r f in
-      let rd : read_image s ≡ some (queue_with u.0.cursor u.0) = u.2 ∙ rw (eq-eqb y.next (length s) n, the_rules u.0 u.1, ← d, t) in
-      let w = reads_image s (queue_with u.0.cursor u.0) rd in
-      record {
-        good = λ z. (
-          queue_with u.0.cursor u.0,
-          rd,
-          record {
+    pub text_good : {x : Text} {b : Bool} {m : ℕ} → y.next ≡ length s → b ≡ rules → b ≡ true → m ≡ need lim → m ≤ need_most → x.form ≡ text_form k → x.open ≡ y → x.need ≡ m → TextIn s x
+    text_good {x} {b} {m} n d t g l e4 e2 e3 =
+        let u = image_found k i kn r in
+        let rd : read_image s ≡ some (queue_with u.0.cursor u.0) = u.2 ∙ rw (eq-eqb y.next (length s) n, the_rules u.0 u.1, ← d, t) refl in
+        let w = reads_image s (queue_with u.0.cursor u.0) rd in
+        record {
+          q = queue_with u.0.cursor u.0;
+          is = rd;
+          read = record {
             told = e4 ∙ ap text_form i;
             store = rw (e4, e2) u.1;
             need = e3 ∙ g ∙ ap need (sym (the_limits u.0 u.1));
@@ -102,33 +98,32 @@ module _ {s : Bytes} (k : ℕ) (i : k ≡ kind_of s) (kn : kind? k ≡ true) {y 
             sound = w.0;
             range = w.1.0;
             level = refl;
-          },
-        );
-        bad = λ z. false_true (sym z ∙ e1);
-      }
+          };
+        }
 
 -- a text that is read to its end, whose queue breaks a rule
-pub unsound_read : {s : Bytes} {k : ℕ} {y : Open} {v b : Bool} → k ≡ get_or (view true s 0) 0 0 → v ≡ kind? k → v ≡ true
-    → Reads (store_in (text_form k)) s 0 y.ok y.next (StoreAs (text_form k) s 0 y) → not y.ok ≡ false → y.next ≡ length s
+pub unsound_read : {s v : Bytes} {k : ℕ} {y : Open} {kn b : Bool} → v ≡ view true s 0 → k ≡ get_or v 0 0 → kn ≡ kind? k → kn ≡ true
+    → Found (store_in (text_form k)) s 0 y.next (StoreAs (text_form k) s 0 y) → y.next ≡ length s
     → b ≡ sound_l (limits_in y.head.limits) y.head.counter.0 (list_at (rec_in_value (text_form k)) y.head.count s y.start) → b ≡ false
-    → TextIs s (record { ok = false; form = record { hex = true; kind = k }; «open» = y; need = 0 })
-unsound_read {s} {k} {y} i v t r f n d e = text_unsound k (kind_is s i) (sym v ∙ t) r (not-false _ f) n d e refl
+    → NoText s NotAnImage
+unsound_read {s} {v} {k} {y} h i a t r n d e = record { refusal = refl; is = text_unsound k (kind_is s h i) (sym a ∙ t) r n d e }
 
 -- ---- one frame
+-- as a view has it
+pub in_view : {A : Type 0} {𝓐 : Codec A} {hex : Bool} {s : Bytes} {i m : ℕ} {a : A} → Framed 𝓐 hex s i m a → FrameIn 𝓐 (view hex s i) m a
+in_view f = record { fine = f.fine; within = f.within; bytes = f.bytes; size = f.size }
+
 -- a frame of an area as a line
-pub line_of : {A : Type 0} {𝓐 : Codec A} {s : Bytes} {i m : ℕ} {ok : Bool} {a : A} → Framed 𝓐 false s i ok m a → (form_c true 𝓐).enc a ≡ line (take m (drop i s))
-unfolding form_c line_enc view
+pub line_of : {A : Type 0} {𝓐 : Codec A} {v : Bytes} {m : ℕ} {a : A} → FrameIn 𝓐 v m a → (form_c true 𝓐).enc a ≡ line (take m v)
+unfolding form_c line_enc
 line_of f = ap line (sym f.bytes)
 
 line_long : (b : Bytes) → length (line b) ≡ 2 * length b + 1
 line_long b = let e = text_length b in rw length-append (omega arith)
 
-pub line_size : {A : Type 0} {𝓐 : Codec A} {s : Bytes} {i m : ℕ} {ok : Bool} {a : A} → Framed 𝓐 false s i ok m a → length ((form_c true 𝓐).enc a) ≡ 2 * m + 1
+pub line_size : {A : Type 0} {𝓐 : Codec A} {v : Bytes} {m : ℕ} {a : A} → FrameIn 𝓐 v m a → length ((form_c true 𝓐).enc a) ≡ 2 * m + 1
 unfolding form_c line_enc
-line_size {𝓐 = 𝓐} {a = a} f = line_long (𝓐.enc a) ∙ rw f.size
-
-pub frame_in : {A : Type 0} {𝓐 : Codec A} {s : Bytes} {i m : ℕ} {ok : Bool} {a : A} → i ≤ length s → Framed 𝓐 false s i ok m a → i + m ≤ length s
-frame_in {s = s} {i = i} h f = omega (arith, f.within, view_raw false s i refl)
+line_size {𝓐 = 𝓐} {a = a} f = line_long (𝓐.enc a) ∙ rw f.size refl
 
 -- a record's frame under the newest kind
 pub cond_most : (b : Bool) (m n : ℕ) → n ≤ m → cond b m n ≤ m
@@ -161,12 +156,12 @@ pub be_size : (n v : ℕ) → length ((be_c n).enc v) ≡ n
 unfolding be_c
 be_size n v = codec.be_length n v
 
-opt_size : (n : ℕ) (o : Option ℕ) → length ((opt_c (be_c n)).enc o) ≡ 1 + cond (is_some o) n 0
+opt_size : (n : ℕ) (o : Option ℕ) → length ((opt_c (be_c n)).enc o) ≡ 1 + cond (lists.is_some o) n 0
 unfolding opt_c opt_enc be_c
 opt_size n none = refl
 opt_size n (some v) = let k = codec.be_length n v in omega arith
 
-fore_size : (r : Rec) → length (rec_fore r) ≡ 12 + cond (is_some r.terms.due) 8 0 + cond (is_some r.terms.due_height) 4 0
+fore_size : (r : Rec) → length (rec_fore r) ≡ 12 + cond (lists.is_some r.terms.due) 8 0 + cond (lists.is_some r.terms.due_height) 4 0
 unfolding rec_fore
 fore_size r =
     let a = be_size 1 r.state in
@@ -179,10 +174,15 @@ fore_size r =
     sizes : (a b c d e : Bytes) → length (a ++ (b ++ (c ++ (d ++ e)))) ≡ length a + length b + length c + length d + length e
     sizes a b c d e = simp length-append (omega arith)
 
-module _ (form : Form) {s : Bytes} {base : ℕ} {x : Seen} {r : Rec} (w : SeenUnder form.kind (view form.hex s base) x r) (f : Framed (rec_k form.kind) form.hex s base x.ok x.size r) where
-  abbrev seen : Bytes
-  seen = view form.hex s base
+timed : (o : Option ℕ) → is_some (times o) ≡ lists.is_some o
+timed none = refl
+timed (some n) = refl
 
+heighted : (o : Option ℕ) → is_some (heights o) ≡ lists.is_some o
+heighted none = refl
+heighted (some n) = refl
+
+module _ (kind : ℕ) {seen : Bytes} {x : Seen} {r : Rec} (w : SeenUnder kind seen x r) (f : FrameIn (rec_k kind) seen x.size r) where
   abbrev front : Bytes
   front = 2 ∷ id_c.enc r.id
 
@@ -203,14 +203,14 @@ module _ (form : Form) {s : Bytes} {base : ℕ} {x : Seen} {r : Rec} (w : SeenUn
   tail k = rec_fore r ++ (prio k ++ back k)
 
   abbrev lead : Bytes
-  lead = front ++ callers (has_callers form.kind)
+  lead = front ++ callers (has_callers kind)
 
   -- where its parts end
   abbrev ce : ℕ
-  ce = caller_end_value form.kind
+  ce = caller_end_value kind
 
   abbrev pr : ℕ
-  pr = priority_from_value form.kind x.facts
+  pr = priority_from_value kind x.facts
 
   pub front_long : length front ≡ 33
   unfolding rec_k map_c pair_c
@@ -227,29 +227,29 @@ module _ (form : Form) {s : Bytes} {base : ℕ} {x : Seen} {r : Rec} (w : SeenUn
   pub fore_long : ce + length (rec_fore r) ≡ pr
   unfolding facts_of
   fore_long =
-      let a = ap (λ (y : Facts). y.timed) w.facts in
-      let b = ap (λ (y : Facts). y.heighted) w.facts in
-      let c : length (rec_fore r) ≡ 12 + cond x.facts.timed 8 0 + cond x.facts.heighted 4 0 = fore_size r ∙ rw (← a, ← b) refl in
+      let a = ap (λ (y : Facts). is_some y.due) w.facts ∙ timed r.terms.due in
+      let b = ap (λ (y : Facts). is_some y.due_height) w.facts ∙ heighted r.terms.due_height in
+      let c : length (rec_fore r) ≡ 12 + cond (is_some x.facts.due) 8 0 + cond (is_some x.facts.due_height) 4 0 = fore_size r ∙ rw (← a, ← b) refl in
       omega arith
 
-  parts : take x.size seen ≡ lead ++ tail form.kind
-  parts = f.bytes ∙ rec_enc form.kind r ∙ sym (append_assoc front (callers (has_callers form.kind)) (tail form.kind))
+  parts : take x.size seen ≡ lead ++ tail kind
+  parts = f.bytes ∙ rec_enc kind r ∙ sym (append_assoc front (callers (has_callers kind)) (tail kind))
 
   lead_here : (take ce seen ≡ lead) × (ce ≤ x.size)
-  lead_here = let u = slice seen [] lead (tail form.kind) x.size 0 ce parts refl (lead_long (has_callers form.kind)) f.within in (u.0, omega (arith, u.1))
+  lead_here = let u = slice seen [] lead (tail kind) x.size 0 ce parts refl (lead_long (has_callers kind)) f.within in (u.0, omega (arith, u.1))
 
   -- from the state to the deadlines
   pub fore_here : (take (pr - ce) (drop ce seen) ≡ rec_fore r) × (ce ≤ pr) × (pr ≤ x.size)
   fore_here =
       let l = fore_long in
-      let u = slice seen lead (rec_fore r) (prio form.kind ++ back form.kind) x.size ce (pr - ce) parts (lead_long (has_callers form.kind)) (omega arith) f.within in
+      let u = slice seen lead (rec_fore r) (prio kind ++ back kind) x.size ce (pr - ce) parts (lead_long (has_callers kind)) (omega arith) f.within in
       (u.0, omega arith, omega (arith, u.1))
 
   -- behind the priority of n bytes
-  back_here : (n : ℕ) → length (prio form.kind) ≡ n → (take (x.size - (pr + n)) (drop (pr + n) seen) ≡ back form.kind) × (pr + n + length (back form.kind) ≡ x.size)
+  back_here : (n : ℕ) → length (prio kind) ≡ n → (take (x.size - (pr + n)) (drop (pr + n) seen) ≡ back kind) × (pr + n + length (back kind) ≡ x.size)
   back_here n l =
-      slice_end seen ((lead ++ rec_fore r) ++ prio form.kind) (back form.kind) x.size (pr + n) (parts ∙ join_left lead (rec_fore r) (prio form.kind) (back form.kind))
-      (length-append (lead ++ rec_fore r) (prio form.kind) ∙ omega (arith, length-append lead (rec_fore r), lead_long (has_callers form.kind), fore_long)) f.within
+      slice_end seen ((lead ++ rec_fore r) ++ prio kind) (back kind) x.size (pr + n) (parts ∙ join_left lead (rec_fore r) (prio kind) (back kind))
+      (length-append (lead ++ rec_fore r) (prio kind) ∙ omega (arith, length-append lead (rec_fore r), lead_long (has_callers kind), fore_long)) f.within
 
   pub lead_in : (ce ≤ length seen) × (34 ≤ length ((rec_in_value area_form).enc r))
   unfolding form_c
@@ -262,14 +262,14 @@ module _ (form : Form) {s : Bytes} {base : ℕ} {x : Seen} {r : Rec} (w : SeenUn
       let g = caller_long in
       (omega arith, omega arith)
 
-  module _ (t : has_callers form.kind ≡ true) where
+  module _ (t : has_callers kind ≡ true) where
     pub lead_has : ce ≡ 34
     lead_has = rw t
 
     pub lead_yes : take 34 (drop 0 seen) ≡ front ++ caller
     lead_yes = ap (λ (n : ℕ). take n seen) (sym lead_has) ∙ lead_here.0 ∙ ap (λ (b : Bool). front ++ callers b) t
 
-  module _ (t : has_callers form.kind ≡ false) where
+  module _ (t : has_callers kind ≡ false) where
     pub lead_not : ce ≡ 33
     lead_not = rw t
 
@@ -283,22 +283,22 @@ module _ (form : Form) {s : Bytes} {base : ℕ} {x : Seen} {r : Rec} (w : SeenUn
         ap (λ (y : Bytes). y ++ (0 ∷ [])) (ap (λ (n : ℕ). take n seen) (sym lead_not) ∙ lead_here.0 ∙ ap (λ (b : Bool). front ++ callers b) t)
         ∙ append_assoc front [] (0 ∷ []) ∙ ap (λ (c : ℕ). front ++ codec.be 1 c) (sym no_caller)
 
-  reads_same : has_reads form.kind ≡ true → back newest ≡ back form.kind
+  reads_same : has_reads kind ≡ true → back newest ≡ back kind
   reads_same t = sym (ap (λ (b : Bool). rec_mid r ++ (maybe [] (λ h. (since_c b ids_c []).enc h.reads) r.body ++ signed_enc r.body)) t)
 
   -- a kind that has priorities of 64 bits has the same bytes
-  module _ (t : has_wide form.kind ≡ true) where
-    callers_too : has_callers form.kind ≡ true
-    callers_too = let h = leb-true 6 form.kind t in le-leb 4 form.kind (omega arith)
+  module _ (t : has_wide kind ≡ true) where
+    callers_too : has_callers kind ≡ true
+    callers_too = let h = leb-true 6 kind t in le-leb 4 kind (omega arith)
 
-    reads_too : has_reads form.kind ≡ true
-    reads_too = let h = leb-true 6 form.kind t in le-leb 5 form.kind (omega arith)
+    reads_too : has_reads kind ≡ true
+    reads_too = let h = leb-true 6 kind t in le-leb 5 kind (omega arith)
 
-    same_enc : (rec_k newest).enc r ≡ (rec_k form.kind).enc r
+    same_enc : (rec_k newest).enc r ≡ (rec_k kind).enc r
     same_enc =
         rec_enc newest r ∙ ap (λ (y : Bytes). front ++ (caller ++ (rec_fore r ++ (prio newest ++ y)))) (reads_same reads_too)
-        ∙ sym (rec_enc form.kind r ∙ ap (λ (b : Bool). front ++ (callers b ++ tail form.kind)) callers_too
-        ∙ ap (λ (b : Bool). front ++ (caller ++ (rec_fore r ++ ((pick_c b (be_c 8) narrow_c).enc r.terms.priority ++ back form.kind)))) t)
+        ∙ sym (rec_enc kind r ∙ ap (λ (b : Bool). front ++ (callers b ++ tail kind)) callers_too
+        ∙ ap (λ (b : Bool). front ++ (caller ++ (rec_fore r ++ ((pick_c b (be_c 8) narrow_c).enc r.terms.priority ++ back kind)))) t)
 
     pub rec_same : (rec_in_value area_form).enc r ≡ take x.size seen
     unfolding form_c
@@ -309,11 +309,11 @@ module _ (form : Form) {s : Bytes} {base : ℕ} {x : Seen} {r : Rec} (w : SeenUn
     same_long = ap length same_enc ∙ f.size
 
   -- one that has 32 bits has 4 bytes for them
-  module _ (t : has_wide form.kind ≡ false) where
-    narrow_long : length (prio form.kind) ≡ 4
+  module _ (t : has_wide kind ≡ false) where
+    narrow_long : length (prio kind) ≡ 4
     narrow_long = ap (λ (b : Bool). length ((pick_c b (be_c 8) narrow_c).enc r.terms.priority)) t ∙ ap length (narrow_enc r.terms.priority) ∙ be_size 4 (low32 r.terms.priority)
 
-    the_back : (take (x.size - (pr + 4)) (drop (pr + 4) seen) ≡ back form.kind) × (pr + 4 + length (back form.kind) ≡ x.size)
+    the_back : (take (x.size - (pr + 4)) (drop (pr + 4) seen) ≡ back kind) × (pr + 4 + length (back kind) ≡ x.size)
     the_back = back_here 4 narrow_long
 
     the_priority : codec.be 8 r.terms.priority ≡ be_last 8 x.facts.priority
@@ -343,7 +343,7 @@ module _ (form : Form) {s : Bytes} {base : ℕ} {x : Seen} {r : Rec} (w : SeenUn
         sizes a b m d z = simp length-append
 
     -- with read ids what stands behind it is the same
-    module _ (u : has_reads form.kind ≡ true) where
+    module _ (u : has_reads kind ≡ true) where
       pub back_same : rec_back r ≡ take (x.size - (pr + 4)) (drop (pr + 4) seen)
       back_same = reads_same u ∙ sym the_back.0
 
@@ -351,19 +351,19 @@ module _ (form : Form) {s : Bytes} {base : ℕ} {x : Seen} {r : Rec} (w : SeenUn
       back_same_long = ap length (reads_same u) ∙ omega (arith, the_back.1)
 
     -- without them there are no bytes for them
-    module _ (u : has_reads form.kind ≡ false) where
-      none_enc : (o : Option Held) → reads_enc form.kind o ≡ []
+    module _ (u : has_reads kind ≡ false) where
+      none_enc : (o : Option Held) → reads_enc kind o ≡ []
       unfolding fix_c
       none_enc none = refl
       none_enc (some h) = ap (λ (b : Bool). (since_c b ids_c []).enc h.reads) u
 
-      zero_enc : (o : Option Held) → reads_said? form.kind o ≡ true → reads_enc newest o ≡ cond (is_some o) (0 ∷ 0 ∷ []) []
+      zero_enc : (o : Option Held) → reads_said? kind o ≡ true → reads_enc newest o ≡ cond (lists.is_some o) (0 ∷ 0 ∷ []) []
       zero_enc none e = refl
       zero_enc (some h) e = let z : is_empty? h.reads ≡ true = rw u at e in empty_ids h.reads z
 
       unread_enc : reads_enc newest r.body ≡ cond x.facts.holder (0 ∷ 0 ∷ []) []
       unfolding rec_k map_c pair_c facts_of
-      unread_enc = zero_enc r.body (body_said form.kind r.body f.fine.1.1.1.1.1.1.1.1.1) ∙ ap (λ (b : Bool). cond b (0 ∷ 0 ∷ []) []) (sym (ap (λ (y : Facts). y.holder) w.facts))
+      unread_enc = zero_enc r.body (body_said kind r.body f.fine.1.1.1.1.1.1.1.1.1) ∙ ap (λ (b : Bool). cond b (0 ∷ 0 ∷ []) []) (sym (ap (λ (y : Facts). y.holder) w.facts))
 
       two_parts : take (x.size - (pr + 4)) (drop (pr + 4) seen) ≡ rec_mid r ++ signed_enc r.body
       two_parts = the_back.0 ∙ ap (λ (d : Bytes). rec_mid r ++ (d ++ signed_enc r.body)) (none_enc r.body)
@@ -417,20 +417,19 @@ module _ (form : Form) {s : Bytes} {base : ℕ} {x : Seen} {r : Rec} (w : SeenUn
           total g h i = omega arith
 
 -- a header's: its kind, its limits, and what stands behind them
-module _ (form : Form) {s : Bytes} {base : ℕ} {x : HeadR} {h : Head} (w : HeadUnder form.kind (view form.hex s base) x h) (f : Framed (head_k form.kind) form.hex s base x.ok x.size h) where
-  tail_here : drop (x.marks - 8) (view form.hex s base) ≡ head_tail h ++ drop x.size (view form.hex s base)
+module _ (kind : ℕ) {v : Bytes} {x : code_head.Head} {h : Head} (w : HeadUnder kind v x h) where
+  tail_here : drop (x.marks - 8) v ≡ head_tail h ++ drop x.size v
   unfolding head_tail
   tail_here =
-      let v = view form.hex s base in
-      let n = limits_len form.kind in
+      let n = limits_len kind in
       let e : x.marks - 8 ≡ 1 + n = omega (arith, w.marks_at) in
       let m : drop (9 + n) v ≡ ((be_c 4).enc h.cursor ++ (opt_c id_c).enc h.tip) ++ drop x.after v = ap (λ (j : ℕ). drop j v) (sym w.marks_at) ∙ w.marks in
       ap (λ (j : ℕ). drop j v) e ∙ w.revision_at ∙ ap (λ (y : Bytes). (be_c 8).enc h.revision ++ y) (m ∙ ap (λ (y : Bytes). ((be_c 4).enc h.cursor ++ (opt_c id_c).enc h.tip) ++ y) w.counter_at) ∙ simp append_assoc
 
-  pub tail_parts : (take (x.size - (x.marks - 8)) (drop (x.marks - 8) (view form.hex s base)) ≡ head_tail h) × (length (head_tail h) ≡ x.size - (x.marks - 8))
-  tail_parts = between (view form.hex s base) (head_tail h) (x.marks - 8) x.size tail_here (omega (arith, w.marks_at, w.up, w.size_at)) w.end
+  pub tail_parts : (take (x.size - (x.marks - 8)) (drop (x.marks - 8) v) ≡ head_tail h) × (length (head_tail h) ≡ x.size - (x.marks - 8))
+  tail_parts = between v (head_tail h) (x.marks - 8) x.size tail_here (omega (arith, w.marks_at, w.up, w.size_at)) w.end
 
-  pub head_bytes_law : (head_in area_form).enc h ≡ ((newest ∷ []) ++ limits_c.enc (limits_in x.limits)) ++ take (x.size - (x.marks - 8)) (drop (x.marks - 8) (view form.hex s base))
+  pub head_bytes_law : (head_in area_form).enc h ≡ ((newest ∷ []) ++ limits_c.enc (limits_in x.limits)) ++ take (x.size - (x.marks - 8)) (drop (x.marks - 8) v)
   unfolding form_c
   head_bytes_law =
       head_first newest h ∙ ap (λ (m : Limits). newest ∷ (limits_c.enc m ++ head_tail h)) (sym w.lim)
@@ -442,7 +441,7 @@ module _ (form : Form) {s : Bytes} {base : ℕ} {x : HeadR} {h : Head} (w : Head
       ap length (head_first newest h ∙ ap (λ (m : Limits). newest ∷ (limits_c.enc m ++ head_tail h)) (sym w.lim))
       ∙ ap suc (length-append (limits_c.enc (limits_in x.limits)) (head_tail h)) ∙ omega (arith, limits_long (limits_in x.limits) (sixteen x.limits.shares w.fit.long), tail_parts.1)
 
-  pub head_in_law : (8 ≤ x.marks) × (x.marks - 8 ≤ x.size) × (x.size ≤ length (view form.hex s base))
+  pub head_in_law : (8 ≤ x.marks) × (x.marks - 8 ≤ x.size) × (x.size ≤ length v)
   head_in_law = (omega (arith, w.marks_at), omega (arith, w.marks_at, w.up, w.size_at), w.end)
 
 -- ---- the loops over the record frames: read in a form, written by a codec
@@ -459,8 +458,12 @@ module _ (form : Form) (𝓞 : Codec Rec) (s : Bytes) (n at : ℕ) (d₀ : Bytes
   pub turning : at ≤ length s → whole (rec_in_value form) n s at ≡ true → Turning at n d₀ to
   turning h w = record { within = h; all = w; long = refl; rest = begun d₀ to (outs n at) }
 
-  module _ {i left o m : ℕ} {d : Bytes} {ok : Bool} {y : Seen} (x : Turning i left d o) (p : 0 < left) (r : ReadsForm form s i ok m y) where
-    pub turn_here : Turn (rec_in_value form) s left i (after_in_value form.hex s i m) (SeenForm form s i ok m y)
+  -- a record stands at the place of a turn
+  pub turn_stands : {i left o : ℕ} {d : Bytes} → Turning i left d o → 0 < left → reads? (rec_k form.kind) (view form.hex s i) 0 ≡ true
+  turn_stands {left = left} x p = stands_in (rec_k form.kind) form.hex s left x.within x.all p
+
+  module _ {i left o m : ℕ} {d : Bytes} {y : Seen} (x : Turning i left d o) (p : 0 < left) (r : FoundForm form s i m y) where
+    pub turn_here : Turn (rec_in_value form) s left i (after_in_value form.hex s i m) (SeenForm form s i m y)
     turn_here = turn_in form.hex left x.within x.all p r
 
     turn_list : outs left i ≡ 𝓞.enc turn_here.item ++ outs (left - 1) (after_in_value form.hex s i m)
@@ -540,33 +543,31 @@ over_splice bs d h = splice_is d 0 bs (omega arith) ∙ rw zero-add
 pub put_over : {d d' bs : Bytes} {n r : ℕ} → Put d 0 bs n r d' → length bs ≤ length d → d' ≡ over bs d
 put_over {d} {d'} {bs} p h = p.is ∙ over_splice bs d h
 
-module _ {s : Bytes} {a : Area} (w : AreaIs s a) (out : Bytes) (old : ℕ) where
-  pub write_unsound : a.ok ≡ false → (Refused 3, (out, old)) ≡ image_of s out old
+pub write_unsound : (s out : Bytes) (old : ℕ) → read_area s ≡ none → (Refused 3, (out, old)) ≡ image_of s out old
+unfolding image_of
+write_unsound s out old e = rw e
+
+module _ {s : Bytes} {a : Area} (w : AreaIn s a) (out : Bytes) (old : ℕ) where
+  pub write_held : AreaHeld a
+  write_held = record { area = s; queue = w.q; is = w.read }
+
+  pub write_short : {n : ℕ} → ImageLen a n → length out < n → (Refused 4, (out, old)) ≡ image_of s out old
   unfolding image_of
-  write_unsound e = rw (w.bad e)
+  write_short {n} l h = let e = l s w.q w.read in rw (w.is, ← e, lt-ltb (length out) n h)
 
-  pub write_held : a.ok ≡ true → AreaHeld a
-  write_held t = let u = w.good t in record { area = s; queue = u.0; is = u.2 }
+  pub write_room : {n : ℕ} → ImageLen a n → n ≤ length out → StoreRoom area_form (text_form newest) s 4 a.open 0 (length out)
+  write_room l h =
+      let e = l s w.q w.read in
+      let k = ap length (image_is w.q) in
+      record { store = store_of w.q; is = w.read.store; here = (start_four w.read.store).1; room = omega arith }
 
-  pub write_short : {n : ℕ} → a.ok ≡ true → ImageLen a n → length out < n → (Refused 4, (out, old)) ≡ image_of s out old
+  pub write_done : {n r : ℕ} {out' : Bytes} → ImageLen a n → n ≤ length out → StorePut area_form (text_form newest) s 4 a.open out 0 r out' → (Done Nothing, (out', n)) ≡ image_of s out old
   unfolding image_of
-  write_short {n} t l h = let u = w.good t in let e = l s u.0 u.2 in rw (u.1, ← e, lt-ltb (length out) n h)
-
-  pub write_room : {n : ℕ} → a.ok ≡ true → ImageLen a n → n ≤ length out → StoreRoom area_form (text_form newest) s 4 a.open 0 (length out)
-  write_room t l h =
-      let u = w.good t in
-      let e = l s u.0 u.2 in
-      let k = ap length (image_is u.0) in
-      record { store = store_of u.0; is = u.2.store; here = (start_four u.2.store).1; room = omega arith }
-
-  pub write_done : {n r : ℕ} {out' : Bytes} → a.ok ≡ true → ImageLen a n → n ≤ length out → StorePut area_form (text_form newest) s 4 a.open out 0 r out' → (Done Nothing, (out', n)) ≡ image_of s out old
-  unfolding image_of
-  write_done {n} {r} {out'} t l h p =
-      let u = w.good t in
-      let e = l s u.0 u.2 in
-      let k : out' ≡ over ((store_in (text_form newest)).enc (store_of u.0)) out = put_over (p (store_of u.0) u.2.store) (omega (arith, ap length (image_is u.0))) in
-      let o : out' ≡ over (image_bytes u.0) out = k ∙ ap (λ (b : Bytes). over b out) (image_is u.0) in
-      rw (u.1, ← e, le-ltb (length out) n h) (ap (λ (b : Bytes). (Done Nothing, (b, n))) o)
+  write_done {n} {r} {out'} l h p =
+      let e = l s w.q w.read in
+      let k : out' ≡ over ((store_in (text_form newest)).enc (store_of w.q)) out = put_over (p (store_of w.q) w.read.store) (omega (arith, ap length (image_is w.q))) in
+      let o : out' ≡ over (image_bytes w.q) out = k ∙ ap (λ (b : Bytes). over b out) (image_is w.q) in
+      rw (w.is, ← e, le-ltb (length out) n h) (ap (λ (b : Bytes). (Done Nothing, (b, n))) o)
 
 -- ---- opening
 module _ {s : Bytes} {t : Text} {q : Queue} (w : TextAs s t q) where
@@ -608,25 +609,24 @@ module _ {s : Bytes} {t : Text} {q : Queue} (w : TextAs s t q) where
       (omega (arith, area_room, w.need, p.next, u.next))
       refl
 
-module _ {s : Bytes} {t : Text} (w : TextIs s t) (area : Bytes) where
-  pub open_none : t.ok ≡ false → written (Refused 16) area ≡ open_of s area
-  unfolding open_of
-  open_none e = rw (w.bad e)
+pub open_none : (s area : Bytes) → read_image s ≡ none → written (Refused 16) area ≡ open_of s area
+unfolding open_of
+open_none s area e = rw e
 
-  pub open_short : t.ok ≡ true → length area < t.need → written (Refused 2) area ≡ open_of s area
+module _ {s : Bytes} {t : Text} (w : TextIn s t) (area : Bytes) where
+  pub open_short : length area < t.need → written (Refused 2) area ≡ open_of s area
   unfolding open_of
-  open_short e h = let u = w.good e in rw (u.1, ← u.2.need, lt-ltb (length area) t.need h)
+  open_short h = rw (w.is, ← w.read.need, lt-ltb (length area) t.need h)
 
-  pub open_room : t.ok ≡ true → t.need ≤ length area → AreaRoom s t (length area)
-  open_room e h = let u = w.good e in record { queue = u.0; is = u.2; room = h }
+  pub open_room : t.need ≤ length area → AreaRoom s t (length area)
+  open_room h = record { queue = w.q; is = w.read; room = h }
 
-  pub open_done : {area' : Bytes} {r : ℕ} → t.ok ≡ true → t.need ≤ length area → AreaPut s t area r area' → written (Done Nothing) area' ≡ open_of s area
+  pub open_done : {area' : Bytes} {r : ℕ} → t.need ≤ length area → AreaPut s t area r area' → written (Done Nothing) area' ≡ open_of s area
   unfolding open_of
-  open_done {area'} e h p =
-      let u = w.good e in
-      let z = area_size u.0 u.2.sound u.2.range in
-      let o : area' ≡ over (area_bytes u.0) area = put_over (p u.0 u.2) (omega (arith, u.2.need)) in
-      rw (u.1, ← u.2.need, le-ltb (length area) t.need h) (ap (written (Done Nothing)) o)
+  open_done {area'} h p =
+      let z = area_size w.q w.read.sound w.read.range in
+      let o : area' ≡ over (area_bytes w.q) area = put_over (p w.q w.read) (omega (arith, w.read.need)) in
+      rw (w.is, ← w.read.need, le-ltb (length area) t.need h) (ap (written (Done Nothing)) o)
 
 -- ---- how much has to be lent
 pub need_1 : (m : Limits) (old : ℕ) → in_range m ≡ false → (Refused 1, old) ≡ need_of m old
@@ -642,22 +642,21 @@ pub need_alone : (p b t k : ℕ) (s : Bytes) → (in_range (limits_of p b t k s)
 unfolding in_range need
 need_alone p b t k s = (refl, refl)
 
-module _ {s : Bytes} {t : Text} (w : TextIs s t) (old : Five) (shares : Bytes) where
-  pub limits_16 : t.ok ≡ false → (Refused 16, (old, shares)) ≡ image_limits_of s old shares
-  unfolding image_limits_of
-  limits_16 e = rw (w.bad e)
+pub limits_16 : (s : Bytes) (old : Five) (shares : Bytes) → read_image s ≡ none → (Refused 16, (old, shares)) ≡ image_limits_of s old shares
+unfolding image_limits_of
+limits_16 s old shares e = rw e
 
-  pub limits_4 : t.ok ≡ true → length shares < 64 → (Refused 4, (old, shares)) ≡ image_limits_of s old shares
+module _ {s : Bytes} {t : Text} (w : TextIn s t) (old : Five) (shares : Bytes) where
+  pub limits_4 : length shares < 64 → (Refused 4, (old, shares)) ≡ image_limits_of s old shares
   unfolding image_limits_of
-  limits_4 e h = let u = w.good e in rw (u.1, lt-ltb (length shares) 64 h)
+  limits_4 h = rw (w.is, lt-ltb (length shares) 64 h)
 
-  pub limits_100 : {d : Bytes} {r : ℕ} → t.ok ≡ true → 64 ≤ length shares → Put shares 0 t.open.head.limits.shares 64 r d
+  pub limits_100 : {d : Bytes} {r : ℕ} → 64 ≤ length shares → Put shares 0 t.open.head.limits.shares 64 r d
       → (Done Nothing, ((t.open.head.limits.p, (t.open.head.limits.b, (t.open.head.limits.t, (t.open.head.limits.k, t.need)))), d)) ≡ image_limits_of s old shares
   unfolding image_limits_of
-  limits_100 {d} e h p =
-      let u = w.good e in
-      let g = u.2.store.head in
+  limits_100 {d} h p =
+      let g = w.read.store.head in
       let v = t.open.head.limits.shares in
-      let b : v ≡ shares_bytes u.0.limits.shares = sym (shares_bytes_law v g.fit.long g.fit.small) ∙ ap (λ (m : Limits). shares_bytes m.shares) g.lim in
-      let o : d ≡ over (shares_bytes u.0.limits.shares) shares = put_over p (omega (arith, p.size)) ∙ ap (λ (y : Bytes). over y shares) b in
-      rw (u.1, le-ltb (length shares) 64 h, ← u.2.need, ← o, ← g.lim)
+      let b : v ≡ shares_bytes w.q.limits.shares = sym (shares_bytes_law v g.fit.long g.fit.small) ∙ ap (λ (m : Limits). shares_bytes m.shares) g.lim in
+      let o : d ≡ over (shares_bytes w.q.limits.shares) shares = put_over p (omega (arith, p.size)) ∙ ap (λ (y : Bytes). over y shares) b in
+      rw (w.is, le-ltb (length shares) 64 h, ← w.read.need, ← o, ← g.lim)

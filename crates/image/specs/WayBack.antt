@@ -3,9 +3,8 @@ use Rattle.std.specs.Prelude.{◌≡◌, refl, Bool, true, false, cond, not, ◌
 use Rattle.std.proofs.Common.{ap, sym, ◌∙◌, append_assoc, arith, take_at, le-leb, le-ltb, eqb-true}
 use Rattle.std.proofs.Math.Option.{Option, none, some}
 use Rattle.queue.specs.Basics.{any_same}
-use Rattle.queue.specs.declared.Answer.{Answer}
+use Rattle.queue.specs.paper.Answer.{Answer, Refused, Done}
 use Rattle.queue.specs.declared.Kind.TheVariants.{Nothing}
-use Rattle.queue.specs.declared.Answer.TheVariants.{Refused, Done}
 use Rattle.queue.specs.Codec.{Codec, All, cases, cond_cases, byte_c, be, be_c, pair_c, map_c, opt_c, vec_c, counted_c}
 use Rattle.queue.specs.layout.Choice.{then_c}
 use Rattle.queue.specs.layout.FrameCodec.{id_c, label_c, low32, widen_low, low_widen, terms_k, place_c, held_k, body_k, body_c, four_c, limits_k, head_k}

@@ -1,5 +1,5 @@
 // The frames of a queue in the other form: those of an area as lines of text, those of a text, under whatever kind, as an area's.
-ghost use Rattle.std.specs.Prelude.{◌≡◌, cond, [], ◌∷◌, ◌+◌, ◌*◌, ◌≤◌, length, take, drop};
+ghost use Rattle.std.specs.Prelude.{◌≡◌, cond, [], ◌∷◌, ◌+◌, ◌*◌, ◌≤◌, length, take};
 ghost use Rattle.queue.specs.Codec.{encs};
 ghost use Rattle.queue.specs.layout.FormsCodec.{rec_in_value, area_form, text_form};
 ghost use Rattle.queue.specs.layout.RecordsAs.{RecordsIn, recs_at};
@@ -8,21 +8,23 @@ ghost use Rattle.queue.specs.paper.Area.{line};
 ghost use Rattle.queue.specs.paper.Kinds.{newest};
 ghost use Rattle.image.specs.ImageAs.{HeadRoom, HeadPut, caller_end_value, priority_from_value, RecRoom, LeadPut, BackRoom, BackPut, RecPut, StoreRoom, StorePut};
 
-use queue::bytes::put::{copy_view, put_be, put_text, put_u8};
+use queue::bytes::put::{copy_text, copy_view, put_be, put_u8};
+use queue::bytes::view::View;
 use queue::check::area::Open;
 use queue::layout::forms::after_in;
 use queue::layout::frame::{
-    CALLERS, Facts, Form, HeadR, NEWEST, READS, Seen, WIDE, rec_at, rec_in,
+    CALLERS, Facts, Form, Head, NEWEST, READS, Seen, WIDE, record_at, record_in,
 };
 use queue::layout::head::put_limits;
 use queue::layout::records::Records;
 
-// The frame of n bytes at base as a line.
-fn put_line(s: &[u8], base: usize, n: usize, dst: &mut [u8], at: usize) -> usize
-    requires { (base + n ≤ length s.now) × (at + (2 * n + 1) ≤ length dst.old) }
-    ensures { Put dst.old at (line (take n (drop base s.now))) (2 * n + 1) result dst.new }
+// The frame of n bytes at the start of a view, as a line.
+// Kept: a view goes on behind its frame, so n is not how long it is.
+fn put_line(v: &View, n: usize, dst: &mut [u8], at: usize) -> usize
+    requires { (n ≤ length v.now) × (at + (2 * n + 1) ≤ length dst.old) }
+    ensures { Put dst.old at (line (take n v.now)) (2 * n + 1) result dst.new }
 {
-    let e = put_text(s, base, n, dst, at);
+    let e = copy_text(v, 0, n, dst, at);
     put_u8(dst, e, 10)
 }
 
@@ -32,24 +34,22 @@ fn put_lines(s: &[u8], recs: Records, dst: &mut [u8], to: usize) -> usize
     ensures { Put dst.old to (encs (rec_in_value (text_form newest)) (recs_at (rec_in_value area_form) s.now recs)) (length (encs (rec_in_value (text_form newest)) (recs_at (rec_in_value area_form) s.now recs))) result dst.new }
 {
     let mut i = recs.start;
-    let mut left = recs.count;
     let mut o = to;
-    while 0 < left {
-        let x = rec_at(s, i);
-        o = put_line(s, i, x.size, dst, o);
+    for _left in (0..recs.count).rev() {
+        let x = record_at(s, i);
+        o = put_line(&View::new(s, false, i), x.size, dst, o);
         i = after_in(s, false, i, x.size);
-        left = left - 1;
     }
     o
 }
 
-// The header frame and the record frames of the queue that was read at base of an area, as lines.
+/// The header frame and the record frames of the queue that was read at base of an area, as lines.
 pub fn put_image(s: &[u8], base: usize, x: Open, dst: &mut [u8], at: usize) -> usize
     requires { StoreRoom area_form (text_form newest) s.now base x at (length dst.old) }
     ensures { StorePut area_form (text_form newest) s.now base x dst.old at result dst.new }
 {
     let h = x.head;
-    let e = put_line(s, base, h.size, dst, at);
+    let e = put_line(&View::new(s, false, base), h.size, dst, at);
     let recs = Records {
         start: x.start,
         count: h.count,
@@ -57,16 +57,16 @@ pub fn put_image(s: &[u8], base: usize, x: Open, dst: &mut [u8], at: usize) -> u
     put_lines(s, recs, dst, e)
 }
 
-// The header that was read at base, under the newest kind.
-fn put_head(s: &[u8], form: Form, base: usize, h: HeadR, dst: &mut [u8], at: usize) -> usize
-    requires { HeadRoom form s.now base h at (length dst.old) }
-    ensures { HeadPut form s.now base h dst.old at result dst.new }
+// The header that was read under a kind, under the newest one.
+fn put_head(v: &View, kind: u8, h: Head, dst: &mut [u8], at: usize) -> usize
+    requires { HeadRoom kind v.now h at (length dst.old) }
+    ensures { HeadPut kind v.now h dst.old at result dst.new }
 {
     let l = h.limits;
     let from = h.marks - 8;
     let a = put_u8(dst, at, NEWEST);
     let b = put_limits(l, dst, a);
-    copy_view(s, form.hex, base, from, h.size - from, dst, b)
+    copy_view(v, from, h.size - from, dst, b)
 }
 
 // How far the caller reaches in a record of that kind: behind the frame's kind and the id, where the older ones have none.
@@ -76,15 +76,15 @@ fn caller_end(kind: u8) -> usize
     if CALLERS <= kind { 34 } else { 33 }
 }
 
-// The frame's kind, the id and the caller of the record that was read at base: where it has none, 0.
-fn put_lead(s: &[u8], form: Form, base: usize, x: Seen, dst: &mut [u8], at: usize) -> usize
-    requires { RecRoom form s.now base x at (length dst.old) }
-    ensures { LeadPut form s.now base x dst.old at result dst.new }
+// The frame's kind, the id and the caller of the record that was read: where it has none, 0.
+fn put_lead(v: &View, kind: u8, x: Seen, dst: &mut [u8], at: usize) -> usize
+    requires { RecRoom kind v.now x at (length dst.old) }
+    ensures { LeadPut kind v.now x dst.old at result dst.new }
 {
-    if CALLERS <= form.kind {
-        return copy_view(s, form.hex, base, 0, 34, dst, at);
+    if CALLERS <= kind {
+        return copy_view(v, 0, 34, dst, at);
     }
-    let a = copy_view(s, form.hex, base, 0, 33, dst, at);
+    let a = copy_view(v, 0, 33, dst, at);
     put_u8(dst, a, 0)
 }
 
@@ -99,60 +99,52 @@ fn put_unread(holder: bool, dst: &mut [u8], at: usize) -> usize
     at
 }
 
-// n where there is something, else 0.
+/// n where there is something, else 0.
 pub fn when(has: bool, n: usize) -> usize
     ensures { result ≡ cond has n 0 }
 {
     if has { n } else { 0 }
 }
 
-// Where the priority stands in a record of that kind.
+/// Where the priority stands in a record of that kind.
 pub fn priority_from(kind: u8, f: Facts) -> usize
     ensures { result ≡ priority_from_value kind f }
 {
     let a = caller_end(kind);
-    let b = when(f.timed, 8);
-    let c = when(f.heighted, 4);
+    let b = when(f.due.is_some(), 8);
+    let c = when(f.due_height.is_some(), 4);
     a + 12 + b + c
 }
 
 // What stands behind the priority, from `from` on: the older kinds have no read ids.
-fn put_back(
-    s: &[u8],
-    form: Form,
-    base: usize,
-    x: Seen,
-    from: usize,
-    dst: &mut [u8],
-    at: usize,
-) -> usize
-    requires { BackRoom form s.now base x from at (length dst.old) }
-    ensures { BackPut form s.now base x from dst.old at result dst.new }
+fn put_back(v: &View, kind: u8, x: Seen, from: usize, dst: &mut [u8], at: usize) -> usize
+    requires { BackRoom kind v.now x from at (length dst.old) }
+    ensures { BackPut kind v.now x from dst.old at result dst.new }
 {
-    if READS <= form.kind {
-        return copy_view(s, form.hex, base, from, x.size - from, dst, at);
+    if READS <= kind {
+        return copy_view(v, from, x.size - from, dst, at);
     }
     let f = x.facts;
-    let a = copy_view(s, form.hex, base, from, x.reads - from, dst, at);
+    let a = copy_view(v, from, x.reads - from, dst, at);
     let b = put_unread(f.holder, dst, a);
-    copy_view(s, form.hex, base, x.reads, x.size - x.reads, dst, b)
+    copy_view(v, x.reads, x.size - x.reads, dst, b)
 }
 
-// The record that was read at base, under the newest kind: the older ones have 4 bytes of priority, which become 8.
-fn put_rec(s: &[u8], form: Form, base: usize, x: Seen, dst: &mut [u8], at: usize) -> usize
-    requires { RecRoom form s.now base x at (length dst.old) }
-    ensures { RecPut form s.now base x dst.old at result dst.new }
+// The record that was read under a kind, under the newest one: the older ones have 4 bytes of priority, which become 8.
+fn put_rec(v: &View, kind: u8, x: Seen, dst: &mut [u8], at: usize) -> usize
+    requires { RecRoom kind v.now x at (length dst.old) }
+    ensures { RecPut kind v.now x dst.old at result dst.new }
 {
-    if WIDE <= form.kind {
-        return copy_view(s, form.hex, base, 0, x.size, dst, at);
+    if WIDE <= kind {
+        return copy_view(v, 0, x.size, dst, at);
     }
     let f = x.facts;
-    let from = caller_end(form.kind);
-    let p = priority_from(form.kind, f);
-    let a = put_lead(s, form, base, x, dst, at);
-    let b = copy_view(s, form.hex, base, from, p - from, dst, a);
+    let from = caller_end(kind);
+    let p = priority_from(kind, f);
+    let a = put_lead(v, kind, x, dst, at);
+    let b = copy_view(v, from, p - from, dst, a);
     let c = put_be(dst, b, 8, f.priority);
-    put_back(s, form, base, x, p + 4, dst, c)
+    put_back(v, kind, x, p + 4, dst, c)
 }
 
 // The records under the newest kind.
@@ -161,24 +153,22 @@ fn put_recs(s: &[u8], form: Form, recs: Records, dst: &mut [u8], to: usize) -> u
     ensures { Put dst.old to (encs (rec_in_value area_form) (recs_at (rec_in_value form) s.now recs)) (length (encs (rec_in_value area_form) (recs_at (rec_in_value form) s.now recs))) result dst.new }
 {
     let mut i = recs.start;
-    let mut left = recs.count;
     let mut o = to;
-    while 0 < left {
-        let x = rec_in(s, form, i);
-        o = put_rec(s, form, i, x, dst, o);
+    for _left in (0..recs.count).rev() {
+        let x = record_in(s, form, i);
+        o = put_rec(&View::new(s, form.hex, i), form.kind, x, dst, o);
         i = after_in(s, form.hex, i, x.size);
-        left = left - 1;
     }
     o
 }
 
-// The header and the records of the queue that was read at base in a form, as an area has them.
+/// The header and the records of the queue that was read at base in a form, as an area has them.
 pub fn put_queue(s: &[u8], form: Form, base: usize, x: Open, dst: &mut [u8], at: usize) -> usize
     requires { StoreRoom form area_form s.now base x at (length dst.old) }
     ensures { StorePut form area_form s.now base x dst.old at result dst.new }
 {
     let h = x.head;
-    let e = put_head(s, form, base, h, dst, at);
+    let e = put_head(&View::new(s, form.hex, base), form.kind, h, dst, at);
     let recs = Records {
         start: x.start,
         count: h.count,

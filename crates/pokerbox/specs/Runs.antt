@@ -3,8 +3,7 @@ use Rattle.std.specs.Prelude.{◌≡◌, refl, Bool, true, false, List, [], ◌�
 use Rattle.std.proofs.Common.{ap, sym, ◌∙◌, arith, length-append, take_at, le-ltb}
 use Rattle.std.proofs.Math.Option.{Option, none, some}
 use Rattle.queue.specs.declared.Kind.TheVariants.{Nothing, Memory, Whole, Cursor}
-use Rattle.queue.specs.declared.Answer.{Answer}
-use Rattle.queue.specs.declared.Answer.TheVariants.{Refused, Done}
+use Rattle.queue.specs.paper.Answer.{Answer, Refused, Done}
 use Rattle.queue.specs.Codec.{map_c, pair_c, be_c}
 use Rattle.queue.specs.bytes.ReaderLaws.{false_true}
 use Rattle.queue.specs.layout.FormsCodec.{store_in, area_form, store_of, queue_c, store_length}

@@ -5,8 +5,7 @@ use Rattle.std.proofs.Common.{ap, sym, subst, ◌∙◌}
 use Rattle.std.proofs.Math.Option.{Option, none, some}
 use Rattle.std.proofs.lemmas.Bool.{not-true}
 use Rattle.queue.specs.declared.Kind.TheVariants.{Nothing, Memory, Whole, Cursor}
-use Rattle.queue.specs.declared.Answer.{Answer}
-use Rattle.queue.specs.declared.Answer.TheVariants.{Refused, Done}
+use Rattle.queue.specs.paper.Answer.{Answer, Refused, Done}
 use Rattle.queue.specs.Codec.{cases, All, all_append}
 use Rattle.queue.specs.Lists.{sub_all}
 use Rattle.queue.specs.bytes.ListLaws.{all_with, filter_sub, filter_all}

@@ -1,21 +1,26 @@
 // The calls, which pokerbox_c exports to C and Rust. Each gives back document 01's number; docs/CALLS.md has the arguments and the answers.
+// Kept: numbers for kinds and refusals, a flag beside a value, results behind references and lists of bytes one by one are the C interface's.
 #![tactic(auto)]
 
 ghost use Rattle.std.specs.Prelude.{◌≡◌, [], ◌++◌, ◌≤◌};
 ghost use Rattle.queue.specs.Codec.{be};
+ghost use Rattle.queue.specs.Refusal.{answer_of, number_told, test_told};
 ghost use Rattle.queue.specs.check.AreaAs.{limits};
 ghost use Rattle.queue.specs.paper.Lists.{one, is_empty?};
 ghost use Rattle.queue.specs.paper.Reading.{deadline_due?, record_ids_value, guarded_ids_value, reserved_inputs_value, due_states, confirmations};
-ghost use Rattle.queue.specs.paper.Calls.{number, kind_number_value, gives, counted, entry_bytes, ids_bytes, placed_bytes, due_bytes, cursor_bytes, admit_args, reconcile_args, admitting, cancelling, expiring, reconciling, reopening, setting_cursor, call_of, fresh_of, sound_of, settle_of, read_of, number_of, entry_of, signed_bytes_of, selection_at_of};
+ghost use Rattle.queue.specs.paper.Calls.{number, gives, counted, entry_bytes, ids_bytes, placed_bytes, due_bytes, cursor_bytes, admit_args, reconcile_args, admitting, cancelling, expiring, reconciling, reopening, setting_cursor, call_of, fresh_of, sound_of, settle_of, read_of, number_of, entry_of, signed_bytes_of, selection_at_of};
 ghost use Rattle.queue.specs.paper.Fees.{best_fees_of};
 ghost use Rattle.queue.specs.paper.Parents.{parents_first_of};
 ghost use Rattle.image.specs.paper.Image.{image_of, open_of, need_of, image_limits_of, convert_of};
 
+pub mod claims;
+
+use queue::Kind;
 use queue::change::admit::admit;
 use queue::change::calls::{cancel, expire, set_cursor, settle};
 use queue::change::reconcile::reconcile;
 use queue::change::reopen::reopen;
-use queue::check::area::area_at;
+use queue::check::area::Area;
 use queue::layout::frame::{Height, Time};
 use queue::layout::limits::Limits;
 use queue::read::fees::best_fees;
@@ -26,54 +31,63 @@ use queue::read::reading::{
 };
 use queue::read::reserved::{guard_snapshot, reservation_snapshot, reserved_inputs};
 use queue::read::select::selection_at;
-use queue::{Answer, Kind, refusal};
+use queue::refusal::Refusal;
 
-fn kind_number(k: Kind) -> u64
-    ensures { (result ≡ kind_number_value k) × (result ≤ 3) }
+/// The number that a call gives back: 100 and the kind, or the refusal's own.
+fn answered(answer: Result<Kind, Refusal>) -> u64
+    ensures { result ≡ number (answer_of answer) }
 {
-    match k {
-        Kind::Nothing => 0,
-        Kind::Memory => 1,
-        Kind::Whole => 2,
-        Kind::Cursor => 3,
+    match answer {
+        Ok(kind) => 100 + kind as u64,
+        Err(refusal) => refusal.number(),
     }
 }
 
-// A refusal is its own number, a kind is 100 more than its own.
-fn number(a: Answer) -> u64
-    ensures { result ≡ number a }
+/// The same of a call that answers a number, which goes behind value.
+fn answered_number(answer: Result<u64, Refusal>, value: &mut u64) -> u64
+    ensures { (result, value.new) ≡ gives (number_told answer value.old) }
 {
-    match a {
-        Answer::Refused(n) => n,
-        Answer::Done(k) => 100 + kind_number(k),
+    match answer {
+        Ok(number) => {
+            *value = number;
+            answered(Ok(Kind::Nothing))
+        }
+        Err(refusal) => refusal.number(),
     }
 }
 
-fn sound(area: &[u8]) -> Answer
-    ensures { result ≡ sound_of area.now }
+/// The same of a call that answers yes or no: 1 or 0 goes behind value.
+fn answered_test(answer: Result<bool, Refusal>, value: &mut u64) -> u64
+    ensures { (result, value.new) ≡ gives (test_told answer value.old) }
 {
-    let a = area_at(area);
-    if a.ok {
-        return Answer::Done(Kind::Nothing);
+    match answer {
+        Ok(test) => answered_number(Ok(u64::from(test)), value),
+        Err(refusal) => refusal.number(),
     }
-    Answer::Refused(refusal::AREA_NOT_SOUND)
 }
 
-// A fresh queue into area: 1, 2, 5.
+fn sound(area: &[u8]) -> Result<Kind, Refusal>
+    ensures { answer_of result ≡ sound_of area.now }
+{
+    let _ = Area::read(area)?;
+    Ok(Kind::Nothing)
+}
+
+/// A fresh queue into area: 1, 2, 5.
 pub fn pokerbox_fresh(p: u64, b: u64, t: u64, k: u64, shares: &[u8], area: &mut [u8]) -> u64
     ensures { (result, area.new) ≡ gives (fresh_of p b t k shares.now area.old) }
 {
-    number(Limits::fresh(p, b, t, k, shares, area))
+    answered(Limits::fresh(p, b, t, k, shares, area))
 }
 
-// Does the area hold a sound queue? 3 if not.
+/// Does the area hold a sound queue? 3 if not.
 pub fn pokerbox_sound(area: &[u8]) -> u64
     ensures { result ≡ number (sound_of area.now) }
 {
-    number(sound(area))
+    answered(sound(area))
 }
 
-// Admission: the entry in out, old or new. 3, 2, 5, 6, 7, 8, 9, 10, 18, 11, 12, 20, 4.
+/// Admission: the entry in out, old or new. 3, 2, 5, 6, 7, 8, 9, 10, 18, 11, 12, 20, 4.
 pub fn pokerbox_admit(
     cur: &[u8],
     next: &mut [u8],
@@ -100,27 +114,27 @@ pub fn pokerbox_admit(
 ) -> u64
     ensures { (result, (next.new, out.new)) ≡ gives (call_of (admitting (admit_args id.now caller inputs.now outputs.now reads.now bytes.now clock timeflag time heightflag height priority labelflag label.now fee cost tipheight tipflag tip.now)) cur.now next.old out.old) }
 {
-    number(admit(
+    answered(admit(
         cur, next, id, caller, inputs, outputs, reads, bytes, clock, timeflag, time, heightflag,
         height, priority, labelflag, label, fee, cost, tipheight, tipflag, tip, out,
     ))
 }
 
-// Cancellation: the entry in out. 3, 2, 5, 13, 14, 15, 4.
+/// Cancellation: the entry in out. 3, 2, 5, 13, 14, 15, 4.
 pub fn pokerbox_cancel(cur: &[u8], next: &mut [u8], id: &[u8], out: &mut [u8]) -> u64
     ensures { (result, (next.new, out.new)) ≡ gives (call_of (cancelling id.now) cur.now next.old out.old) }
 {
-    number(cancel(cur, next, id, out))
+    answered(cancel(cur, next, id, out))
 }
 
-// Expiry: the ids finished in out. 3, 2, 15, 4.
+/// Expiry: the ids finished in out. 3, 2, 15, 4.
 pub fn pokerbox_expire(cur: &[u8], next: &mut [u8], time: u64, height: u32, out: &mut [u8]) -> u64
     ensures { (result, (next.new, out.new)) ≡ gives (call_of (expiring time height) cur.now next.old out.old) }
 {
-    number(expire(cur, next, time, height, out))
+    answered(expire(cur, next, time, height, out))
 }
 
-// Reconciliation: whether anything changed and the ids released in out. 3, 2, 5, 15, 4.
+/// Reconciliation: whether anything changed and the ids released in out. 3, 2, 5, 15, 4.
 pub fn pokerbox_reconcile(
     cur: &[u8],
     next: &mut [u8],
@@ -134,61 +148,61 @@ pub fn pokerbox_reconcile(
 ) -> u64
     ensures { (result, (next.new, out.new)) ≡ gives (call_of (reconciling (reconcile_args height tip.now applied.now caughtup available.now window)) cur.now next.old out.old) }
 {
-    number(reconcile(
+    answered(reconcile(
         cur, next, height, tip, applied, caughtup, available, window, out,
     ))
 }
 
-// Reopening. 3, 2, 5.
+/// Reopening. 3, 2, 5.
 pub fn pokerbox_reopen(cur: &[u8], next: &mut [u8], ids: &[u8]) -> u64
     ensures { (result, (next.new, [])) ≡ gives (call_of (reopening ids.now) cur.now next.old []) }
 {
-    number(reopen(cur, next, ids))
+    answered(reopen(cur, next, ids))
 }
 
-// Cursor setting. 3, 2, 5.
+/// Cursor setting. 3, 2, 5.
 pub fn pokerbox_set_cursor(cur: &[u8], next: &mut [u8], height: u32, flag: u8, tip: &[u8]) -> u64
     ensures { (result, (next.new, [])) ≡ gives (call_of (setting_cursor height flag tip.now) cur.now next.old []) }
 {
-    number(set_cursor(cur, next, height, flag, tip))
+    answered(set_cursor(cur, next, height, flag, tip))
 }
 
-// Settling. 3, 2, 5; 17 where the write failed.
+/// Settling. 3, 2, 5; 17 where the write failed.
 pub fn pokerbox_settle(cur: &[u8], next: &mut [u8], kind: u64, outcome: u64) -> u64
     ensures { (result, next.new) ≡ gives (settle_of cur.now next.old kind outcome) }
 {
-    number(settle(cur, next, kind, outcome))
+    answered(settle(cur, next, kind, outcome))
 }
 
-// The image of the queue in area: into out, its length behind size. 3, 4.
+/// The image of the queue in area: into out, its length behind size. 3, 4.
 pub fn pokerbox_image(area: &[u8], out: &mut [u8], size: &mut u64) -> u64
     ensures { (result, (out.new, size.new)) ≡ gives (image_of area.now out.old size.old) }
 {
-    number(image::write(area, out, size))
+    answered_number(image::write(area, out), size)
 }
 
-// The queue of an image into area. 16, 2.
+/// The queue of an image into area. 16, 2.
 pub fn pokerbox_open(text: &[u8], area: &mut [u8]) -> u64
     ensures { (result, area.new) ≡ gives (open_of text.now area.old) }
 {
-    number(image::open(text, area))
+    answered(image::open(text, area))
 }
 
-// The image of kind 01 of the queue whose image of kind 06 the text is: into out, its length behind size. 16, 22, 4.
+/// The image of kind 01 of the queue whose image of kind 06 the text is: into out, its length behind size. 16, 22, 4.
 pub fn pokerbox_convert(text: &[u8], out: &mut [u8], size: &mut u64) -> u64
     ensures { (result, (out.new, size.new)) ≡ gives (convert_of text.now out.old size.old) }
 {
-    number(image::convert(text, out, size))
+    answered_number(image::convert(text, out), size)
 }
 
-// How many bytes an area needs under these limits. 1.
+/// How many bytes an area needs under these limits. 1.
 pub fn pokerbox_need(p: u64, b: u64, t: u64, k: u64, value: &mut u64) -> u64
     ensures { (result, value.new) ≡ gives (need_of (limits p b t k) value.old) }
 {
-    number(image::area_need(p, b, t, k, value))
+    answered_number(image::area_need(p, b, t, k), value)
 }
 
-// The limits and shares of an image's queue, and how many bytes an area needs under them. 16, 4.
+/// The limits and shares of an image's queue, and how many bytes an area needs under them. 16, 4.
 pub fn pokerbox_image_limits(
     text: &[u8],
     p: &mut u64,
@@ -200,31 +214,42 @@ pub fn pokerbox_image_limits(
 ) -> u64
     ensures { (result, ((p.new, (b.new, (t.new, (k.new, need.new)))), shares.new)) ≡ gives (image_limits_of text.now (p.old, (b.old, (t.old, (k.old, need.old)))) shares.old) }
 {
-    number(image::image_limits(text, p, b, t, k, shares, need))
+    match image::image_limits(text, shares) {
+        Ok(told) => {
+            let limits = told.limits;
+            *p = limits.p;
+            *b = limits.b;
+            *t = limits.t;
+            *k = limits.k;
+            *need = told.need;
+            answered(Ok(Kind::Nothing))
+        }
+        Err(refusal) => refusal.number(),
+    }
 }
 
-// The entry of an id. 3, 5, 13, 4.
+/// The entry of an id. 3, 5, 13, 4.
 pub fn pokerbox_entry(area: &[u8], id: &[u8], out: &mut [u8]) -> u64
     ensures { (result, out.new) ≡ gives (entry_of area.now id.now out.old) }
 {
-    number(entry(area, id, out))
+    answered(entry(area, id, out))
 }
 
-// The selection at a time and a height. 3, 4.
+/// The selection at a time and a height. 3, 4.
 pub fn pokerbox_selection_entries_at(area: &[u8], time: u64, height: u32, out: &mut [u8]) -> u64
     ensures { (result, out.new) ≡ gives (selection_at_of area.now time height out.old) }
 {
-    number(selection_at(area, Time(time), Height(height as u64), out))
+    answered(selection_at(area, Time(time), Height(height as u64), out))
 }
 
-// The same, parents first: each record after all that it waits for. 3, 4.
+/// The same, parents first: each record after all that it waits for. 3, 4.
 pub fn pokerbox_selection_parents_first(area: &[u8], time: u64, height: u32, out: &mut [u8]) -> u64
     ensures { (result, out.new) ≡ gives (parents_first_of area.now time height out.old) }
 {
-    number(parents_first(area, Time(time), Height(height as u64), out))
+    answered(parents_first(area, Time(time), Height(height as u64), out))
 }
 
-// Best fees for a block of at most `limit` bytes: fee, nodes, distance, and the ids of the set. 3, 5, 21, 4.
+/// Best fees for a block of at most `limit` bytes: fee, nodes, distance, and the ids of the set. 3, 5, 21, 4.
 pub fn pokerbox_best_fees(
     area: &[u8],
     limit: u64,
@@ -235,119 +260,117 @@ pub fn pokerbox_best_fees(
 ) -> u64
     ensures { (result, out.new) ≡ gives (best_fees_of area.now limit budget time height out.old) }
 {
-    number(best_fees(area, limit, budget, Time(time), Height(height as u64), out))
+    answered(best_fees(area, limit, budget, Time(time), Height(height as u64), out))
 }
 
-// The selection at time 0 and height 0. 3, 4.
+/// The selection at time 0 and height 0. 3, 4.
 pub fn pokerbox_selection_entries(area: &[u8], out: &mut [u8]) -> u64
     ensures { (result, out.new) ≡ gives (selection_at_of area.now 0 0 out.old) }
 {
-    number(selection_at(area, Time(0), Height(0), out))
+    answered(selection_at(area, Time(0), Height(0), out))
 }
 
-// The ids of the records. 3, 4.
+/// The ids of the records. 3, 4.
 pub fn pokerbox_record_ids(area: &[u8], out: &mut [u8]) -> u64
     ensures { (result, out.new) ≡ gives (read_of (λ q. ids_bytes (record_ids_value q)) area.now out.old) }
 {
-    number(record_ids(area, out))
+    answered(record_ids(area, out))
 }
 
-// The ids of the holders. 3, 4.
+/// The ids of the holders. 3, 4.
 pub fn pokerbox_guarded_ids(area: &[u8], out: &mut [u8]) -> u64
     ensures { (result, out.new) ≡ gives (read_of (λ q. ids_bytes (guarded_ids_value q)) area.now out.old) }
 {
-    number(guarded_ids(area, out))
+    answered(guarded_ids(area, out))
 }
 
-// The input ids of all records, rising, each once. 3, 4.
+/// The input ids of all records, rising, each once. 3, 4.
 pub fn pokerbox_reserved_inputs(area: &[u8], out: &mut [u8]) -> u64
     ensures { (result, out.new) ≡ gives (read_of (λ q. ids_bytes (reserved_inputs_value q)) area.now out.old) }
 {
-    number(reserved_inputs(area, out))
+    answered(reserved_inputs(area, out))
 }
 
-// The revision, and the reserved inputs. 3, 4.
+/// The revision, and the reserved inputs. 3, 4.
 pub fn pokerbox_reservation_snapshot(area: &[u8], out: &mut [u8]) -> u64
     ensures { (result, out.new) ≡ gives (read_of (λ q. be 8 q.revision ++ ids_bytes (reserved_inputs_value q)) area.now out.old) }
 {
-    number(reservation_snapshot(area, out))
+    answered(reservation_snapshot(area, out))
 }
 
-// The ids of the holders, and the reserved inputs. 3, 4.
+/// The ids of the holders, and the reserved inputs. 3, 4.
 pub fn pokerbox_guard_snapshot(area: &[u8], out: &mut [u8]) -> u64
     ensures { (result, out.new) ≡ gives (read_of (λ q. ids_bytes (guarded_ids_value q) ++ ids_bytes (reserved_inputs_value q)) area.now out.old) }
 {
-    number(guard_snapshot(area, out))
+    answered(guard_snapshot(area, out))
 }
 
-// The entries of all records. 3, 4.
+/// The entries of all records. 3, 4.
 pub fn pokerbox_list(area: &[u8], out: &mut [u8]) -> u64
     ensures { (result, out.new) ≡ gives (read_of (λ q. counted entry_bytes q.recs) area.now out.old) }
 {
-    number(list(area, out))
+    answered(list(area, out))
 }
 
-// The Mined records with their places. 3, 4.
+/// The Mined records with their places. 3, 4.
 pub fn pokerbox_confirmations(area: &[u8], out: &mut [u8]) -> u64
     ensures { (result, out.new) ≡ gives (read_of (λ q. counted placed_bytes (confirmations q)) area.now out.old) }
 {
-    number(confirmations(area, out))
+    answered(confirmations(area, out))
 }
 
-// The records that are due, with their states. 3, 4.
+/// The records that are due, with their states. 3, 4.
 pub fn pokerbox_due(area: &[u8], time: u64, height: u32, out: &mut [u8]) -> u64
     ensures { (result, out.new) ≡ gives (read_of (λ q. counted due_bytes (due_states time height q)) area.now out.old) }
 {
-    number(due(area, Time(time), Height(height as u64), out))
+    answered(due(area, Time(time), Height(height as u64), out))
 }
 
-// The cursor: height, and tip if there is one. 3, 4.
+/// The cursor: height, and tip if there is one. 3, 4.
 pub fn pokerbox_observation_cursor(area: &[u8], out: &mut [u8]) -> u64
     ensures { (result, out.new) ≡ gives (read_of cursor_bytes area.now out.old) }
 {
-    number(observation_cursor(area, out))
+    answered(observation_cursor(area, out))
 }
 
-// The revision. 3.
+/// The revision. 3.
 pub fn pokerbox_revision(area: &[u8], value: &mut u64) -> u64
     ensures { (result, value.new) ≡ gives (number_of (λ q. q.revision) area.now value.old) }
 {
-    number(revision(area, value))
+    answered_number(revision(area), value)
 }
 
-// The cursor height. 3.
+/// The cursor height. 3.
 pub fn pokerbox_observed_height(area: &[u8], value: &mut u64) -> u64
     ensures { (result, value.new) ≡ gives (number_of (λ q. q.cursor) area.now value.old) }
 {
-    number(observed_height(area, value))
+    answered_number(observed_height(area), value)
 }
 
-// 1 without records, else 0. 3.
+/// 1 without records, else 0. 3.
 pub fn pokerbox_is_empty(area: &[u8], value: &mut u64) -> u64
     ensures { (result, value.new) ≡ gives (number_of (λ q. one (is_empty? q.recs)) area.now value.old) }
 {
-    number(is_empty(area, value))
+    answered_test(is_empty(area), value)
 }
 
-// 1 if a deadline is due, else 0. 3.
+/// 1 if a deadline is due, else 0. 3.
 pub fn pokerbox_deadline_due(area: &[u8], time: u64, height: u32, value: &mut u64) -> u64
     ensures { (result, value.new) ≡ gives (number_of (λ q. one (deadline_due? time height q)) area.now value.old) }
 {
-    number(deadline_due(area, Time(time), Height(height as u64), value))
+    answered_test(deadline_due(area, Time(time), Height(height as u64)), value)
 }
 
-// Where the signed bytes of an id stand in the area. 3, 5, 13.
+/// Where the signed bytes of an id stand in the area. 3, 5, 13.
 pub fn pokerbox_signed_bytes(area: &[u8], id: &[u8], start: &mut u64, size: &mut u64) -> u64
     ensures { (result, (start.new, size.new)) ≡ gives (signed_bytes_of area.now id.now (start.old, size.old)) }
 {
-    let p = signed_place(area, id);
-    let a = p.answer;
-    match a {
-        Answer::Refused(n) => n,
-        Answer::Done(k) => {
-            *start = p.start as u64;
-            *size = p.len as u64;
-            100 + kind_number(k)
+    match signed_place(area, id) {
+        Ok(place) => {
+            *start = place.start as u64;
+            *size = place.len as u64;
+            answered(Ok(Kind::Nothing))
         }
+        Err(refusal) => refusal.number(),
     }
 }

@@ -1,4 +1,5 @@
 // The exported calls, for C and Rust: each is the library's, under the same name and contract.
+// Kept: the C interface; only a static library can give an archive, and no other crate can stand on one.
 #![tactic(auto)]
 
 ghost use Rattle.std.specs.Prelude.{◌≡◌, [], ◌++◌, ◌≤◌};
@@ -11,7 +12,7 @@ ghost use Rattle.queue.specs.paper.Fees.{best_fees_of};
 ghost use Rattle.queue.specs.paper.Parents.{parents_first_of};
 ghost use Rattle.image.specs.paper.Image.{image_of, open_of, need_of, image_limits_of, convert_of};
 
-// A fresh queue into area: 1, 2, 5.
+/// A fresh queue into area: 1, 2, 5.
 #[unsafe(no_mangle)]
 pub extern "C" fn pokerbox_fresh(
     p: u64,
@@ -26,7 +27,7 @@ pub extern "C" fn pokerbox_fresh(
     pokerbox::pokerbox_fresh(p, b, t, k, shares, area)
 }
 
-// Does the area hold a sound queue? 3 if not.
+/// Does the area hold a sound queue? 3 if not.
 #[unsafe(no_mangle)]
 pub extern "C" fn pokerbox_sound(area: &[u8]) -> u64
     ensures { result ≡ number (sound_of area.now) }
@@ -34,7 +35,7 @@ pub extern "C" fn pokerbox_sound(area: &[u8]) -> u64
     pokerbox::pokerbox_sound(area)
 }
 
-// Admission: the entry in out, old or new. 3, 2, 5, 6, 7, 8, 9, 10, 18, 11, 12, 20, 4.
+/// Admission: the entry in out, old or new. 3, 2, 5, 6, 7, 8, 9, 10, 18, 11, 12, 20, 4.
 #[unsafe(no_mangle)]
 pub extern "C" fn pokerbox_admit(
     cur: &[u8],
@@ -68,7 +69,7 @@ pub extern "C" fn pokerbox_admit(
     )
 }
 
-// Cancellation: the entry in out. 3, 2, 5, 13, 14, 15, 4.
+/// Cancellation: the entry in out. 3, 2, 5, 13, 14, 15, 4.
 #[unsafe(no_mangle)]
 pub extern "C" fn pokerbox_cancel(cur: &[u8], next: &mut [u8], id: &[u8], out: &mut [u8]) -> u64
     ensures { (result, (next.new, out.new)) ≡ gives (call_of (cancelling id.now) cur.now next.old out.old) }
@@ -76,7 +77,7 @@ pub extern "C" fn pokerbox_cancel(cur: &[u8], next: &mut [u8], id: &[u8], out: &
     pokerbox::pokerbox_cancel(cur, next, id, out)
 }
 
-// Expiry: the ids finished in out. 3, 2, 15, 4.
+/// Expiry: the ids finished in out. 3, 2, 15, 4.
 #[unsafe(no_mangle)]
 pub extern "C" fn pokerbox_expire(
     cur: &[u8],
@@ -90,7 +91,7 @@ pub extern "C" fn pokerbox_expire(
     pokerbox::pokerbox_expire(cur, next, time, height, out)
 }
 
-// Reconciliation: whether anything changed and the ids released in out. 3, 2, 5, 15, 4.
+/// Reconciliation: whether anything changed and the ids released in out. 3, 2, 5, 15, 4.
 #[unsafe(no_mangle)]
 pub extern "C" fn pokerbox_reconcile(
     cur: &[u8],
@@ -110,7 +111,7 @@ pub extern "C" fn pokerbox_reconcile(
     )
 }
 
-// Reopening. 3, 2, 5.
+/// Reopening. 3, 2, 5.
 #[unsafe(no_mangle)]
 pub extern "C" fn pokerbox_reopen(cur: &[u8], next: &mut [u8], ids: &[u8]) -> u64
     ensures { (result, (next.new, [])) ≡ gives (call_of (reopening ids.now) cur.now next.old []) }
@@ -118,7 +119,7 @@ pub extern "C" fn pokerbox_reopen(cur: &[u8], next: &mut [u8], ids: &[u8]) -> u6
     pokerbox::pokerbox_reopen(cur, next, ids)
 }
 
-// Cursor setting. 3, 2, 5.
+/// Cursor setting. 3, 2, 5.
 #[unsafe(no_mangle)]
 pub extern "C" fn pokerbox_set_cursor(
     cur: &[u8],
@@ -132,7 +133,7 @@ pub extern "C" fn pokerbox_set_cursor(
     pokerbox::pokerbox_set_cursor(cur, next, height, flag, tip)
 }
 
-// Settling. 3, 2, 5; 17 where the write failed.
+/// Settling. 3, 2, 5; 17 where the write failed.
 #[unsafe(no_mangle)]
 pub extern "C" fn pokerbox_settle(cur: &[u8], next: &mut [u8], kind: u64, outcome: u64) -> u64
     ensures { (result, next.new) ≡ gives (settle_of cur.now next.old kind outcome) }
@@ -140,7 +141,7 @@ pub extern "C" fn pokerbox_settle(cur: &[u8], next: &mut [u8], kind: u64, outcom
     pokerbox::pokerbox_settle(cur, next, kind, outcome)
 }
 
-// The image of the queue in area: into out, its length behind size. 3, 4.
+/// The image of the queue in area: into out, its length behind size. 3, 4.
 #[unsafe(no_mangle)]
 pub extern "C" fn pokerbox_image(area: &[u8], out: &mut [u8], size: &mut u64) -> u64
     ensures { (result, (out.new, size.new)) ≡ gives (image_of area.now out.old size.old) }
@@ -148,7 +149,7 @@ pub extern "C" fn pokerbox_image(area: &[u8], out: &mut [u8], size: &mut u64) ->
     pokerbox::pokerbox_image(area, out, size)
 }
 
-// The queue of an image into area. 16, 2.
+/// The queue of an image into area. 16, 2.
 #[unsafe(no_mangle)]
 pub extern "C" fn pokerbox_open(text: &[u8], area: &mut [u8]) -> u64
     ensures { (result, area.new) ≡ gives (open_of text.now area.old) }
@@ -156,7 +157,7 @@ pub extern "C" fn pokerbox_open(text: &[u8], area: &mut [u8]) -> u64
     pokerbox::pokerbox_open(text, area)
 }
 
-// The image of kind 01 of the queue whose image of kind 06 the text is: into out, its length behind size. 16, 22, 4.
+/// The image of kind 01 of the queue whose image of kind 06 the text is: into out, its length behind size. 16, 22, 4.
 #[unsafe(no_mangle)]
 pub extern "C" fn pokerbox_convert(text: &[u8], out: &mut [u8], size: &mut u64) -> u64
     ensures { (result, (out.new, size.new)) ≡ gives (convert_of text.now out.old size.old) }
@@ -164,7 +165,7 @@ pub extern "C" fn pokerbox_convert(text: &[u8], out: &mut [u8], size: &mut u64) 
     pokerbox::pokerbox_convert(text, out, size)
 }
 
-// How many bytes an area needs under these limits. 1.
+/// How many bytes an area needs under these limits. 1.
 #[unsafe(no_mangle)]
 pub extern "C" fn pokerbox_need(p: u64, b: u64, t: u64, k: u64, value: &mut u64) -> u64
     ensures { (result, value.new) ≡ gives (need_of (limits p b t k) value.old) }
@@ -172,7 +173,7 @@ pub extern "C" fn pokerbox_need(p: u64, b: u64, t: u64, k: u64, value: &mut u64)
     pokerbox::pokerbox_need(p, b, t, k, value)
 }
 
-// The limits and shares of an image's queue, and how many bytes an area needs under them. 16, 4.
+/// The limits and shares of an image's queue, and how many bytes an area needs under them. 16, 4.
 #[unsafe(no_mangle)]
 pub extern "C" fn pokerbox_image_limits(
     text: &[u8],
@@ -188,7 +189,7 @@ pub extern "C" fn pokerbox_image_limits(
     pokerbox::pokerbox_image_limits(text, p, b, t, k, shares, need)
 }
 
-// The entry of an id. 3, 5, 13, 4.
+/// The entry of an id. 3, 5, 13, 4.
 #[unsafe(no_mangle)]
 pub extern "C" fn pokerbox_entry(area: &[u8], id: &[u8], out: &mut [u8]) -> u64
     ensures { (result, out.new) ≡ gives (entry_of area.now id.now out.old) }
@@ -196,7 +197,7 @@ pub extern "C" fn pokerbox_entry(area: &[u8], id: &[u8], out: &mut [u8]) -> u64
     pokerbox::pokerbox_entry(area, id, out)
 }
 
-// The selection at a time and a height. 3, 4.
+/// The selection at a time and a height. 3, 4.
 #[unsafe(no_mangle)]
 pub extern "C" fn pokerbox_selection_entries_at(
     area: &[u8],
@@ -209,7 +210,7 @@ pub extern "C" fn pokerbox_selection_entries_at(
     pokerbox::pokerbox_selection_entries_at(area, time, height, out)
 }
 
-// The same, parents first: each record after all that it waits for. 3, 4.
+/// The same, parents first: each record after all that it waits for. 3, 4.
 #[unsafe(no_mangle)]
 pub extern "C" fn pokerbox_selection_parents_first(
     area: &[u8],
@@ -222,7 +223,7 @@ pub extern "C" fn pokerbox_selection_parents_first(
     pokerbox::pokerbox_selection_parents_first(area, time, height, out)
 }
 
-// Best fees for a block of at most `limit` bytes: fee, nodes, distance, and the ids of the set. 3, 5, 21, 4.
+/// Best fees for a block of at most `limit` bytes: fee, nodes, distance, and the ids of the set. 3, 5, 21, 4.
 #[unsafe(no_mangle)]
 pub extern "C" fn pokerbox_best_fees(
     area: &[u8],
@@ -237,7 +238,7 @@ pub extern "C" fn pokerbox_best_fees(
     pokerbox::pokerbox_best_fees(area, limit, budget, time, height, out)
 }
 
-// The selection at time 0 and height 0. 3, 4.
+/// The selection at time 0 and height 0. 3, 4.
 #[unsafe(no_mangle)]
 pub extern "C" fn pokerbox_selection_entries(area: &[u8], out: &mut [u8]) -> u64
     ensures { (result, out.new) ≡ gives (selection_at_of area.now 0 0 out.old) }
@@ -245,7 +246,7 @@ pub extern "C" fn pokerbox_selection_entries(area: &[u8], out: &mut [u8]) -> u64
     pokerbox::pokerbox_selection_entries(area, out)
 }
 
-// The ids of the records. 3, 4.
+/// The ids of the records. 3, 4.
 #[unsafe(no_mangle)]
 pub extern "C" fn pokerbox_record_ids(area: &[u8], out: &mut [u8]) -> u64
     ensures { (result, out.new) ≡ gives (read_of (λ q. ids_bytes (record_ids_value q)) area.now out.old) }
@@ -253,7 +254,7 @@ pub extern "C" fn pokerbox_record_ids(area: &[u8], out: &mut [u8]) -> u64
     pokerbox::pokerbox_record_ids(area, out)
 }
 
-// The ids of the holders. 3, 4.
+/// The ids of the holders. 3, 4.
 #[unsafe(no_mangle)]
 pub extern "C" fn pokerbox_guarded_ids(area: &[u8], out: &mut [u8]) -> u64
     ensures { (result, out.new) ≡ gives (read_of (λ q. ids_bytes (guarded_ids_value q)) area.now out.old) }
@@ -261,7 +262,7 @@ pub extern "C" fn pokerbox_guarded_ids(area: &[u8], out: &mut [u8]) -> u64
     pokerbox::pokerbox_guarded_ids(area, out)
 }
 
-// The input ids of all records, rising, each once. 3, 4.
+/// The input ids of all records, rising, each once. 3, 4.
 #[unsafe(no_mangle)]
 pub extern "C" fn pokerbox_reserved_inputs(area: &[u8], out: &mut [u8]) -> u64
     ensures { (result, out.new) ≡ gives (read_of (λ q. ids_bytes (reserved_inputs_value q)) area.now out.old) }
@@ -269,7 +270,7 @@ pub extern "C" fn pokerbox_reserved_inputs(area: &[u8], out: &mut [u8]) -> u64
     pokerbox::pokerbox_reserved_inputs(area, out)
 }
 
-// The revision, and the reserved inputs. 3, 4.
+/// The revision, and the reserved inputs. 3, 4.
 #[unsafe(no_mangle)]
 pub extern "C" fn pokerbox_reservation_snapshot(area: &[u8], out: &mut [u8]) -> u64
     ensures { (result, out.new) ≡ gives (read_of (λ q. be 8 q.revision ++ ids_bytes (reserved_inputs_value q)) area.now out.old) }
@@ -277,7 +278,7 @@ pub extern "C" fn pokerbox_reservation_snapshot(area: &[u8], out: &mut [u8]) -> 
     pokerbox::pokerbox_reservation_snapshot(area, out)
 }
 
-// The ids of the holders, and the reserved inputs. 3, 4.
+/// The ids of the holders, and the reserved inputs. 3, 4.
 #[unsafe(no_mangle)]
 pub extern "C" fn pokerbox_guard_snapshot(area: &[u8], out: &mut [u8]) -> u64
     ensures { (result, out.new) ≡ gives (read_of (λ q. ids_bytes (guarded_ids_value q) ++ ids_bytes (reserved_inputs_value q)) area.now out.old) }
@@ -285,7 +286,7 @@ pub extern "C" fn pokerbox_guard_snapshot(area: &[u8], out: &mut [u8]) -> u64
     pokerbox::pokerbox_guard_snapshot(area, out)
 }
 
-// The entries of all records. 3, 4.
+/// The entries of all records. 3, 4.
 #[unsafe(no_mangle)]
 pub extern "C" fn pokerbox_list(area: &[u8], out: &mut [u8]) -> u64
     ensures { (result, out.new) ≡ gives (read_of (λ q. counted entry_bytes q.recs) area.now out.old) }
@@ -293,7 +294,7 @@ pub extern "C" fn pokerbox_list(area: &[u8], out: &mut [u8]) -> u64
     pokerbox::pokerbox_list(area, out)
 }
 
-// The Mined records with their places. 3, 4.
+/// The Mined records with their places. 3, 4.
 #[unsafe(no_mangle)]
 pub extern "C" fn pokerbox_confirmations(area: &[u8], out: &mut [u8]) -> u64
     ensures { (result, out.new) ≡ gives (read_of (λ q. counted placed_bytes (confirmations q)) area.now out.old) }
@@ -301,7 +302,7 @@ pub extern "C" fn pokerbox_confirmations(area: &[u8], out: &mut [u8]) -> u64
     pokerbox::pokerbox_confirmations(area, out)
 }
 
-// The records that are due, with their states. 3, 4.
+/// The records that are due, with their states. 3, 4.
 #[unsafe(no_mangle)]
 pub extern "C" fn pokerbox_due(area: &[u8], time: u64, height: u32, out: &mut [u8]) -> u64
     ensures { (result, out.new) ≡ gives (read_of (λ q. counted due_bytes (due_states time height q)) area.now out.old) }
@@ -309,7 +310,7 @@ pub extern "C" fn pokerbox_due(area: &[u8], time: u64, height: u32, out: &mut [u
     pokerbox::pokerbox_due(area, time, height, out)
 }
 
-// The cursor: height, and tip if there is one. 3, 4.
+/// The cursor: height, and tip if there is one. 3, 4.
 #[unsafe(no_mangle)]
 pub extern "C" fn pokerbox_observation_cursor(area: &[u8], out: &mut [u8]) -> u64
     ensures { (result, out.new) ≡ gives (read_of cursor_bytes area.now out.old) }
@@ -317,7 +318,7 @@ pub extern "C" fn pokerbox_observation_cursor(area: &[u8], out: &mut [u8]) -> u6
     pokerbox::pokerbox_observation_cursor(area, out)
 }
 
-// The revision. 3.
+/// The revision. 3.
 #[unsafe(no_mangle)]
 pub extern "C" fn pokerbox_revision(area: &[u8], value: &mut u64) -> u64
     ensures { (result, value.new) ≡ gives (number_of (λ q. q.revision) area.now value.old) }
@@ -325,7 +326,7 @@ pub extern "C" fn pokerbox_revision(area: &[u8], value: &mut u64) -> u64
     pokerbox::pokerbox_revision(area, value)
 }
 
-// The cursor height. 3.
+/// The cursor height. 3.
 #[unsafe(no_mangle)]
 pub extern "C" fn pokerbox_observed_height(area: &[u8], value: &mut u64) -> u64
     ensures { (result, value.new) ≡ gives (number_of (λ q. q.cursor) area.now value.old) }
@@ -333,7 +334,7 @@ pub extern "C" fn pokerbox_observed_height(area: &[u8], value: &mut u64) -> u64
     pokerbox::pokerbox_observed_height(area, value)
 }
 
-// 1 without records, else 0. 3.
+/// 1 without records, else 0. 3.
 #[unsafe(no_mangle)]
 pub extern "C" fn pokerbox_is_empty(area: &[u8], value: &mut u64) -> u64
     ensures { (result, value.new) ≡ gives (number_of (λ q. one (is_empty? q.recs)) area.now value.old) }
@@ -341,7 +342,7 @@ pub extern "C" fn pokerbox_is_empty(area: &[u8], value: &mut u64) -> u64
     pokerbox::pokerbox_is_empty(area, value)
 }
 
-// 1 if a deadline is due, else 0. 3.
+/// 1 if a deadline is due, else 0. 3.
 #[unsafe(no_mangle)]
 pub extern "C" fn pokerbox_deadline_due(area: &[u8], time: u64, height: u32, value: &mut u64) -> u64
     ensures { (result, value.new) ≡ gives (number_of (λ q. one (deadline_due? time height q)) area.now value.old) }
@@ -349,7 +350,7 @@ pub extern "C" fn pokerbox_deadline_due(area: &[u8], time: u64, height: u32, val
     pokerbox::pokerbox_deadline_due(area, time, height, value)
 }
 
-// Where the signed bytes of an id stand in the area. 3, 5, 13.
+/// Where the signed bytes of an id stand in the area. 3, 5, 13.
 #[unsafe(no_mangle)]
 pub extern "C" fn pokerbox_signed_bytes(
     area: &[u8],

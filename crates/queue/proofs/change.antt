@@ -1,4 +1,6 @@
 -- The changing calls: what refuses, what becomes of each record, the next area.
+pub mod VerdictLaws
+pub mod IdLaws
 pub mod WriteNextLaws
 pub mod ClashLaws
 pub mod FinishLaws

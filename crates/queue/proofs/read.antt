@@ -1,7 +1,7 @@
 -- The reading calls.
 pub mod ReadingLaws
 pub mod SelectLaws
-pub mod SelectMergeLaws
+pub mod RankedLaws
 pub mod PiecesLaws
 pub mod FindLaws
 pub mod ReservedLaws

@@ -5,7 +5,7 @@ use Rattle.std.proofs.Math.Option.{Option, none, some}
 use Rattle.std.proofs.lemmas.List.{length-replicate}
 use Rattle.queue.specs.Codec.{Got, fail, got, cases, cond_cases, encs}
 use Rattle.queue.specs.Lists.{and_true}
-use Rattle.queue.specs.bytes.ReaderAs.{Reads}
+use Rattle.queue.specs.bytes.ReaderAs.{Fails, Found}
 use Rattle.queue.specs.bytes.ReaderLaws.{false_true, drop_none}
 use Rattle.queue.specs.Hex.{text_of, text_pairs}
 use Rattle.queue.specs.bytes.ViewAs.{pairs, view}
@@ -194,28 +194,29 @@ reads_shows t q e = cond_cases (kind? (kind_of t)) (image_got ((store_in (text_f
         (λ h e''. let z : ◌≡◌ {A = ℕ} 0 1 = cc in absurd (omega arith))
 
 -- ---- what a reader of the frames finds
-pub area_found : {s : Bytes} {next : ℕ} {ok : Bool} {W : Queue → Type 0} → Reads queue_c s 0 ok next W → ok ≡ true
-    → (q : Queue) × W q × (read_area s ≡ cond (sound? q && (leb (need q.limits) (length s) && (leb next (need q.limits) && zero? (take (need q.limits - next) (drop next s))))) (some q) none)
-unfolding read_area
-area_found {s} {next} x t =
-    let u = x.good (omega arith) t in
-    let l = length-drop next s in
-    let o = u.3 in
-    let e : length s - length (drop next s) ≡ next = omega arith in
-    (u.0, u.4, rw (u.1, e))
+module _ {s : Bytes} where
+  pub area_found : {next : ℕ} {W : Queue → Type 0} → Found queue_c s 0 next W
+      → (q : Queue) × W q × (read_area s ≡ cond (sound? q && (leb (need q.limits) (length s) && (leb next (need q.limits) && zero? (take (need q.limits - next) (drop next s))))) (some q) none)
+  unfolding read_area
+  area_found {next} x =
+      let l = length-drop next s in
+      let o = x.within in
+      let e : length s - length (drop next s) ≡ next = omega arith in
+      (x.value, x.fact, rw (x.is, e) refl)
 
-pub area_none : {s : Bytes} {next : ℕ} {ok : Bool} {W : Queue → Type 0} → Reads queue_c s 0 ok next W → ok ≡ false → read_area s ≡ none
-unfolding read_area
-area_none x t = rw (x.bad (omega arith) t)
+  pub area_none : Fails queue_c s 0 → read_area s ≡ none
+  unfolding read_area
+  area_none x = rw (x.is (omega arith)) refl
 
-pub image_found : {s : Bytes} {next : ℕ} {ok : Bool} {W : Store → Type 0} (k : ℕ) → k ≡ kind_of s → kind? k ≡ true → Reads (store_in (text_form k)) s 0 ok next W → ok ≡ true
-    → (st : Store) × W st × (read_image s ≡ cond (eqb next (length s) && sound? (queue_with st.cursor st)) (some (queue_with st.cursor st)) none)
-unfolding read_image
-image_found {s} {next} k e g x t = let u = x.good (omega arith) t in (u.0, u.4, rw (← e, g, u.1) (at_end u.0 s next u.3))
+  module _ (k : ℕ) (e : k ≡ kind_of s) (g : kind? k ≡ true) where
+    pub image_found : {next : ℕ} {W : Store → Type 0} → Found (store_in (text_form k)) s 0 next W
+        → (st : Store) × W st × (read_image s ≡ cond (eqb next (length s) && sound? (queue_with st.cursor st)) (some (queue_with st.cursor st)) none)
+    unfolding read_image
+    image_found {next} x = (x.value, x.fact, rw (← e, g, x.is) (at_end x.value s next x.within))
 
-pub image_none : {s : Bytes} {next : ℕ} {ok : Bool} {W : Store → Type 0} (k : ℕ) → k ≡ kind_of s → kind? k ≡ true → Reads (store_in (text_form k)) s 0 ok next W → ok ≡ false → read_image s ≡ none
-unfolding read_image
-image_none k e g x t = rw (← e, g, x.bad (omega arith) t)
+    pub image_none : Fails (store_in (text_form k)) s 0 → read_image s ≡ none
+    unfolding read_image
+    image_none x = rw (← e, g, x.is (omega arith)) refl
 
 pub image_unknown : (s : Bytes) (k : ℕ) → k ≡ kind_of s → kind? k ≡ false → read_image s ≡ none
 unfolding read_image

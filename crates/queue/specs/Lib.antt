@@ -5,6 +5,7 @@ pub mod Lists
 pub mod Hex
 pub mod Areas
 pub mod Checked
+pub mod Refusal
 pub mod bytes
 pub mod layout
 pub mod check

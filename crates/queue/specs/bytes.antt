@@ -6,3 +6,4 @@ pub mod ReaderLaws
 pub mod ViewAs
 pub mod OrderLaws
 pub mod ListLaws
+pub mod OrderAs

@@ -1,4 +1,5 @@
 -- The changing calls: what refuses, what becomes of each record, the next area.
+pub mod VerdictAs
 pub mod PlanAs
 pub mod FinishAs
 pub mod WriteAs

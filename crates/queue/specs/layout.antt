@@ -4,6 +4,7 @@ pub mod FrameCodec
 pub mod FormsCodec
 pub mod RecordsAs
 pub mod FrameAs
-pub mod NearAs
 pub mod LimitsAs
 pub mod HeadAs
+pub mod ReasonAs
+pub mod StateAs

@@ -7,6 +7,7 @@ pub mod Area
 pub mod Changing
 pub mod Decisions
 pub mod Reading
+pub mod Answer
 pub mod Calls
 pub mod Fees
 pub mod Parents

@@ -9,17 +9,10 @@ pub mod read;
 pub mod refusal;
 
 // What a changing call leaves to do: nothing, a queue in memory only, a whole write, a write of the cursor.
-#[derive(Clone, Copy)]
+#[derive(Clone, Copy, PartialEq, Eq, Debug)]
 pub enum Kind {
     Nothing,
     Memory,
     Whole,
     Cursor,
-}
-
-// What a call answers: a refusal's number, or done with its kind.
-#[derive(Clone, Copy)]
-pub enum Answer {
-    Refused(u64),
-    Done(Kind),
 }

@@ -1,42 +1,72 @@
-// The numbers of refusals, as the C header has them.
-pub const LIMIT_OUT_OF_RANGE: u64 = 1;
+// Why a call is refused.
+ghost use Rattle.std.specs.Prelude.{◌≡◌};
+ghost use Rattle.queue.specs.Refusal.{refusal_number};
 
-pub const AREA_TOO_SHORT: u64 = 2;
+use std::error::Error;
+use std::fmt;
 
-pub const AREA_NOT_SOUND: u64 = 3;
+/// The refusals of the changing and the reading calls, in the order of their numbers. The C header has the same numbers.
+#[derive(Clone, Copy, PartialEq, Eq, Debug)]
+pub enum Refusal {
+    LimitOutOfRange = 1,
+    AreaTooShort = 2,
+    AreaNotSound = 3,
+    OutputTooShort = 4,
+    Malformed = 5,
+    TooManyInputs = 6,
+    TimeDeadlineElapsed = 7,
+    HeightDeadlineElapsed = 8,
+    LabelTooLong = 9,
+    QueueFull = 10,
+    ByteBudgetExhausted = 11,
+    InputReserved = 12,
+    NotFound = 13,
+    AlreadyMined = 14,
+    CounterExhausted = 15,
+    NotAnImage = 16,
+    WriteFailed = 17,
+    ShareExhausted = 18,
+    ReadAndSpent = 20,
+    FeesTooLarge = 21,
+    NotConvertible = 22,
+}
 
-pub const OUTPUT_TOO_SHORT: u64 = 4;
+impl Refusal {
+    /// The number that the C header gives the refusal.
+    pub fn number(self) -> u64
+        ensures { result ≡ refusal_number self }
+    {
+        self as u64
+    }
+}
 
-pub const MALFORMED: u64 = 5;
+impl fmt::Display for Refusal {
+    fn fmt<W: fmt::Write>(&self, f: &mut fmt::Formatter<W>) -> fmt::Result {
+        f.write_str(match self {
+            Refusal::LimitOutOfRange => "a limit is out of range",
+            Refusal::AreaTooShort => "the area to write is too short",
+            Refusal::AreaNotSound => "the area does not hold a sound queue",
+            Refusal::OutputTooShort => "the output is shorter than the answer",
+            Refusal::Malformed => "an argument is malformed",
+            Refusal::TooManyInputs => "too many inputs, outputs or read ids",
+            Refusal::TimeDeadlineElapsed => "the time deadline has elapsed",
+            Refusal::HeightDeadlineElapsed => "the height deadline has elapsed",
+            Refusal::LabelTooLong => "the label is too long",
+            Refusal::QueueFull => "the queue is full",
+            Refusal::ByteBudgetExhausted => "the byte budget is exhausted",
+            Refusal::InputReserved => "an input is reserved by another record",
+            Refusal::NotFound => "no record has the id",
+            Refusal::AlreadyMined => "the record is mined already",
+            Refusal::CounterExhausted => "the counter is exhausted",
+            Refusal::NotAnImage => "the bytes are not an image",
+            Refusal::WriteFailed => "the write failed",
+            Refusal::ShareExhausted => "the caller's share is exhausted",
+            Refusal::ReadAndSpent =>
+                "a read id is spent by another record, or an input is read by one",
+            Refusal::FeesTooLarge => "the fees are too large to add up",
+            Refusal::NotConvertible => "the queue cannot be said in kind 01",
+        })
+    }
+}
 
-pub const TOO_MANY_INPUTS: u64 = 6;
-
-pub const TIME_DEADLINE_ELAPSED: u64 = 7;
-
-pub const HEIGHT_DEADLINE_ELAPSED: u64 = 8;
-
-pub const LABEL_TOO_LONG: u64 = 9;
-
-pub const QUEUE_FULL: u64 = 10;
-
-pub const BYTE_BUDGET_EXHAUSTED: u64 = 11;
-
-pub const INPUT_RESERVED: u64 = 12;
-
-pub const NOT_FOUND: u64 = 13;
-
-pub const ALREADY_MINED: u64 = 14;
-
-pub const COUNTER_EXHAUSTED: u64 = 15;
-
-pub const NOT_AN_IMAGE: u64 = 16;
-
-pub const WRITE_FAILED: u64 = 17;
-
-pub const SHARE_EXHAUSTED: u64 = 18;
-
-pub const READ_AND_SPENT: u64 = 20;
-
-pub const FEES_TOO_LARGE: u64 = 21;
-
-pub const NOT_CONVERTIBLE: u64 = 22;
+impl Error for Refusal {}

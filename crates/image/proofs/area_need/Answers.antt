@@ -3,10 +3,10 @@ use Rattle.std.proofs.Common.{◌∙◌, sym}
 use Rattle.image.proofs.area_need.Goals as goal
 
 pub returns-then-not-check : goal.returns-then-not-check
-returns-then-not-check c = need_1 _ _ (sym (need_alone c.args.p c.args.b c.args.t c.args.k _).0 ∙ sym c.check.ensures ∙ c.if-not-check.true)
+returns-then-not-check c = λ old. need_1 _ old (sym (need_alone c.args.p c.args.b c.args.t c.args.k _).0 ∙ sym c.check.ensures ∙ c.if-not-check.true)
 
-pub need-n-requires : goal.need-n-requires
-need-n-requires c = sym c.check.ensures ∙ c.if-not-check.false
+pub need-requires : goal.need-requires
+need-requires c = sym c.check.ensures ∙ c.if-not-check.false
 
 pub returns : goal.returns
-returns c = need_100 _ _ (sym (need_alone c.args.p c.args.b c.args.t c.args.k _).0 ∙ sym c.check.ensures ∙ c.if-not-check.false) (c.need-n.ensures.0 ∙ (need_alone c.args.p c.args.b c.args.t c.args.k _).1)
+returns c = λ old. need_100 _ old (sym (need_alone c.args.p c.args.b c.args.t c.args.k _).0 ∙ sym c.check.ensures ∙ c.if-not-check.false) (c.need.ensures.0 ∙ (need_alone c.args.p c.args.b c.args.t c.args.k _).1)

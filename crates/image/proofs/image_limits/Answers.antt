@@ -1,12 +1,12 @@
+use Rattle.queue.proofs.RefusalLaws.{handed}
 use Rattle.image.proofs.ImageLaws.{limits_100, limits_16, limits_4}
-use Rattle.std.proofs.lemmas.Bool.{not-false, not-true}
 use Rattle.image.proofs.image_limits.Goals as goal
 
-pub returns-then-not-x : goal.returns-then-not-x
-returns-then-not-x c = limits_16 c.text_at-x.ensures _ _ (not-true _ c.if-not-x.true)
+pub returns-in_err-x : goal.returns-in_err-x
+returns-in_err-x c = λ old. rw (handed _ c.from_residual.ensures.1, c.in_err-x.ensures.refusal) (limits_16 _ old _ c.in_err-x.ensures.is)
 
 pub returns-then-shares-lt64 : goal.returns-then-shares-lt64
-returns-then-shares-lt64 c = limits_4 c.text_at-x.ensures _ _ (not-false _ c.if-not-x.false) c.if-shares-lt64.true
+returns-then-shares-lt64 c = λ old. limits_4 c.in_ok-x.ensures old _ c.if-shares-lt64.true
 
 pub returns : goal.returns
-returns c = limits_100 c.text_at-x.ensures _ _ (not-false _ c.if-not-x.false) c.if-shares-lt64.false c.put_shares.ensures
+returns c = λ old. limits_100 c.in_ok-x.ensures old _ c.if-shares-lt64.false c.put_shares.ensures

@@ -3,7 +3,7 @@
 use Rattle.std.specs.Prelude.{◌≡◌, cond, [], ℕ, ◌+◌, ◌≤◌, ltb, length, take}
 use Rattle.std.proofs.Math.Option.{Option, none, some}
 use Rattle.queue.specs.declared.Kind.TheVariants.{Nothing}
-use Rattle.queue.specs.declared.Answer.TheVariants.{Done}
+use Rattle.queue.specs.paper.Answer.{Done}
 use Rattle.queue.specs.Areas.{read_image}
 use Rattle.queue.specs.paper.Base as base
 use Rattle.queue.specs.paper.Records.{Bytes, Limits, Terms, Held, Rec, Queue}

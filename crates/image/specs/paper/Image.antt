@@ -2,8 +2,7 @@
 use Rattle.std.specs.Prelude.{cond, ℕ, ltb, eqb, length}
 use Rattle.std.proofs.Math.Option.{Option, none}
 use Rattle.queue.specs.declared.Kind.TheVariants.{Nothing}
-use Rattle.queue.specs.declared.Answer.{Answer}
-use Rattle.queue.specs.declared.Answer.TheVariants.{Refused, Done}
+use Rattle.queue.specs.paper.Answer.{Answer, Refused, Done}
 use Rattle.queue.specs.Areas.{read_area, kind_of, read_image}
 use Rattle.queue.specs.paper.Records.{Bytes, Limits, Queue}
 use Rattle.queue.specs.paper.Lists.{maybe}

@@ -3,4 +3,4 @@ use Rattle.std.proofs.Common.{ap}
 use Rattle.pokerbox.proofs.pokerbox_fresh.Goals as goal
 
 pub returns : goal.returns
-returns c = rw c.number.ensures (ap gives c.fresh.ensures)
+returns c = rw c.answered.ensures (ap gives c.fresh.ensures)

@@ -1,6 +1,6 @@
 use Rattle.queue.specs.paper.Calls.{gives}
-use Rattle.std.proofs.Common.{ap}
+use Rattle.std.proofs.Common.{◌∙◌, ap}
 use Rattle.pokerbox.proofs.pokerbox_revision.Goals as goal
 
 pub returns : goal.returns
-returns c = rw c.number.ensures (ap gives c.revision.ensures)
+returns c = c.answered_number.ensures ∙ ap gives (c.revision.ensures _)

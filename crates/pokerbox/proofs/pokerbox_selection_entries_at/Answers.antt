@@ -3,4 +3,4 @@ use Rattle.std.proofs.Common.{ap}
 use Rattle.pokerbox.proofs.pokerbox_selection_entries_at.Goals as goal
 
 pub returns : goal.returns
-returns c = rw c.number.ensures (ap gives c.selection_at.ensures)
+returns c = rw c.answered.ensures (ap gives c.selection_at.ensures)

@@ -1,8 +1,9 @@
-use Rattle.pokerbox.proofs.ExportLaws.{place_done, place_refused}
+use Rattle.queue.specs.paper.Calls.{gives}
+use Rattle.std.proofs.Common.{ap}
 use Rattle.pokerbox.proofs.pokerbox_signed_bytes.Goals as goal
 
-pub returns-in-Refused : goal.returns-in-Refused
-returns-in-Refused c = place_refused c.signed_place-p.ensures _ _ c.in-Refused.is
+pub returns-in-Ok : goal.returns-in-Ok
+returns-in-Ok c = rw c.answered.ensures (ap gives (c.in-Ok.ensures.is _))
 
-pub returns-in-Done : goal.returns-in-Done
-returns-in-Done c = place_done c.signed_place-p.ensures _ _ c.in-Done.is c.kind_number.ensures.0
+pub returns-in-Err : goal.returns-in-Err
+returns-in-Err c = rw c.number.ensures (ap gives (c.in-Err.ensures _))

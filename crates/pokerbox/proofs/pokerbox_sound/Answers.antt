@@ -3,4 +3,4 @@ use Rattle.std.proofs.Common.{ap}
 use Rattle.pokerbox.proofs.pokerbox_sound.Goals as goal
 
 pub returns : goal.returns
-returns c = rw c.number.ensures (ap number c.sound.ensures)
+returns c = rw c.answered.ensures (ap number c.sound.ensures)

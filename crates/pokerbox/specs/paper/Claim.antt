@@ -2,8 +2,7 @@
 use Rattle.std.specs.Prelude.{◌≡◌, Bool, true, false, cond, ◌&&◌, List, [], ◌∷◌, ◌++◌, ℕ, ◌+◌, ◌*◌, ◌≤◌, ◌<◌, eqb, length}
 use Rattle.std.proofs.Math.Option.{Option, none, some}
 use Rattle.queue.specs.declared.Kind.TheVariants.{Nothing}
-use Rattle.queue.specs.declared.Answer.{Answer}
-use Rattle.queue.specs.declared.Answer.TheVariants.{Refused, Done}
+use Rattle.queue.specs.paper.Answer.{Answer, Refused, Done}
 use Rattle.queue.specs.Codec.{All}
 use Rattle.queue.specs.Lists.{Sub}
 use Rattle.queue.specs.Areas.{read_image}

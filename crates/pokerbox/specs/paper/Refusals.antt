@@ -1,8 +1,7 @@
 -- Demand 1, and document 01's "Numbers a call may give back": each call's refusals in the order of its checks, each beside what
 -- it is "given if and only if". The first that holds is given; where none holds, the call is answered.
 use Rattle.std.specs.Prelude.{◌≡◌, Bool, true, false, cond, not, ◌&&◌, ◌||◌, List, [], ◌∷◌, ℕ, ◌+◌, ltb, leb, eqb, length}
-use Rattle.queue.specs.declared.Answer.{Answer}
-use Rattle.queue.specs.declared.Answer.TheVariants.{Refused, Done}
+use Rattle.queue.specs.paper.Answer.{Answer, Refused, Done}
 use Rattle.queue.specs.Areas.{read_area, read_image}
 use Rattle.queue.specs.paper.Records.{Bytes, Id, Limits, Rec, Queue}
 use Rattle.queue.specs.paper.Lists.{is_some, maybe, any?, total, count, find}

@@ -1,11 +1,12 @@
 -- The laws of `splice` and of `Put`. None has a side condition but `splice_is`. Assumes nothing.
-use Rattle.std.specs.Prelude.{◌≡◌, refl, List, [], ◌∷◌, ◌++◌, ℕ, zero, suc, ◌+◌, ◌-◌, ◌≤◌, ◌<◌, ◌/◌, ◌%◌, length, set, take, drop, get_or, replicate}
-use Rattle.std.proofs.Common.{sym, ap, ◌∙◌, arith, add-zero, suc-add, add-suc, zero-add, add-one, length-set, length-append, length-drop, take-suc, get_or-drop, drop-set-lt}
-use Rattle.std.proofs.lemmas.List.{replicate-append-replicate, set_comm, take-set-le, set-append_left}
+use Rattle.std.specs.Prelude.{◌≡◌, refl, List, [], ◌∷◌, ◌++◌, ℕ, zero, suc, ◌+◌, ◌-◌, ◌≤◌, ◌<◌, ◌/◌, ◌%◌, length, set, take, drop, get_or}
+use Rattle.std.proofs.Common.{append_assoc, sym, ap, ◌∙◌, arith, add-zero, suc-add, add-suc, zero-add, add-one, length-set, length-append, length-drop, length-take, take-suc, get_or-drop, drop-set-lt}
+use Rattle.std.proofs.lemmas.List.{drop-drop, set_comm, take-set-le, set-append_left}
 use Rattle.std.proofs.lemmas.List.Edits.{sets, sets-eq}
 use Rattle.queue.specs.Basics.{set_behind}
 use Rattle.queue.specs.bytes.PutAs.{splice, be_last, Put}
 use Rattle.queue.specs.paper.Area.{over}
+use borrow.Rule.Slice.PartMut.{put_mid}
 
 -- the length is kept
 pub length_splice : (d : List ℕ) (at : ℕ) (bs : List ℕ) → length (splice d at bs) ≡ length d
@@ -49,6 +50,22 @@ pub stored : (d : List ℕ) (at b : ℕ) → Put d at (b ∷ []) 1 (at + 1) (set
 unfolding splice
 stored d at b = record { next = refl; size = refl; is = refl }
 
+pub length_take_le : (n : ℕ) (l : List ℕ) → n ≤ length l → length (take n l) ≡ n
+length_take_le n l h = simp length-take (omega arith)
+
+-- a part of a slice written over
+pub pasted : (d : List ℕ) (at e : ℕ) {n : ℕ} (bs : List ℕ) → at + n ≡ e → e ≤ length d → length bs ≡ n → Put d at bs n e (put_mid at (e - at) d bs)
+pasted d at e {n} bs p h q =
+    let z : at + (e - at) ≡ at + length bs = omega arith in
+    record {
+      next = sym p;
+      size = q;
+      is =
+          ap (λ (t : List ℕ). take at d ++ (bs ++ t)) (drop-drop (e - at) at d ∙ ap (λ (k : ℕ). drop k d) z)
+          ∙ sym (append_assoc (take at d) bs (drop (at + length bs) d))
+          ∙ sym (splice_is d at bs (omega arith));
+    }
+
 -- one after the other
 pub then : {d d' d'' : List ℕ} {at p r m n : ℕ} {a b : List ℕ} → Put d at a m p d' → Put d' p b n r d'' → Put d at (a ++ b) (m + n) r d''
 then {d} {d'} {d''} {at} {p} {r} {m} {n} {a} {b} x y =
@@ -84,13 +101,6 @@ copy_turn s {d} {d'} {at} {r} {j} p h = recast (snoc (get_or s j 0) p) (sym (tak
 
 pub copy_from_turn : (src : List ℕ) (from : ℕ) {d d' : List ℕ} {at r j : ℕ} → Put d at (take j (drop from src)) j r d' → from + j < length src → Put d at (take (j + 1) (drop from src)) (j + 1) (r + 1) (set d' r (get_or src (from + j) 0))
 copy_from_turn src from {d} {d'} {at} {r} {j} p h = rw (← get_or-drop) (copy_turn (drop from src) p (simp length-drop (omega arith)))
-
-replicate_snoc : (n v : ℕ) → replicate n v ++ (v ∷ []) ≡ replicate (n + 1) v
-replicate_snoc n v = replicate-append-replicate n 1 v
-
--- a turn of a loop that fills with v
-pub fill_turn : (v : ℕ) {d d' : List ℕ} {at r n : ℕ} → Put d at (replicate n v) n r d' → Put d at (replicate (n + 1) v) (n + 1) (r + 1) (set d' r v)
-fill_turn v {d} {d'} {at} {r} {n} p = recast (snoc v p) (replicate_snoc n v) refl refl
 
 -- a turn of a loop that writes digits, the last first
 be_suc : (d : List ℕ) (at k v : ℕ) → splice (set d (at + k) (v % 256)) at (be_last k (v / 256)) ≡ splice d at (be_last (suc k) v)

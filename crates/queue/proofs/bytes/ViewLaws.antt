@@ -8,7 +8,6 @@ use Rattle.queue.specs.Codec.{cases}
 use Rattle.queue.specs.bytes.Parts.{part}
 use Rattle.queue.specs.paper.Ids.{cmp_l, same?}
 use Rattle.queue.specs.bytes.ReaderLaws.{be_at, SmallAt}
-use Rattle.queue.specs.bytes.ViewAs.{view, view_small}
 
 -- ---- numbers
 pub one_more : (n : ℕ) (v : List ℕ) (at : ℕ) → be_at (n + 1) v at ≡ be_at n v at * 256 + get_or v (at + n) 0
@@ -46,9 +45,6 @@ unfolding part
 copy_step s r at i b h l q e =
     let l' : i < length (drop at s) = simp length-drop (omega arith) in
     rw add-one (cc (take-suc-set r i b h, take-suc (drop at s) i 0 l', get_or-drop at s i 0))
-
-pub copy_done : (s r : List ℕ) (at i n : ℕ) → length r ≡ n → i ≡ n → take i r ≡ part i s at → r ≡ part n s at
-copy_done s r at i n l q e = let t : take i r ≡ r = take_all i r (omega arith) in cc
 
 part_cons : (n : ℕ) (v : List ℕ) (at : ℕ) → at < length v → part (suc n) v at ≡ get_or v at 0 ∷ part n v (suc at)
 unfolding part
@@ -122,31 +118,24 @@ in_words v w sv sw a b i n lv lw (suc j) h =
           rw k (q.same e ∙ cmp_same v w a b (i + j) n h₁ lv₁ lw₁ refl refl (omega (arith, f)) (omega (arith, f)));
     }
 
--- the same for the word k of two ids that stand in the bytes s and t
-module _ (s t : List ℕ) (base base₂ a b k : ℕ) {x y : ℕ} (ss : (j : ℕ) → j < length s → get_or s j 0 < 256) (st : (j : ℕ) → j < length t → get_or t j 0 < 256) (h : k < 4) (lv : a + 32 ≤ length (view false s base)) (lw : b + 32 ≤ length (view false t base₂)) (p : x ≡ be_at 8 (view false s base) (a + 8 * k)) (q : y ≡ be_at 8 (view false t base₂) (b + 8 * k)) where
-  words : InWords (view false s base) (view false t base₂) a b (8 * k) 32 8
-  words = in_words _ _ (view_small false s base ss) (view_small false t base₂ st) a b (8 * k) 32 lv lw 8 (omega arith)
+-- the same for the word k of two ids that stand in v and w
+module _ (v w : List ℕ) (a b k : ℕ) {x y : ℕ} (sv : SmallAt v) (sw : SmallAt w) (h : k < 4) (lv : a + 32 ≤ length v) (lw : b + 32 ≤ length w) (p : x ≡ be_at 8 v (a + 8 * k)) (q : y ≡ be_at 8 w (b + 8 * k)) where
+  words : InWords v w a b (8 * k) 32 8
+  words = in_words v w sv sw a b (8 * k) 32 lv lw 8 (omega arith)
 
-  pub words_less : x < y → cmp_l (part (32 - 8 * k) (view false s base) (a + 8 * k)) (part (32 - 8 * k) (view false t base₂) (b + 8 * k)) ≡ 0
+  pub words_less : x < y → cmp_l (part (32 - 8 * k) v (a + 8 * k)) (part (32 - 8 * k) w (b + 8 * k)) ≡ 0
   words_less e = words.less (omega arith)
 
-  pub words_more : y < x → cmp_l (part (32 - 8 * k) (view false s base) (a + 8 * k)) (part (32 - 8 * k) (view false t base₂) (b + 8 * k)) ≡ 2
+  pub words_more : y < x → cmp_l (part (32 - 8 * k) v (a + 8 * k)) (part (32 - 8 * k) w (b + 8 * k)) ≡ 2
   words_more e = words.more (omega arith)
 
-  pub words_same : x ≤ y → y ≤ x → cmp_l (part (32 - 8 * k) (view false s base) (a + 8 * k)) (part (32 - 8 * k) (view false t base₂) (b + 8 * k)) ≡ cmp_l (part (32 - 8 * (k + 1)) (view false s base) (a + 8 * (k + 1))) (part (32 - 8 * (k + 1)) (view false t base₂) (b + 8 * (k + 1)))
+  pub words_same : x ≤ y → y ≤ x → cmp_l (part (32 - 8 * k) v (a + 8 * k)) (part (32 - 8 * k) w (b + 8 * k)) ≡ cmp_l (part (32 - 8 * (k + 1)) v (a + 8 * (k + 1))) (part (32 - 8 * (k + 1)) w (b + 8 * (k + 1)))
   words_same d u = let e : 8 * (k + 1) ≡ 8 * k + 8 = omega arith in rw e (words.same (omega arith))
 
 -- an id by value
-pub id_fits : (x : List ℕ) → length x ≡ 32 → 0 + 32 ≤ length (view false x 0)
-unfolding view
-id_fits x h = omega arith
-
-pub id_whole : (x : List ℕ) → length x ≡ 32 → part 32 (view false x 0) 0 ≡ x
-unfolding part view
+pub id_whole : (x : List ℕ) → length x ≡ 32 → part 32 x 0 ≡ x
+unfolding part
 id_whole x h = take_all 32 x (omega arith)
-
-pub raw_fits : {hex : Bool} → hex ≡ false → (s : List ℕ) (base : ℕ) {n : ℕ} → n ≤ length (view hex s base) → n ≤ length (view false s base)
-raw_fits e s base h = rw (← e) h
 
 -- ---- the same bytes, looked at without a way out
 same_cons : (x y : ℕ) (xs ys : List ℕ) → same? (x ∷ xs) (y ∷ ys) ≡ (eqb x y && same? xs ys)
@@ -171,7 +160,3 @@ same_turn a b i ok h k e =
 pub same_over : (a b : List ℕ) (i : ℕ) (ok : Bool) → length a ≤ i → length b ≤ i → (ok && same? (drop i a) (drop i b)) ≡ ok
 unfolding cmp_l
 same_over a b i ok h k = rw (drop_of_length-le a h, drop_of_length-le b k) (and_one ok)
-
-pub view_long : (s : List ℕ) → length (view false s 0) ≡ length s
-unfolding view
-view_long s = refl

@@ -1,4 +1,6 @@
+use Rattle.queue.specs.check.RulesAs.{height_due, time_due}
 -- Admission, exit by exit. Assumes nothing.
+use Rattle.std.specs.Prelude as code
 use Rattle.std.specs.Prelude.{◌≡◌, refl, Bool, true, false, cond, ◌&&◌, ◌||◌, List, [], ◌∷◌, ℕ, ◌+◌, ◌/◌, ◌%◌, ◌^◌, ◌≤◌, ◌<◌, ltb, leb, eqb, length}
 use Rattle.std.proofs.Common.{ap, sym, ◌∙◌, arith, lt-ltb, le-ltb, ltb-false, leb-true, eq-eqb, ne_eqb, eqb-true}
 use Rattle.std.proofs.Math.Option.{Option, none, some}
@@ -22,32 +24,34 @@ use Rattle.queue.specs.theorems.SoundParts.{Fit, fit_sound, fit_ok}
 use Rattle.queue.specs.theorems.CallsKeeps.{leaves_kept}
 use Rattle.queue.specs.theorems.AdmitKeeps.{Admissible, new_leaves}
 use Rattle.queue.specs.theorems.Arguments.{Small, AdmitLent, admission_ok}
-use Rattle.queue.specs.check.AreaAs.{AreaIs, AreaIn}
-use Rattle.queue.specs.layout.HeadAs.{tip_of}
+use Rattle.queue.specs.check.AreaAs.{AreaIn}
+use Rattle.queue.specs.layout.HeadAs.{tip_in}
 use Rattle.queue.specs.change.WriteAs.{TipIs}
 use Rattle.queue.specs.read.ReadingAs.{Here, EntryIn, entry_at, entry_len_value}
 use Rattle.queue.specs.read.FindAs.{SpotIn}
 use Rattle.queue.specs.change.ReopenAs.{IdsIn, ids_at}
 use Rattle.queue.specs.check.ScanAs.{unread?}
 use Rattle.queue.specs.change.ClashAs.{clashes}
-use Rattle.queue.specs.change.AdmitAs.{args_of, new_of, TermsFit, HeldFit, with_r, WithFrom, WithTo, room_of, RoomIs, free_of, FreeIs, entry_new_len_value, NumbersFit, asked_of, AskedIs, AskedIn, LentIds, ReadIs, CrossIs, TipFor, KnownAt, OldTold, NewTold, FoundTold, ListsAre, FlagsRight}
+use Rattle.queue.specs.change.AdmitAs.{flag_of, time_of, height_of, given_as, raw, asked_as, args_of, new_of, TermsFit, HeldFit, with_r, WithFrom, WithTo, room_of, RoomIs, free_of, FreeIs, entry_new_len_value, NumbersFit, asked_of, AskedIs, AskedIn, LentIds, ReadIs, CrossIs, TipFor, KnownAt, OldTold, NewTold, FoundTold, ListsAre, FlagsRight}
 use Rattle.queue.specs.paper.Records.{Bytes, Id, Rec, Queue}
-use Rattle.queue.specs.paper.Lists.{find, is_empty?, all?}
+use Rattle.queue.specs.paper.Lists.{find, is_empty?, all?, maybe}
 use Rattle.queue.specs.paper.Sound.{need, pending?, mined?, label_len, used?, clash?, read?, crossed?, caller_right?}
 use Rattle.queue.specs.paper.Area.{area_bytes, over}
 use Rattle.queue.specs.paper.Changing.{Out, refused, done, named?, reached?, Admission, new_rec, committed, pendings, pending_bytes, pendings_of, share_of, admit_new, admit}
 use Rattle.queue.specs.Checked.{Outcome, outcome, told, admit_shape?, admit_of}
 use Rattle.queue.specs.paper.Calls.{id?, whole?, items, flag?, given, given_id?, AdmitArgs, admission, over_k?, entry_bytes}
 use Rattle.queue.specs.declared.Kind.TheVariants.{Nothing, Whole}
-use Rattle.queue.specs.declared.Answer.{Answer}
-use Rattle.queue.specs.declared.Answer.TheVariants.{Refused, Done}
-use Rattle.queue.specs.declared.change.admit.Asked.{Asked}
+use Rattle.queue.specs.paper.Answer.{Answer, Refused, Done}
+use Rattle.queue.specs.declared.change.admit.Offered.{Offered}
 use Rattle.queue.specs.declared.change.admit.Tip.{Tip}
-use Rattle.queue.specs.declared.layout.frame.HeadR.{HeadR}
+use Rattle.queue.specs.declared.change.admit.Asked.{Asked}
+use Rattle.queue.specs.declared.layout.frame.Time.{Time}
+use Rattle.queue.specs.declared.layout.frame.Height.{Height}
+use Rattle.queue.specs.declared.layout.frame.Head as code_head
 use Rattle.queue.specs.declared.layout.frame.Seen.{Seen}
 use Rattle.queue.specs.declared.check.area.Area.{Area}
-use Rattle.queue.specs.declared.read.find.Spot.{Spot}
-use Rattle.queue.proofs.layout.TurnLaws.{ReadsRec}
+use Rattle.queue.specs.read.FindAs.{SpotNumbers}
+use Rattle.queue.proofs.layout.TurnLaws.{FoundRec}
 use Rattle.queue.proofs.bytes.PutLaws.{over_splice}
 use Rattle.queue.proofs.change.WriteLaws.{one_queue}
 use Rattle.queue.proofs.read.ReadingLaws.{key, met, entry_in_law, entry_is, entry_size}
@@ -57,13 +61,13 @@ use Rattle.queue.proofs.read.FindLaws.{spot_none}
 use Rattle.queue.proofs.change.AdmitLaws.{entry_long}
 
 -- ---- the cursor of the next queue
-pub tip_own : (s : Bytes) (h : HeadR) (r : Id) (x : Asked) (tip : Bytes) → 0 < h.count → TipIs s h r → TipFor s h x tip (record { height = h.cursor; has = h.tip; id = r })
+pub tip_own : (s : Bytes) (h : code_head.Head) (r : code.Option Id) (x : Offered) (tip : Bytes) → 0 < h.count → TipIs s h r → TipFor s h x tip (record { height = h.cursor; id = r })
 tip_own s h r x tip k t z w o = rw (lt-ltb 0 h.count k) (sym w.cursor, t z w o)
 
-pub tip_asked : (s : Bytes) (h : HeadR) {i : Id} (x : Asked) (tip : Bytes) → h.count ≤ 0 → x.tipflag ≡ 1 → length tip ≡ 32 → i ≡ part 32 (view false tip 0) 0 → TipFor s h x tip (record { height = x.tipheight; has = true; id = i })
+pub tip_asked : (s : Bytes) (h : code_head.Head) {i : Id} (x : Offered) (tip : Bytes) → h.count ≤ 0 → x.tipflag ≡ 1 → length tip ≡ 32 → i ≡ part 32 (view false tip 0) 0 → TipFor s h x tip (record { height = x.tipheight; id = code.Some i })
 tip_asked s h {i} x tip k e l f z w o = rw (le-ltb 0 h.count k, eq-eqb x.tipflag 1 e) (refl, ap some (key l f))
 
-pub tip_none : (s : Bytes) (h : HeadR) (x : Asked) (tip : Bytes) → h.count ≤ 0 → (x.tipflag ≡ 1 → ⊥) → (z : Head) → HeadAs (view false s 4) h z → (opt_c id_c).ok z.tip
+pub tip_none : (s : Bytes) (h : code_head.Head) (x : Offered) (tip : Bytes) → h.count ≤ 0 → (x.tipflag ≡ 1 → ⊥) → (z : Head) → HeadAs (view false s 4) h z → (opt_c id_c).ok z.tip
     → (x.tipheight.0 ≡ cond (ltb 0 h.count) z.cursor x.tipheight.0) × (none ≡ cond (ltb 0 h.count) z.tip (given x.tipflag tip))
 tip_none s h x tip k e z w o = rw (le-ltb 0 h.count k, ne_eqb x.tipflag 1 e) (refl, refl)
 
@@ -176,7 +180,7 @@ module _ {s : Bytes} {a : Area} (w : AreaIn s a) {ins : Bytes} (i : LentIds ins)
     free_0 u q e = rw (← (one_queue s w.is e), rooms.0, rooms.1, rooms.2, clash_is ∙ t, cross_is ∙ u)
 
 -- ---- what is lent, and the area
-module _ {s : Bytes} {a : Area} (w : AreaIn s a) {x : Asked} {ins outs reads bytes label tip : Bytes} (i : AskedIn x x.id ins outs reads bytes label tip a.open.head.limits.k) where
+module _ {s : Bytes} {a : Area} (w : AreaIn s a) {x : Offered} {ins outs reads bytes label tip : Bytes} (i : AskedIn x x.id ins outs reads bytes label tip a.open.head.limits.k) where
   abbrev G : AdmitArgs
   G = args_of x x.id ins outs reads bytes label tip
 
@@ -280,7 +284,7 @@ module _ {s : Bytes} {a : Area} (w : AreaIn s a) {x : Asked} {ins outs reads byt
     next_fit = (leaves_kept w.q Next (admit_new (admission G) w.q) Whole R (new_leaves (admission G) w.q (fit w.read) admissible i.short) new_is).fit
 
     module _ (t : Tip) (T : TipFor s a.open.head x tip t) where
-      at_tip : (t.height.0 ≡ cursor_after (admission G) w.q w.q.recs) × (tip_of t.has t.id ≡ tip_after (admission G) w.q w.q.recs)
+      at_tip : (t.height.0 ≡ cursor_after (admission G) w.q w.q.recs) × (tip_in t.id ≡ tip_after (admission G) w.q w.q.recs)
       at_tip =
           let u = T (head_for (store_of w.q)) w.read.store.head (fit w.read).tip in
           let n : a.open.head.count ≡ length w.q.recs = sym w.read.store.count in (
@@ -288,7 +292,7 @@ module _ {s : Bytes} {a : Area} (w : AreaIn s a) {x : Asked} {ins outs reads byt
             u.1 ∙ ap (λ k. cond (ltb 0 k) w.q.tip (given x.tipflag tip)) n ∙ sym (tip_is (admission G) w.q w.q.recs),
           )
 
-      next_is : with_r t.height.0 (tip_of t.has t.id) R w.q ≡ Next
+      next_is : with_r t.height.0 (tip_in t.id) R w.q ≡ Next
       next_is = two at_tip.0 at_tip.1
         where
           two : {h h' : ℕ} {o o' : Option Id} → h ≡ h' → o ≡ o' → with_r h o R w.q ≡ with_r h' o' R w.q
@@ -302,7 +306,7 @@ module _ {s : Bytes} {a : Area} (w : AreaIn s a) {x : Asked} {ins outs reads byt
       unfolding with_r committed
       next_low = next_fit.cursor
 
-      pub with_from : WithFrom s a t.height.0 (tip_of t.has t.id) R
+      pub with_from : WithFrom s a t.height.0 (tip_in t.id) R
       with_from = record {
         q = w.q;
         is = w.is;
@@ -311,7 +315,7 @@ module _ {s : Bytes} {a : Area} (w : AreaIn s a) {x : Asked} {ins outs reads byt
         small = let u = at_tip.0 in let v = next_low in omega arith;
       }
 
-      pub new_102 : (next out : Bytes) {next' out' : Bytes} {r : ℕ} → entry_new_len_value x ins reads label ≤ length out → WithTo s t.height.0 (tip_of t.has t.id) R next next' → Put out 0 (entry_bytes R) (entry_new_len_value x ins reads label) r out'
+      pub new_102 : (next out : Bytes) {next' out' : Bytes} {r : ℕ} → entry_new_len_value x ins reads label ≤ length out → WithTo s t.height.0 (tip_in t.id) R next next' → Put out 0 (entry_bytes R) (entry_new_len_value x ins reads label) r out'
           → NewTold s G (outcome (Done Whole) next' out') next out
       new_102 next out {next'} {out'} h y p q e =
           let z : out' ≡ over (entry_bytes R) out = p.is ∙ sym (over_splice out (entry_bytes R) (omega (arith, long))) in
@@ -323,7 +327,7 @@ module _ {s : Bytes} {a : Area} (w : AreaIn s a) {x : Asked} {ins outs reads byt
     new_4 next out h q e = rw (← (one_queue s w.is e), new_is, lt-ltb (length out) (length (entry_bytes R)) (omega (arith, long)))
 
 -- ---- the old record
-module _ (s : Bytes) (at : ℕ) {ok : Bool} {y : Seen} (x : ReadsRec false s at ok y.size y) where
+module _ (s : Bytes) (at : ℕ) {y : Seen} (x : FoundRec false s at y.size y) where
   pub known_state : {b : Bool} (r : Rec) → Here s at r → b ≡ (pending? y.facts.state || eqb y.facts.state 2) → b ≡ (pending? r.state || mined? r)
   unfolding facts_of
   known_state {b} r h e = e ∙ ap (λ k. pending? k.state || eqb k.state 2) (met h x).0.facts
@@ -340,7 +344,7 @@ module _ (s : Bytes) (at : ℕ) {ok : Bool} {y : Seen} (x : ReadsRec false s at 
       rw (le-ltb (length out) (length (entry_bytes r)) (omega (arith, entry_size h.0 (met h x))), u)
 
 -- ---- from the id on
-module _ {s : Bytes} {a : Area} (w : AreaIn s a) (g : AdmitArgs) {x : Spot} (p : SpotIn s a g.id x) {b : Bool} (k : KnownAt s x b) (next out : Bytes) where
+module _ {s : Bytes} {a : Area} (w : AreaIn s a) (g : AdmitArgs) {x : SpotNumbers} (p : SpotIn s a g.id x) {b : Bool} (k : KnownAt s x b) (next out : Bytes) where
   old_found : (t : x.found ≡ true) → find (named? g.id) w.q.recs ≡ some (p.here t).0
   old_found t = ap (find (named? g.id)) (sym w.read.store.list) ∙ (p.here t).1
 
@@ -379,12 +383,12 @@ pub lists_are : (id ins outs reads : Bytes) (caller : ℕ) {a b c d : ℕ} {r t 
 lists_are id ins outs reads caller e g f h la sa lb sb lc sc ld sd =
     (e ∙ and_same (g ∙ and_same (long_is id la) refl) (f ∙ and_same (mod_is ins lb) (h ∙ and_same (mod_is outs lc) (mod_is reads ld))), (small_of id sa, small_of ins sb, small_of outs sc, small_of reads sd))
 
-pub flags_are : (x : Asked) (bytes label tip : Bytes) {c : ℕ} {r d u v : Bool} → r ≡ (d && u) → d ≡ (leb x.timeflag 1 && leb x.heightflag 1) → u ≡ (leb x.labelflag 1 && v) → v ≡ (leb x.tipflag 1 && (eqb x.tipflag 0 || eqb c 32))
+pub flags_are : (x : Offered) (bytes label tip : Bytes) {c : ℕ} {r d u v : Bool} → r ≡ (d && u) → d ≡ (leb x.timeflag 1 && leb x.heightflag 1) → u ≡ (leb x.labelflag 1 && v) → v ≡ (leb x.tipflag 1 && (eqb x.tipflag 0 || eqb c 32))
     → readlaws.SmallAt (view false bytes 0) → readlaws.SmallAt (view false label 0) → c ≡ length (view false tip 0) → readlaws.SmallAt (view false tip 0) → FlagsRight x bytes label tip r
 flags_are x bytes label tip e f g h sb sl lt st =
     (e ∙ and_same f (g ∙ and_same {a = leb x.labelflag 1} refl (h ∙ and_same {a = leb x.tipflag 1} refl (ap (λ (k : Bool). eqb x.tipflag 0 || k) (long_is tip lt)))), (small_of bytes sb, small_of label sl, small_of tip st))
 
-pub lent_of : {x : Asked} {id ins outs reads bytes label tip : Bytes} {l f : Bool} → NumbersFit x → ListsAre id x.caller ins outs reads l → FlagsRight x bytes label tip f → AdmitLent (args_of x id ins outs reads bytes label tip)
+pub lent_of : {x : Offered} {id ins outs reads bytes label tip : Bytes} {l f : Bool} → NumbersFit x → ListsAre id x.caller ins outs reads l → FlagsRight x bytes label tip f → AdmitLent (args_of x id ins outs reads bytes label tip)
 lent_of n l f = record {
   id = l.1.0;
   inputs = l.1.1;
@@ -402,7 +406,7 @@ lent_of n l f = record {
   tip = f.1.2;
 }
 
-module _ (K : ℕ) (x : Asked) (id ins outs reads bytes label tip : Bytes) (N : NumbersFit x) {l f r : Bool} (L : ListsAre id x.caller ins outs reads l) (F : FlagsRight x bytes label tip f) (e : r ≡ (l && f)) where
+module _ (K : ℕ) (x : Offered) (id ins outs reads bytes label tip : Bytes) (N : NumbersFit x) {l f r : Bool} (L : ListsAre id x.caller ins outs reads l) (F : FlagsRight x bytes label tip f) (e : r ≡ (l && f)) where
   abbrev Given : AdmitArgs
   Given = args_of x id ins outs reads bytes label tip
 
@@ -465,27 +469,26 @@ pub admit_3 : (cur next out : Bytes) (g : AdmitArgs) → read_area cur ≡ none 
 unfolding admit_of
 admit_3 cur next out g e = rw e
 
-module _ (cur next out : Bytes) {a : Area} (i : AreaIs cur a) (t : a.ok ≡ true) where
+module _ (cur next out : Bytes) {a : Area} (i : AreaIn cur a) where
   pub admit_2 : (g : AdmitArgs) → length next < a.need → outcome (Refused 2) next out ≡ admit_of cur next out g
   unfolding admit_of
-  admit_2 g h = let y = i.good t in rw (y.1, lt-ltb (length next) (need y.0.limits) (omega (arith, y.2.need)))
+  admit_2 g h = rw (i.is, lt-ltb (length next) (need i.q.limits) (omega (arith, i.read.need)))
 
-  module _ (h : a.need ≤ length next) (x : Asked) {id ins outs reads bytes label tip : Bytes} {r : ℕ} (A : AskedIs a.open.head.limits.k (args_of x id ins outs reads bytes label tip) r) where
+  module _ (h : a.need ≤ length next) (x : Offered) {id ins outs reads bytes label tip : Bytes} {r : ℕ} (A : AskedIs a.open.head.limits.k (args_of x id ins outs reads bytes label tip) r) where
     abbrev Args : AdmitArgs
     Args = args_of x id ins outs reads bytes label tip
 
-    enough : ltb (length next) (need (i.good t).0.limits) ≡ false
-    enough = le-ltb (length next) (need (i.good t).0.limits) (omega (arith, (i.good t).2.need))
+    enough : ltb (length next) (need i.q.limits) ≡ false
+    enough = le-ltb (length next) (need i.q.limits) (omega (arith, i.read.need))
 
-    same_k : (i.good t).0.limits.K ≡ a.open.head.limits.k
-    same_k = head_k_law (i.good t).2.store.head
+    same_k : i.q.limits.K ≡ a.open.head.limits.k
+    same_k = head_k_law i.read.store.head
 
     pub admit_refused : (r ≡ 0 → ⊥) → outcome (Refused r) next out ≡ admit_of cur next out Args
     unfolding admit_of admit asked_of
     admit_refused n =
-        let y = i.good t in
         let u = asked_full (admit_shape? Args) (over_k? a.open.head.limits.k Args) (reached? (given x.timeflag x.time.0) x.now.0) (reached? (given x.heightflag x.height.0) x.tipheight.0) (ltb 200 (label_len (given x.labelflag label))) r next out _ A.0 n in
-        rw (y.1, enough, same_k) u
+        rw (i.is, enough, same_k) u
 
     module _ (z : r ≡ 0) where
       passes : ((admit_shape? Args ≡ true) × (over_k? a.open.head.limits.k Args ≡ false)) × (reached? (given x.timeflag x.time.0) x.now.0 ≡ false) × (reached? (given x.heightflag x.height.0) x.tipheight.0 ≡ false) × (ltb 200 (label_len (given x.labelflag label)) ≡ false)
@@ -508,10 +511,9 @@ module _ (cur next out : Bytes) {a : Area} (i : AreaIs cur a) (t : a.ok ≡ true
       rest_at : {j : Id} {o : Outcome} → j ≡ id → FoundTold cur (args_of x j ins outs reads bytes label tip) o next out → o ≡ admit_of cur next out Args
       unfolding admit_of admit
       rest_at {j} {o} e c =
-          let y = i.good t in
           let v : FoundTold cur (args_of x id ins outs reads bytes label tip) o next out = rw e at c in
-          let w : over_k? (i.good t).0.limits.K Args ≡ false = ap (λ k. over_k? k Args) same_k ∙ passes.0.1 in
-          rw (y.1, enough, passes.0.0, w, passes.1, passes.2, passes.3) (v y.0 y.1)
+          let w : over_k? i.q.limits.K Args ≡ false = ap (λ k. over_k? k Args) same_k ∙ passes.0.1 in
+          rw (i.is, enough, passes.0.0, w, passes.1, passes.2, passes.3) (v i.q i.is)
 
       pub admit_rest : {o : Outcome} → (length id ≡ 32 → x.id ≡ id) → FoundTold cur (args_of x x.id ins outs reads bytes label tip) o next out → o ≡ admit_of cur next out Args
       admit_rest k c = rest_at (k id_whole) c
@@ -519,5 +521,70 @@ module _ (cur next out : Bytes) {a : Area} (i : AreaIs cur a) (t : a.ok ≡ true
 pub id_lent : (id : Bytes) {k : Id} → length id ≡ 32 → k ≡ part 32 (view false id 0) 0 → length id ≡ 32 → k ≡ id
 id_lent id h e _ = key h e
 
-pub none_refused : (s ins reads : Bytes) (c n : ℕ) {r : ℕ} → FreeIs s c n ins reads r → r ≡ 0 → FreeIs s c n ins reads 0
-none_refused s ins reads c n m e q f = sym e ∙ m q f
+-- ---- the numbers that count, as options
+pub time_asked : (f : ℕ) (t : Time) (n : ℕ) → time_due (given_as f t) n ≡ (eqb f 1 && leb t.0 n)
+time_asked f t n = cases (eqb f 1) (λ e. rw e refl) (λ e. rw e refl)
+
+pub height_asked : (f : ℕ) (t : Height) (n : ℕ) → height_due (given_as f t) n ≡ (eqb f 1 && leb t.0 n)
+height_asked f t n = cases (eqb f 1) (λ e. rw e refl) (λ e. rw e refl)
+
+time_same : (f : ℕ) (t : Time) → given (flag_of (given_as f t)) (time_of (given_as f t)).0 ≡ given f t.0
+time_same f t = cases (eqb f 1) (λ e. rw e refl) (λ e. rw e refl)
+
+height_same : (f : ℕ) (t : Height) → given (flag_of (given_as f t)) (height_of (given_as f t)).0 ≡ given f t.0
+height_same f t = cases (eqb f 1) (λ e. rw e refl) (λ e. rw e refl)
+
+flag_right : {A : Type 0} (f : ℕ) (a : A) → flag? (flag_of (given_as f a)) ≡ true
+flag_right f a = cases (eqb f 1) (λ e. rw e refl) (λ e. rw e refl)
+
+time_small : (f : ℕ) (t : Time) → t.0 < 256 ^ 8 → (time_of (given_as f t)).0 < 256 ^ 8
+time_small f t h = cases (eqb f 1) (λ e. rw e h) (λ e. rw e (omega arith))
+
+height_small : (f : ℕ) (t : Height) → t.0 < 256 ^ 4 → (height_of (given_as f t)).0 < 256 ^ 4
+height_small f t h = cases (eqb f 1) (λ e. rw e h) (λ e. rw e (omega arith))
+
+module _ (x : Offered) (id ins outs reads bytes label tip : Bytes) where
+  asked_then : (K : ℕ) → AskedIn x id ins outs reads bytes label tip K → AskedIn (raw (asked_as x)) id ins outs reads bytes label tip K
+  asked_then K i =
+      let u = and_true ((id? id && caller_right? x.caller) && (whole? 32 ins && (whole? 32 outs && whole? 32 reads))) ((flag? x.timeflag && flag? x.heightflag) && (flag? x.labelflag && given_id? x.tipflag tip)) i.shape in
+      let z = and_true (flag? x.timeflag && flag? x.heightflag) (flag? x.labelflag && given_id? x.tipflag tip) u.1 in
+      record {
+        lent = record {
+          id = i.lent.id;
+          inputs = i.lent.inputs;
+          outputs = i.lent.outputs;
+          reads = i.lent.reads;
+          bytes = i.lent.bytes;
+          now = i.lent.now;
+          time = time_small x.timeflag x.time i.lent.time;
+          height = height_small x.heightflag x.height i.lent.height;
+          priority = i.lent.priority;
+          label = i.lent.label;
+          fee = i.lent.fee;
+          cost = i.lent.cost;
+          tip_height = i.lent.tip_height;
+          tip = i.lent.tip;
+        };
+        shape = and_same u.0 (and_same (and_same (flag_right x.timeflag x.time) (flag_right x.heightflag x.height)) z.1);
+        few = i.few;
+        short = i.short;
+      }
+
+  admission_same : admission (args_of (raw (asked_as x)) id ins outs reads bytes label tip) ≡ admission (args_of x id ins outs reads bytes label tip)
+  admission_same = two (time_same x.timeflag x.time) (height_same x.heightflag x.height)
+    where
+      with_due : Option ℕ → Option ℕ → Admission
+      with_due d h = record { id = id; caller = x.caller; now = x.now.0; due = d; due_height = h; priority = x.priority; label = given x.labelflag label; fee = x.fee; cost = x.cost; held = record { ins = items 32 ins; outs = items 32 outs; reads = items 32 reads; bytes = bytes }; tip_height = x.tipheight.0; tip = given x.tipflag tip }
+
+      two : {d d' h h' : Option ℕ} → d ≡ d' → h ≡ h' → with_due d h ≡ with_due d' h'
+      two e f = cc
+
+  found_then : (s : Bytes) (o : Outcome) (next out : Bytes) → FoundTold s (args_of (raw (asked_as x)) id ins outs reads bytes label tip) o next out → FoundTold s (args_of x id ins outs reads bytes label tip) o next out
+  found_then s o next out h q e =
+      h q e ∙ ap (λ a. told entry_bytes next out (maybe (admit_new a q) (λ r. cond (pending? r.state || mined? r) (done Nothing q r) (admit_new a q)) (find (named? id) q.recs))) admission_same
+
+pub asked_rest : (x : Offered) {y : Asked} {ins outs reads bytes label tip : Bytes} (K : ℕ) → y ≡ asked_as x → AskedIn x x.id ins outs reads bytes label tip K → AskedIn (raw y) y.id ins outs reads bytes label tip K
+asked_rest x {y} {ins} {outs} {reads} {bytes} {label} {tip} K e i = rw e (asked_then x x.id ins outs reads bytes label tip K i)
+
+pub found_rest : (x : Offered) (ins outs reads bytes label tip s next out : Bytes) {y : Asked} {o : Outcome} → y ≡ asked_as x → FoundTold s (args_of (raw y) y.id ins outs reads bytes label tip) o next out → FoundTold s (args_of x x.id ins outs reads bytes label tip) o next out
+found_rest x ins outs reads bytes label tip s next out {y} {o} e h = found_then x x.id ins outs reads bytes label tip s o next out (rw e at h)

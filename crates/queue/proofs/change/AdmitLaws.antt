@@ -19,7 +19,7 @@ use Rattle.queue.specs.Lists.{all_map, total_split}
 use Rattle.queue.specs.theorems.AdmitKeeps.{held_split, weight_split}
 use Rattle.queue.specs.check.RulesAs.{weight, sum}
 use Rattle.queue.specs.bytes.ListLaws.{one_le}
-use Rattle.queue.specs.layout.HeadAs.{front_len, tip_of, tip_size, front_bytes, queue_of}
+use Rattle.queue.specs.layout.HeadAs.{front_len, tip_size, TipLong, front_bytes, queue_of, tip_in}
 use Rattle.queue.specs.read.FindAs.{recs_in, SpotIn}
 use Rattle.queue.specs.theorems.Plain.{rec_plain}
 use Rattle.queue.specs.change.PlanAs.{lead_bytes}
@@ -30,9 +30,9 @@ use Rattle.queue.specs.paper.Sound.{need, holder?, pending?, mined?, content}
 use Rattle.queue.specs.paper.Area.{flagged, id_list_bytes, terms_under, terms_bytes, place_bytes, held_under, held_bytes, rec_under, rec_bytes, area_bytes, over}
 use Rattle.queue.specs.paper.Changing.{put, new_rec, committed, pendings, pending_bytes, pendings_of, share_of}
 use Rattle.queue.specs.paper.Calls.{items, numbers, given, entry_bytes}
-use Rattle.queue.specs.declared.change.admit.Asked.{Asked}
+use Rattle.queue.specs.declared.change.admit.Offered.{Offered}
 use Rattle.queue.specs.declared.change.admit.Tip.{Tip}
-use Rattle.queue.specs.declared.read.find.Spot.{Spot}
+use Rattle.queue.specs.read.FindAs.{SpotNumbers}
 use Rattle.queue.specs.declared.check.area.Area.{Area}
 use Rattle.queue.specs.declared.layout.head.Marks.{Marks}
 use Rattle.queue.specs.declared.check.rules.Query.TheVariants.{Holders, HeldBytes, MinedHolders, MinedBytes, PendingOf}
@@ -72,7 +72,7 @@ eight : {a a' d d' f f' g g' h h' : Bytes} (b c e : Bytes) → a ≡ a' → d �
     → ((((((a ++ b) ++ c) ++ d) ++ e) ++ f) ++ g) ++ h ≡ a' ++ (b ++ (c ++ (d' ++ (e ++ (f' ++ (g' ++ h'))))))
 eight {a} {a'} {d} {d'} {f} {f'} {g} {g'} {h} {h'} b c e p q r s t = cc (join_eight a' b c d' e f' g' h')
 
-pub terms_put : {d d₁ d₂ d₃ d₄ d₅ d₆ d₇ d₈ : Bytes} {at p1 p2 p3 p4 p5 p6 p7 r : ℕ} (x : Asked) (label : Bytes) (n : ℕ) → TermsFit x label n
+pub terms_put : {d d₁ d₂ d₃ d₄ d₅ d₆ d₇ d₈ : Bytes} {at p1 p2 p3 p4 p5 p6 p7 r : ℕ} (x : Offered) (label : Bytes) (n : ℕ) → TermsFit x label n
     → Put d at (be_last 8 x.now.0) 8 p1 d₁ → Put d₁ p1 (flagged (codec.be 8) (given x.timeflag x.time.0)) (opt_len_value x.timeflag 8) p2 d₂
     → Put d₂ p2 (flagged (codec.be 4) (given x.heightflag x.height.0)) (opt_len_value x.heightflag 4) p3 d₃ → Put d₃ p3 (be_last 8 x.priority) 8 p4 d₄
     → Put d₄ p4 (flagged (λ y. codec.be 1 (length y) ++ y) (given x.labelflag label)) (label_size_value x.labelflag label) p5 d₅
@@ -136,11 +136,11 @@ regroup i c t h = ap (λ (y : Bytes). 2 ∷ y) (inner i c (0 ∷ 0 ∷ []) t (re
     inner : (i c z t h : Bytes) → ((i ++ (c ++ z)) ++ t) ++ h ≡ i ++ (c ++ (z ++ (t ++ h)))
     inner i c z t h = simp append_assoc
 
-new_shape : (x : Asked) (id ins outs reads bytes label : Bytes) → 2 ∷ (id ++ (codec.be 1 x.caller ++ (0 ∷ 0 ∷ (terms_bytes (new_terms x label (length bytes)) ++ (replicate 10 0 ++ flagged held_bytes (some (held_lent ins outs reads bytes))))))) ≡ rec_bytes (new_of x id ins outs reads bytes label)
+new_shape : (x : Offered) (id ins outs reads bytes label : Bytes) → 2 ∷ (id ++ (codec.be 1 x.caller ++ (0 ∷ 0 ∷ (terms_bytes (new_terms x label (length bytes)) ++ (replicate 10 0 ++ flagged held_bytes (some (held_lent ins outs reads bytes))))))) ≡ rec_bytes (new_of x id ins outs reads bytes label)
 unfolding rec_under new_of new_rec place_bytes
 new_shape x id ins outs reads bytes label = refl
 
-pub new_put : {d d₁ d₂ d₃ d₄ : Bytes} {at a b c r : ℕ} (x : Asked) (id ins outs reads bytes label : Bytes) → x.caller < 256
+pub new_put : {d d₁ d₂ d₃ d₄ : Bytes} {at a b c r : ℕ} (x : Offered) (id ins outs reads bytes label : Bytes) → x.caller < 256
     → Put d at (lead_bytes id x.caller 0 0) terms_at a d₁ → Put d₁ a (terms_bytes (new_terms x label (length bytes))) (terms_len x label) b d₂ → Put d₂ b (replicate (b + 10 - b) 0) (b + 10 - b) c d₃
     → Put d₃ c (flagged held_bytes (some (held_lent ins outs reads bytes))) (held_len ins outs reads bytes) r d₄
     → Put d at (rec_c.enc (new_of x id ins outs reads bytes label)) (new_len x ins outs reads bytes label) r d₄
@@ -159,7 +159,7 @@ opt_size flag w v = let e = be_length w v in cases (eqb flag 1) (λ t. rw t (ome
 label_size : (flag : ℕ) (l : Bytes) → length (flagged (λ y. codec.be 1 (length y) ++ y) (given flag l)) ≡ label_size_value flag l
 label_size flag l = let e = length-append (codec.be 1 (length l)) l in let f = be_length 1 (length l) in cases (eqb flag 1) (λ t. rw t (omega arith)) (λ t. rw t (omega arith))
 
-pub terms_size : (x : Asked) (label : Bytes) (n : ℕ) → length (terms_bytes (new_terms x label n)) ≡ terms_len x label
+pub terms_size : (x : Offered) (label : Bytes) (n : ℕ) → length (terms_bytes (new_terms x label n)) ≡ terms_len x label
 unfolding terms_under
 terms_size x label n =
     let a = be_length 8 x.now.0 in let b = opt_size x.timeflag 8 x.time.0 in let c = opt_size x.heightflag 4 x.height.0 in
@@ -175,7 +175,7 @@ held_size ins outs reads bytes f =
     sizes : (a b c d e : Bytes) → length (a ++ (b ++ (c ++ (d ++ e)))) ≡ length a + (length b + (length c + (length d + length e)))
     sizes a b c d e = simp length-append
 
-pub new_long : (x : Asked) (id ins outs reads bytes label : Bytes) → length id ≡ 32 → HeldFit ins outs reads bytes → length (rec_c.enc (new_of x id ins outs reads bytes label)) ≡ new_len x ins outs reads bytes label
+pub new_long : (x : Offered) (id ins outs reads bytes label : Bytes) → length id ≡ 32 → HeldFit ins outs reads bytes → length (rec_c.enc (new_of x id ins outs reads bytes label)) ≡ new_len x ins outs reads bytes label
 new_long x id ins outs reads bytes label l f =
     let t = terms_size x label (length bytes) in let h = held_size ins outs reads bytes f in
     let a = length-append id (codec.be 1 x.caller ++ (0 ∷ 0 ∷ (terms_bytes (new_terms x label (length bytes)) ++ (replicate 10 0 ++ flagged held_bytes (some (held_lent ins outs reads bytes)))))) in
@@ -184,7 +184,7 @@ new_long x id ins outs reads bytes label l f =
     let b = length-append (terms_bytes (new_terms x label (length bytes))) (replicate 10 0 ++ flagged held_bytes (some (held_lent ins outs reads bytes))) in
     ap length (rec_plain (new_of x id ins outs reads bytes label) ∙ sym (new_shape x id ins outs reads bytes label)) ∙ omega arith
 
-pub new_id : (x : Asked) (id ins outs reads bytes label : Bytes) → (new_of x id ins outs reads bytes label).id ≡ id
+pub new_id : (x : Offered) (id ins outs reads bytes label : Bytes) → (new_of x id ins outs reads bytes label).id ≡ id
 unfolding new_of new_rec
 new_id x id ins outs reads bytes label = refl
 
@@ -263,11 +263,11 @@ module _ {s : Bytes} {a : Area} (w : AreaIn s a) where
           room_0 z q f = let b : w.q.limits.B ≡ a.open.head.limits.b = head_b w.read.store.head in rw (← (one_queue s w.is f), few, free, le-ltb w.q.limits.B (pending_bytes w.q.recs + n) (omega arith))
 
 -- ---- the entry of a new record
-entry_shape : (x : Asked) (id ins outs reads bytes label : Bytes) → id ++ (codec.be 1 x.caller ++ (0 ∷ 0 ∷ (terms_bytes (new_terms x label (length bytes)) ++ (0 ∷ (id_list_bytes (items 32 ins) ++ id_list_bytes (items 32 reads)))))) ≡ entry_bytes (new_of x id ins outs reads bytes label)
+entry_shape : (x : Offered) (id ins outs reads bytes label : Bytes) → id ++ (codec.be 1 x.caller ++ (0 ∷ 0 ∷ (terms_bytes (new_terms x label (length bytes)) ++ (0 ∷ (id_list_bytes (items 32 ins) ++ id_list_bytes (items 32 reads)))))) ≡ entry_bytes (new_of x id ins outs reads bytes label)
 unfolding entry_bytes new_of new_rec place_bytes
 entry_shape x id ins outs reads bytes label = refl
 
-pub entry_long : (x : Asked) (id ins outs reads bytes label : Bytes) → length id ≡ 32 → HeldFit ins outs reads bytes → length (entry_bytes (new_of x id ins outs reads bytes label)) ≡ entry_new_len_value x ins reads label
+pub entry_long : (x : Offered) (id ins outs reads bytes label : Bytes) → length id ≡ 32 → HeldFit ins outs reads bytes → length (entry_bytes (new_of x id ins outs reads bytes label)) ≡ entry_new_len_value x ins reads label
 entry_long x id ins outs reads bytes label l f =
     let t = terms_size x label (length bytes) in let j = ids_size ins f.whole_ins in let b = ids_size reads f.whole_reads in
     let u = length-append id (codec.be 1 x.caller ++ (0 ∷ 0 ∷ (terms_bytes (new_terms x label (length bytes)) ++ (0 ∷ (id_list_bytes (items 32 ins) ++ id_list_bytes (items 32 reads)))))) in
@@ -277,7 +277,7 @@ entry_long x id ins outs reads bytes label l f =
     let w = length-append (id_list_bytes (items 32 ins)) (id_list_bytes (items 32 reads)) in
     sym (ap length (entry_shape x id ins outs reads bytes label)) ∙ omega arith
 
-pub entry_put : {d d₀ d₁ d₂ d₃ d₄ d₅ d₆ : Bytes} {p0 p1 p2 p3 p4 p5 r : ℕ} (x : Asked) (id ins outs reads bytes label : Bytes) → x.caller < 256 → HeldFit ins outs reads bytes
+pub entry_put : {d d₀ d₁ d₂ d₃ d₄ d₅ d₆ : Bytes} {p0 p1 p2 p3 p4 p5 r : ℕ} (x : Offered) (id ins outs reads bytes label : Bytes) → x.caller < 256 → HeldFit ins outs reads bytes
     → Put d 0 id 32 p0 d₀ → Put d₀ p0 (be_last 1 x.caller) 1 p1 d₁ → Put d₁ p1 (be_last 2 0) 2 p2 d₂ → Put d₂ p2 (terms_bytes (new_terms x label (length bytes))) (terms_len x label) p3 d₃ → Put d₃ p3 (0 ∷ []) 1 p4 d₄
     → Put d₄ p4 (id_list_bytes (items 32 ins)) (2 + length ins) p5 d₅ → Put d₅ p5 (id_list_bytes (items 32 reads)) (2 + length reads) r d₆
     → Put d 0 (entry_bytes (new_of x id ins outs reads bytes label)) (entry_new_len_value x ins reads label) r d₆
@@ -293,41 +293,41 @@ entry_put x id ins outs reads bytes label l f a w b c e g h =
     inner i z t y n c = simp append_assoc
 
 -- ---- the whole area
-module _ {s : Bytes} {a : Area} (t : Tip) {r : Rec} (w : WithFrom s a t.height.0 (tip_of t.has t.id) r) where
+module _ {s : Bytes} {a : Area} (t : Tip) {r : Rec} (w : WithFrom s a t.height.0 (tip_in t.id) r) where
   abbrev pub Limz : Limits
   Limz = limits_in a.open.head.limits
 
   pub with_area : AreaIn s a
   with_area = record { q = w.q; is = w.is; read = w.read }
 
-  module _ {z : Id} (ri : r.id ≡ z) {p : Spot} (y : SpotIn s a z p) {m : ℕ} (c : m ≡ cond p.found 1 0) where
+  module _ {z : Id} (ri : r.id ≡ z) {p : SpotNumbers} (y : SpotIn s a z p) {m : ℕ} (c : m ≡ cond p.found 1 0) where
     with_many : a.open.head.count + 1 - m ≡ length (put r (recs_in s a))
     with_many = among_many with_area r ri y c
 
     pub with_few : a.open.head.count + 1 - m < 4294967296
     with_few = let f = (fit w.read).sound in omega (arith, f.few, f.range.P-high, f.range.T-high, w.read.store.count)
 
-    module _ {revision : ℕ} (e : revision ≡ (a.open.head.revision + 1) % 2 ^ 64) (l : length t.id ≡ 32) where
+    module _ {revision : ℕ} (e : revision ≡ (a.open.head.revision + 1) % 2 ^ 64) (l : TipLong t.id) where
       abbrev pub marks_with : Marks
-      marks_with = record { persisted = t.height; revision = revision; cursor = t.height; tip = t.has; counter = a.open.head.counter; count = a.open.head.count + 1 - m }
+      marks_with = record { persisted = t.height; revision = revision; cursor = t.height; tip = t.id; counter = a.open.head.counter; count = a.open.head.count + 1 - m }
 
-      with_is : queue_of Limz marks_with t.id (put r (recs_in s a)) ≡ with_r t.height.0 (tip_of t.has t.id) r w.q
+      with_is : queue_of Limz marks_with (put r (recs_in s a)) ≡ with_r t.height.0 (tip_in t.id) r w.q
       unfolding with_r committed
       with_is =
           let st = w.read.store in
           same_queue refl (sym (the_limits w.read)) (e ∙ ap (λ v. (v + 1) % 2 ^ 64) (sym st.head.revision)) refl refl (sym st.head.counter) (ap (put r) st.list)
 
-      with_fits : length (queue_c.enc (queue_of Limz marks_with t.id (put r (recs_in s a)))) ≤ need Limz
+      with_fits : length (queue_c.enc (queue_of Limz marks_with (put r (recs_in s a)))) ≤ need Limz
       with_fits = let u = ap (λ v. length (queue_c.enc v)) with_is in let v = ap need (the_limits w.read) in let k = w.fits in omega arith
 
-      pub with_room : front_len + tip_size t.has + length (encs rec_c (put r (recs_in s a))) ≤ a.need
+      pub with_room : front_len + tip_size t.id + length (encs rec_c (put r (recs_in s a))) ≤ a.need
       with_room =
-          let q = queue_long Limz marks_with t.id (put r (recs_in s a)) (shares_sixteen w.read) with_many l in
+          let q = queue_long Limz marks_with (put r (recs_in s a)) (shares_sixteen w.read) with_many l in
           let v = ap need (the_limits w.read) in let k = with_fits in omega (arith, w.read.need)
 
-      pub with_done : {d d₁ d₂ d₃ : Bytes} {o j j' to : ℕ} {q' : Queue} → read_area s ≡ some q' → a.need ≤ length d → to ≡ front_len + tip_size t.has
-          → Put d to (encs rec_c (put r (recs_in s a))) (length (encs rec_c (put r (recs_in s a)))) o d₁ → Put d₁ 0 (front_bytes Limz marks_with t.id) (front_len + tip_size t.has) j d₂ → Put d₂ o (replicate (a.need - o) 0) (a.need - o) j' d₃
-          → d₃ ≡ over (area_bytes (with_r t.height.0 (tip_of t.has t.id) r q')) d
+      pub with_done : {d d₁ d₂ d₃ : Bytes} {o j j' to : ℕ} {q' : Queue} → read_area s ≡ some q' → a.need ≤ length d → to ≡ front_len + tip_size t.id
+          → Put d to (encs rec_c (put r (recs_in s a))) (length (encs rec_c (put r (recs_in s a)))) o d₁ → Put d₁ 0 (front_bytes Limz marks_with) (front_len + tip_size t.id) j d₂ → Put d₂ o (replicate (a.need - o) 0) (a.need - o) j' d₃
+          → d₃ ≡ over (area_bytes (with_r t.height.0 (tip_in t.id) r q')) d
       with_done {d} f g h p1 p2 p3 =
-          area_done Limz marks_with t.id (put r (recs_in s a)) with_many with_fits (w.read.need ∙ ap need (the_limits w.read)) g p1 (recast p2 refl (sym h) refl) p3
-          ∙ ap (λ v. over (area_bytes v) d) (with_is ∙ ap (with_r t.height.0 (tip_of t.has t.id) r) (one_queue s w.is f))
+          area_done Limz marks_with (put r (recs_in s a)) with_many with_fits (w.read.need ∙ ap need (the_limits w.read)) g p1 (recast p2 refl (sym h) refl) p3
+          ∙ ap (λ v. over (area_bytes v) d) (with_is ∙ ap (with_r t.height.0 (tip_in t.id) r) (one_queue s w.is f))

@@ -1,3 +1,4 @@
+use Rattle.queue.proofs.change.WriteNextLaws.{caller_byte}
 -- Cancellation, exit by exit. Assumes nothing.
 use Rattle.std.specs.Prelude.{◌≡◌, refl, Bool, true, false, List, [], ◌∷◌, ◌++◌, ℕ, ◌+◌, ◌-◌, ◌≤◌, ◌<◌, ltb, length, drop, take}
 use Rattle.std.proofs.Common.{ap, sym, ◌∙◌, append_assoc, append-nil, arith, length-append, length-drop, drop-drop, lt-ltb, le-ltb, eq-eqb, ne_eqb}
@@ -12,16 +13,15 @@ use Rattle.queue.specs.bytes.Parts.{part}
 use Rattle.queue.specs.bytes.ViewAs.{view}
 use Rattle.queue.specs.bytes.ReaderAs.{list_at}
 use Rattle.queue.specs.layout.FormsCodec.{form_c}
-use Rattle.queue.specs.layout.RecordsAs.{RecordsIn}
 use Rattle.queue.specs.Areas.{read_area}
 use Rattle.queue.specs.theorems.Bound.{fits_need}
 use Rattle.queue.specs.theorems.SoundParts.{Fit, fit_sound, fit_ok}
 use Rattle.queue.specs.theorems.CallsKeeps.{leaves_kept, named_once, cancel_leaves}
 use Rattle.queue.specs.theorems.Plain.{terms_plain, place_plain}
 use Rattle.queue.specs.layout.FrameAs.{terms_at, facts_of}
-use Rattle.queue.specs.check.AreaAs.{AreaIs, records_of}
+use Rattle.queue.specs.check.AreaAs.{AreaIn}
 use Rattle.queue.specs.change.FinishAs.{picked}
-use Rattle.queue.specs.read.ReadingAs.{FoundAs, EntryIn, entry_at, entry_len_value}
+use Rattle.queue.specs.read.ReadingAs.{StandsAt, EntryIn, entry_at, entry_len_value}
 use Rattle.queue.specs.change.WriteAs.{ended, EndedFrom, EndedTo}
 use Rattle.queue.specs.change.CallsAs.{end_bytes, FoundIn, HeldIn, CancelTold}
 use Rattle.queue.specs.paper.Records.{Bytes, Id, Rec}
@@ -32,14 +32,12 @@ use Rattle.queue.specs.paper.Changing.{refused, done, top, named?, committed, fi
 use Rattle.queue.specs.Checked.{Outcome, outcome, told, cancel_of}
 use Rattle.queue.specs.paper.Calls.{entry_bytes}
 use Rattle.queue.specs.declared.Kind.TheVariants.{Nothing, Whole}
-use Rattle.queue.specs.declared.Answer.TheVariants.{Refused, Done}
+use Rattle.queue.specs.paper.Answer.{Refused, Done}
 use Rattle.queue.specs.declared.layout.frame.Seen.{Seen}
 use Rattle.queue.specs.declared.check.area.Area.{Area}
-use Rattle.queue.specs.declared.read.find.Found.{Found}
 use Rattle.queue.specs.declared.change.finish.Change.TheVariants.{Named}
-use Rattle.queue.proofs.check.AreaLaws.{recs_stand, fit}
-use Rattle.queue.proofs.layout.FrameLaws.{caller_byte}
-use Rattle.queue.proofs.layout.TurnLaws.{SeenIn, ReadsRec}
+use Rattle.queue.proofs.check.AreaLaws.{fit}
+use Rattle.queue.proofs.layout.TurnLaws.{SeenIn, FoundRec}
 use Rattle.queue.proofs.bytes.PutLaws.{over_splice}
 use Rattle.queue.proofs.bytes.PutByteLaws.{be_same, between}
 use Rattle.queue.proofs.change.FinishLaws.{id_32}
@@ -50,41 +48,33 @@ pub cancel_3 : (cur next out id : Bytes) → read_area cur ≡ none → outcome 
 unfolding cancel_of
 cancel_3 cur next out id e = rw e
 
-module _ (cur next out id : Bytes) {a : Area} (i : AreaIs cur a) (t : a.ok ≡ true) where
+module _ (cur next out id : Bytes) {a : Area} (w : AreaIn cur a) where
   pub cancel_2 : length next < a.need → outcome (Refused 2) next out ≡ cancel_of cur next out id
   unfolding cancel_of
-  cancel_2 h = let g = i.good t in rw (g.1, lt-ltb (length next) (need g.0.limits) (omega (arith, g.2.need)))
+  cancel_2 h = rw (w.is, lt-ltb (length next) (need w.q.limits) (omega (arith, w.read.need)))
 
   module _ (h : a.need ≤ length next) where
-    enough : ltb (length next) (need (i.good t).0.limits) ≡ false
-    enough = le-ltb (length next) (need (i.good t).0.limits) (omega (arith, (i.good t).2.need))
+    enough : ltb (length next) (need w.q.limits) ≡ false
+    enough = le-ltb (length next) (need w.q.limits) (omega (arith, w.read.need))
 
     pub cancel_5 : (length id ≡ 32 → ⊥) → outcome (Refused 5) next out ≡ cancel_of cur next out id
     unfolding cancel_of
-    cancel_5 n = let g = i.good t in rw (g.1, enough, ne_eqb (length id) 32 n)
+    cancel_5 n = rw (w.is, enough, ne_eqb (length id) 32 n)
 
-    pub find_asks : RecordsIn (form_c false rec_c) cur (records_of a.open)
-    find_asks = recs_stand (i.good t).2.store
-
-    module _ (l : length id ≡ 32) {k : Id} (e : k ≡ part 32 (view false id 0) 0) {f : Found} (x : FoundAs cur f (find (named? k) (list_at (form_c false rec_c) a.open.head.count cur a.open.start))) where
-      in_queue : list_at (form_c false rec_c) a.open.head.count cur a.open.start ≡ (i.good t).0.recs
-      in_queue = (i.good t).2.store.list
-
-      pub cancel_13 : f.found ≡ false → outcome (Refused 13) next out ≡ cancel_of cur next out id
+    module _ (l : length id ≡ 32) {k : Id} (e : k ≡ part 32 (view false id 0) 0) where
+      pub cancel_13 : find (named? k) (list_at (form_c false rec_c) a.open.head.count cur a.open.start) ≡ none → outcome (Refused 13) next out ≡ cancel_of cur next out id
       unfolding cancel_of cancel
       cancel_13 n =
-          let g = i.good t in
-          let z : find (named? id) g.0.recs ≡ none = ap (λ y. find (named? y) g.0.recs) (sym (key l e)) ∙ ap (find (named? k)) (sym in_queue) ∙ x.bad n in
-          rw (g.1, enough, eq-eqb (length id) 32 l, z)
-
-      pub found_in : f.found ≡ true → FoundIn cur a k f.at
-      found_in n = let g = i.good t in let y = x.good n in
-          record { q = g.0; is = g.1; read = g.2; r = y.0; found = ap (find (named? k)) (sym in_queue) ∙ y.1; here = y.2 }
+          let z : find (named? id) w.q.recs ≡ none = ap (λ y. find (named? y) w.q.recs) (sym (key l e)) ∙ ap (find (named? k)) (sym w.read.store.list) ∙ n in
+          rw (w.is, enough, eq-eqb (length id) 32 l, z)
 
       pub cancel_rest : {o : Outcome} → CancelTold cur k o next out → o ≡ cancel_of cur next out id
       unfolding cancel_of
-      cancel_rest {o} c = let g = i.good t in let z = c g.0 g.1 ∙ ap (λ y. told entry_bytes next out (cancel y g.0)) (key l e) in
-          rw (g.1, enough, eq-eqb (length id) 32 l) z
+      cancel_rest {o} c = let z = c w.q w.is ∙ ap (λ y. told entry_bytes next out (cancel y w.q)) (key l e) in
+          rw (w.is, enough, eq-eqb (length id) 32 l) z
+
+pub found_in : {s : Bytes} {a : Area} (w : AreaIn s a) {k : Id} {at : ℕ} → StandsAt s k a.open.start (list_at (form_c false rec_c) a.open.head.count s a.open.start) at → FoundIn s a k at
+found_in w {k} f = record { q = w.q; is = w.is; read = w.read; r = f.r; found = ap (find (named? k)) (sym w.read.store.list) ∙ f.found; here = f.here }
 
 -- ---- one record of an id
 none_count : (p : Rec → Bool) (l : List Rec) → All (λ b. p b ≡ true → ⊥) l → count p l ≡ 0
@@ -102,8 +92,8 @@ count_long p [] = omega arith
 count_long p (a ∷ l) = let i = count_long p l in cases (p a) (λ t. rw t (omega arith)) (λ t. rw t (omega arith))
 
 -- ---- from the record found on
-module _ {s : Bytes} {a : Area} {id : Id} {at : ℕ} (w : FoundIn s a id at) {ok : Bool} {y : Seen} (x : ReadsRec false s at ok y.size y) where
-  pub it : SeenIn false s at ok y.size y w.r
+module _ {s : Bytes} {a : Area} {id : Id} {at : ℕ} (w : FoundIn s a id at) {y : Seen} (x : FoundRec false s at y.size y) where
+  pub it : SeenIn false s at y.size y w.r
   it = met w.here x
 
   state_is : y.facts.state ≡ w.r.state
@@ -133,7 +123,7 @@ module _ {s : Bytes} {a : Area} {id : Id} {at : ℕ} (w : FoundIn s a id at) {ok
         rw (← (one_queue s w.is e), w.found, unmined, sym holds_is ∙ h, le-ltb (length out) (length (entry_bytes w.r)) (omega (arith, entry_size w.here.0 it)), z)
 
     pub held_in : y.facts.holder ≡ true → HeldIn s a id at y
-    held_in h = record { q = w.q; is = w.is; read = w.read; r = w.r; found = w.found; ok = ok; seen = it; held = sym holds_is ∙ h; unmined = unmined }
+    held_in h = record { q = w.q; is = w.is; read = w.read; r = w.r; found = w.found; seen = it; held = sym holds_is ∙ h; unmined = unmined }
 
   pub entry_asks : (1 ≤ y.mark) × (y.mark ≤ 400) × (y.facts.ins < 65536) × (y.facts.reads < 65536)
   entry_asks = let e = entry_in_law w.here.0 it in (omega (arith, e.up), e.most, e.few, e.few_reads)
@@ -241,3 +231,10 @@ module _ {s : Bytes} {a : Area} {id : Id} {at : ℕ} {x : Seen} (w : HeldIn s a 
           let n = w.q.counter + 1 in
           let z : out' ≡ over (entry_bytes (finished 4 1 (w.q.counter + 1) w.r)) out = p.is ∙ ap (splice out 0) (end_is (w.q.counter + 1)) ∙ sym (over_splice out (entry_bytes (finished 4 1 (w.q.counter + 1) w.r)) (omega (arith, end_long (w.q.counter + 1)))) in
           rw (← (one_queue s w.is e), cancels room, le-ltb (length out) (length (entry_bytes (finished 4 1 (w.q.counter + 1) w.r))) (omega (arith, end_long (w.q.counter + 1))), z, t w.q w.is)
+
+-- the counter is at its end, or there is room for one more
+pub full : {s : Bytes} {a : Area} {id : Id} {at : ℕ} {x : Seen} → HeldIn s a id at x → a.open.head.counter.0 ≡ 18446744073709551615 → 18446744073709551615 - a.open.head.counter.0 < 1
+full w h = omega (arith, h)
+
+pub not_full : {s : Bytes} {a : Area} {id : Id} {at : ℕ} {x : Seen} → HeldIn s a id at x → (a.open.head.counter.0 ≡ 18446744073709551615 → ⊥) → 1 ≤ 18446744073709551615 - a.open.head.counter.0
+not_full w h = omega (arith, h, w.read.store.head.counter_small)

@@ -1,3 +1,4 @@
+use Rattle.queue.specs.bytes.ViewAs.{view}
 -- Expiry, exit by exit, and the ids of those finished. Assumes nothing.
 use Rattle.std.specs.Prelude.{◌≡◌, refl, Bool, true, false, List, [], ◌∷◌, ◌++◌, ℕ, zero, suc, ◌+◌, ◌-◌, ◌*◌, ◌^◌, ◌≤◌, ◌<◌, ltb, eqb, length}
 use Rattle.std.proofs.Common.{ap, sym, ◌∙◌, append-nil, arith, length-append, lt-ltb, le-ltb, eqb-true}
@@ -9,15 +10,15 @@ use Rattle.queue.specs.Codec.{cases, All, be_length}
 use Rattle.queue.specs.Lists.{all_map, and_true}
 use Rattle.queue.specs.bytes.PutAs.{Put, splice, be_last}
 use Rattle.queue.specs.layout.FrameCodec.{rec_c}
-use Rattle.queue.specs.bytes.ReaderAs.{whole, list_at}
+use Rattle.queue.specs.bytes.ReaderAs.{whole, list_at, reads?}
 use Rattle.queue.specs.bytes.ReaderLaws.{Turn, none_left}
-use Rattle.queue.specs.layout.FormsCodec.{area_form, form_c, turn_in, ok_queue, ok_store, store_of}
+use Rattle.queue.specs.layout.FormsCodec.{area_form, form_c, turn_in, ok_queue, ok_store, store_of, stands_in}
 use Rattle.queue.specs.layout.RecordsAs.{RecordsIn}
 use Rattle.queue.specs.Areas.{read_area}
 use Rattle.queue.specs.theorems.Bound.{fits_need}
 use Rattle.queue.specs.theorems.SoundParts.{Fit, Right, fit_sound, fit_ok}
 use Rattle.queue.specs.theorems.CallsKeeps.{leaves_kept, pending_held, expire_leaves}
-use Rattle.queue.specs.check.AreaAs.{AreaIs, records_of, AreaIn}
+use Rattle.queue.specs.check.AreaAs.{records_of, AreaIn}
 use Rattle.queue.specs.change.FinishAs.{picked, picked_s}
 use Rattle.queue.specs.change.WriteAs.{ended, EndedFrom, EndedTo}
 use Rattle.queue.specs.change.CallsAs.{id_if, picked_ids, ExpireTold}
@@ -29,7 +30,7 @@ use Rattle.queue.specs.paper.Changing.{done, top, committed, due?, expire}
 use Rattle.queue.specs.Checked.{Outcome, outcome, expire_of}
 use Rattle.queue.specs.paper.Calls.{ids_bytes}
 use Rattle.queue.specs.declared.Kind.TheVariants.{Nothing, Whole}
-use Rattle.queue.specs.declared.Answer.TheVariants.{Refused, Done}
+use Rattle.queue.specs.paper.Answer.{Refused, Done}
 use Rattle.queue.specs.declared.layout.frame.Seen.{Seen}
 use Rattle.queue.specs.declared.layout.frame.Time.{Time}
 use Rattle.queue.specs.declared.layout.frame.Height.{Height}
@@ -37,7 +38,7 @@ use Rattle.queue.specs.declared.check.area.Area.{Area}
 use Rattle.queue.specs.declared.change.finish.Change.{Change}
 use Rattle.queue.specs.declared.change.finish.Change.TheVariants.{Due}
 use Rattle.queue.proofs.check.AreaLaws.{recs_stand, fit}
-use Rattle.queue.proofs.layout.TurnLaws.{SeenIn, ReadsRec}
+use Rattle.queue.proofs.layout.TurnLaws.{SeenIn, FoundRec}
 use Rattle.queue.proofs.bytes.PutLaws as puts
 use Rattle.queue.proofs.bytes.PutLaws.{Left, begun, onward, kept, then, over_splice}
 use Rattle.queue.proofs.bytes.PutByteLaws.{be_same}
@@ -56,13 +57,16 @@ module _ (s : Bytes) (at n : ℕ) (c : Change) (id : Id) (to : ℕ) (d₀ : Byte
   listing h w = record { within = h; all = w; long = refl; rest = begun _ _ _ }
 
   module _ {dst : Bytes} {i left o : ℕ} (g : Listing dst i left o) where
-    turn : {ok : Bool} {x : Seen} → 0 < left → ReadsRec false s i ok x.size x → Turn (form_c false rec_c) s left i (i + x.size) (SeenIn false s i ok x.size x)
-    turn {ok} {x} p r = rw (raw_after s i x.size) (turn_in false left g.within g.all p r)
+    pub list_stands : 0 < left → reads? rec_c (view false s i) 0 ≡ true
+    list_stands p = stands_in rec_c false s left g.within g.all p
 
-    pub list_next : {ok : Bool} {x : Seen} → 0 < left → ReadsRec false s i ok x.size x → i + x.size ≤ length s
+    turn : {x : Seen} → 0 < left → FoundRec false s i x.size x → Turn (form_c false rec_c) s left i (i + x.size) (SeenIn false s i x.size x)
+    turn {x} p r = rw (raw_after s i x.size) (turn_in false left g.within g.all p r)
+
+    pub list_next : {x : Seen} → 0 < left → FoundRec false s i x.size x → i + x.size ≤ length s
     list_next p r = raw_within (turn p r).is
 
-    module _ {ok hit : Bool} {x : Seen} (p : 0 < left) (r : ReadsRec false s i ok x.size x) (e : hit ≡ picked_s c id x) where
+    module _ {hit : Bool} {x : Seen} (p : 0 < left) (r : FoundRec false s i x.size x) (e : hit ≡ picked_s c id x) where
       split : concat (picked_ids c id (list_at (form_c false rec_c) left s i)) ≡ id_if hit x.id ++ concat (picked_ids c id (list_at (form_c false rec_c) (left - 1) s (i + x.size)))
       unfolding picked_ids
       split =
@@ -111,17 +115,14 @@ pub expire_3 : (cur next out : Bytes) (time height : ℕ) → read_area cur ≡ 
 unfolding expire_of
 expire_3 cur next out time height e = rw e
 
-module _ (cur next out : Bytes) (time height : ℕ) {a : Area} (i : AreaIs cur a) (t : a.ok ≡ true) where
+module _ (cur next out : Bytes) (time height : ℕ) {a : Area} (w : AreaIn cur a) where
   pub expire_2 : length next < a.need → outcome (Refused 2) next out ≡ expire_of cur next out time height
   unfolding expire_of
-  expire_2 h = let g = i.good t in rw (g.1, lt-ltb (length next) (need g.0.limits) (omega (arith, g.2.need)))
+  expire_2 h = rw (w.is, lt-ltb (length next) (need w.q.limits) (omega (arith, w.read.need)))
 
   pub expire_rest : a.need ≤ length next → {o : Outcome} → ExpireTold cur time height o next out → o ≡ expire_of cur next out time height
   unfolding expire_of
-  expire_rest h c = let g = i.good t in rw (g.1, le-ltb (length next) (need g.0.limits) (omega (arith, g.2.need))) (c g.0 g.1)
-
-pub area_in : {cur : Bytes} {a : Area} → AreaIs cur a → a.ok ≡ true → AreaIn cur a
-area_in i t = let g = i.good t in record { q = g.0; is = g.1; read = g.2 }
+  expire_rest h c = rw (w.is, le-ltb (length next) (need w.q.limits) (omega (arith, w.read.need))) (c w.q w.is)
 
 module _ {s : Bytes} {a : Area} (w : AreaIn s a) where
   pub hits_asks : RecordsIn (form_c false rec_c) s (records_of a.open)

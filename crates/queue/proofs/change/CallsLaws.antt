@@ -1,6 +1,7 @@
 -- The changing calls and settling, exit by exit. Assumes nothing.
-use Rattle.std.specs.Prelude.{◌≡◌, refl, Bool, true, false, not, ◌&&◌, ◌||◌, [], ◌∷◌, ◌++◌, ℕ, zero, suc, ◌+◌, ◌-◌, ◌^◌, ◌≤◌, ◌<◌, ltb, leb, eqb, length, drop, take, replicate}
-use Rattle.std.proofs.Common.{ap, sym, ◌∙◌, append_assoc, append-nil, arith, length-append, take_at, drop_at, lt-ltb, le-ltb, eq-eqb, ne_eqb, eqb-true}
+use Rattle.std.specs.Prelude as code
+use Rattle.std.specs.Prelude.{◌≡◌, ◌⊎◌, refl, Bool, true, false, not, ◌&&◌, ◌||◌, [], ◌∷◌, ◌++◌, ℕ, zero, suc, ◌+◌, ◌-◌, ◌^◌, ◌≤◌, ◌<◌, ltb, leb, eqb, length, drop, take, replicate}
+use Rattle.std.proofs.Common.{⊎_elim, ap, sym, ◌∙◌, append_assoc, append-nil, arith, length-append, take_at, drop_at, lt-ltb, le-ltb, eq-eqb, ne_eqb, eqb-true}
 use Rattle.std.proofs.Math.Option.{none, some}
 use Rattle.std.proofs.lemmas.Bool.{lt-leb, eqb-false}
 use Rattle.queue.proofs.check.AreaLaws.{fit}
@@ -17,8 +18,8 @@ use Rattle.queue.specs.Areas.{read_area}
 use Rattle.queue.specs.theorems.Bound.{fits_need, area_size, reads_area}
 use Rattle.queue.specs.theorems.SoundParts.{fit_of, fit_sound, fit_ok}
 use Rattle.queue.specs.theorems.CallsKeeps.{fresh_fit, moved_fit}
-use Rattle.queue.specs.check.AreaAs.{AreaAs, AreaIs}
-use Rattle.queue.specs.layout.HeadAs.{tip_of, front_bytes}
+use Rattle.queue.specs.check.AreaAs.{AreaAs, AreaIn}
+use Rattle.queue.specs.layout.HeadAs.{tip_in, front_bytes}
 use Rattle.queue.specs.change.WriteAs.{MovedFrom, MovedTo}
 use Rattle.queue.specs.paper.Records.{Bytes, Id, Limits, Queue}
 use Rattle.queue.specs.layout.LimitsAs.{LentShares}
@@ -29,7 +30,7 @@ use Rattle.queue.specs.paper.Changing.{moved, set_cursor}
 use Rattle.queue.specs.Checked.{outcome, written, set_cursor_of}
 use Rattle.queue.specs.paper.Calls.{numbers, limits_of, fresh, fresh_of, settle_shape?, settle_of}
 use Rattle.queue.specs.declared.Kind.TheVariants.{Nothing, Memory}
-use Rattle.queue.specs.declared.Answer.TheVariants.{Refused, Done}
+use Rattle.queue.specs.paper.Answer.{Refused, Done}
 use Rattle.queue.specs.declared.layout.frame.Height.{Height}
 use Rattle.queue.specs.declared.check.area.Area.{Area}
 use Rattle.queue.specs.declared.layout.head.Marks.{Marks}
@@ -84,7 +85,7 @@ module _ (p b t k : ℕ) (shares area : Bytes) {v : Bytes} (w : LentShares share
     fresh_5 {n} i l j = rw (asked_holds, le-ltb (length area) (need Asks) (omega arith), ne_eqb (length shares) 64 j)
 
 abbrev pub fresh_marks : Marks
-fresh_marks = record { persisted = record { 0 = 0 }; revision = 0; cursor = record { 0 = 0 }; tip = false; counter = record { 0 = 0 }; count = 0 }
+fresh_marks = record { persisted = record { 0 = 0 }; revision = 0; cursor = record { 0 = 0 }; tip = code.None; counter = record { 0 = 0 }; count = 0 }
 
 fresh_fits : (m : Limits) → limits_right? m ≡ true → length (queue_c.enc (fresh m)) ≤ need m
 fresh_fits m e = let f = fresh_fit m e in fits_need (fresh m) (fit_sound (fresh m) f) (fit_ok (fresh m) f)
@@ -98,13 +99,13 @@ module _ (p b t k : ℕ) (shares : Bytes) {v : Bytes} (w : LentShares shares v) 
   unfolding shares_right?
   lent_right = let u = both_hold p b t k shares [] w e g h z in rw (u.0, eq-eqb _ 16 (sixteen v w.long), u.1)
 
-  pub fresh_done : (tip : Id) {d d₁ d₂ : Bytes} {o r n : ℕ} → length shares ≡ 64 → n ≡ need (limits_of p b t k v) → n ≤ length d → Put d 0 (front_bytes (limits_of p b t k v) fresh_marks tip) 110 o d₁ → Put d₁ o (replicate (n - o) 0) (n - o) r d₂
+  pub fresh_done : {d d₁ d₂ : Bytes} {o r n : ℕ} → length shares ≡ 64 → n ≡ need (limits_of p b t k v) → n ≤ length d → Put d 0 (front_bytes (limits_of p b t k v) fresh_marks) 110 o d₁ → Put d₁ o (replicate (n - o) 0) (n - o) r d₂
       → written (Done Nothing) d₂ ≡ fresh_of p b t k shares d
   unfolding fresh_of need
-  fresh_done tip {d} {d₁} {d₂} {o} {r} {n} l i j a x =
+  fresh_done {d} {d₁} {d₂} {o} {r} {n} l i j a x =
       let m = limits_of p b t k v in
       let s = w.whole l in
-      let q = area_done m fresh_marks tip [] refl (fresh_fits m lent_right) i j (none_put d o) (recast a refl (omega (arith, a.next)) refl) x in
+      let q = area_done m fresh_marks [] refl (fresh_fits m lent_right) i j (none_put d o) (recast a refl (omega (arith, a.next)) refl) x in
       let u : (in_range (limits_of p b t k shares) && (not (eqb (length shares) 64) || shares_right? (limits_of p b t k shares))) ≡ true = asked_holds p b t k shares d w e g h z in
       rw (u, le-ltb (length d) (need m) (omega arith), eq-eqb (length shares) 64 l, ← s, q)
 
@@ -156,22 +157,21 @@ none_ok : (opt_c id_c).ok none
 unfolding opt_c
 none_ok = tt
 
-move_from : {cur : Bytes} {a : Area} {q : Queue} (e : read_area cur ≡ some q) (w : AreaAs cur a q) (p h : Height) (has : Bool) (tip : Id) → p.0 ≡ q.persisted → h.0 < 4294967296 → (opt_c id_c).ok (tip_of has tip) → MovedFrom cur a p h has tip
+move_from : {cur : Bytes} {a : Area} {q : Queue} (e : read_area cur ≡ some q) (w : AreaAs cur a q) (p h : Height) (tip : code.Option Id) → p.0 ≡ q.persisted → h.0 < 4294967296 → (opt_c id_c).ok (tip_in tip) → MovedFrom cur a p h tip
 unfolding moved
-move_from {cur} {a} {q} e w p h has tip i j k =
-    let f = moved_fit p.0 h.0 (tip_of has tip) q (omega (arith, (fit w).persisted)) j k (fit w) in
+move_from {cur} {a} {q} e w p h tip i j k =
+    let f = moved_fit p.0 h.0 (tip_in tip) q (omega (arith, (fit w).persisted)) j k (fit w) in
     record { q = q; is = e; read = w; fits = lim (fits_need _ (fit_sound _ f) (fit_ok _ f)); small = omega (arith, (fit w).persisted); small_cursor = j }
   where
-    lim : length (queue_c.enc (moved p.0 h.0 (tip_of has tip) q)) ≤ need (moved p.0 h.0 (tip_of has tip) q).limits → length (queue_c.enc (moved p.0 h.0 (tip_of has tip) q)) ≤ need q.limits
+    lim : length (queue_c.enc (moved p.0 h.0 (tip_in tip) q)) ≤ need (moved p.0 h.0 (tip_in tip) q).limits → length (queue_c.enc (moved p.0 h.0 (tip_in tip) q)) ≤ need q.limits
     lim x = x
 
-module _ {cur : Bytes} {a : Area} (i : AreaIs cur a) (t : a.ok ≡ true) (h : Height) (k : h.0 < 4294967296) where
-  pub move_none : (tip : Id) → MovedFrom cur a a.persisted h false tip
-  move_none tip = let g = i.good t in move_from g.1 g.2 a.persisted h false tip (sym g.2.persisted) k none_ok
+module _ {cur : Bytes} {a : Area} (w : AreaIn cur a) (h : Height) (k : h.0 < 4294967296) where
+  pub move_none : MovedFrom cur a a.persisted h code.None
+  move_none = move_from w.is w.read a.persisted h code.None (sym w.read.persisted) k none_ok
 
-  pub move_some : (tip : Bytes) {r : Id} → length tip ≡ 32 → readlaws.SmallAt (view false tip 0) → r ≡ part 32 (view false tip 0) 0 → MovedFrom cur a a.persisted h true r
-  unfolding view
-  move_some tip {r} l s e = let g = i.good t in let z = key l e in move_from g.1 g.2 a.persisted h true r (sym g.2.persisted) k (rw z (tip_ok tip l s))
+  pub move_some : (tip : Bytes) {r : Id} → length tip ≡ 32 → readlaws.SmallAt tip → r ≡ part 32 (view false tip 0) 0 → MovedFrom cur a a.persisted h (code.Some r)
+  move_some tip {r} l s e = let z = key l e in move_from w.is w.read a.persisted h (code.Some r) (sym w.read.persisted) k (rw z (tip_ok tip l s))
 
 -- ---- settling
 pub settle_3 : (cur next : Bytes) (kind out : ℕ) → read_area cur ≡ none → written (Refused 3) next ≡ settle_of cur next kind out
@@ -219,6 +219,13 @@ settle_same next p x {next'} {r} e h w =
     let z = over_is (codec.be 4 x.persisted ++ rest_bytes x) next [] (drop (need x.limits) next) n0 (area_bytes (moved p x.cursor x.tip x)) l in
     y ∙ over_is (codec.be 4 x.persisted) next (rest_bytes x) (drop (need x.limits) next) n (codec.be 4 p) (c4 ∙ sym b4)
     ∙ sym (z ∙ ap (λ k. k ++ drop (need x.limits) next) m ∙ append_assoc (codec.be 4 p) (rest_bytes x) (drop (need x.limits) next))
+
+-- a whole write that failed
+pub is_failed : {kind out : ℕ} → kind ≡ 2 → out ≡ 1 → (eqb kind 2 && eqb out 1) ≡ true
+is_failed {kind} {out} h k = rw (h, k)
+
+pub not_failed : {kind out : ℕ} → ((kind ≡ 2) × (out ≡ 1 → ⊥)) ⊎ (kind ≡ 2 → ⊥) → (eqb kind 2 && eqb out 1) ≡ false
+not_failed {kind} {out} e = ⊎_elim (λ p. rw (p.0, ne_eqb out 1 p.1)) (λ n. rw (ne_eqb kind 2 n)) e
 
 module _ (cur : Bytes) {q : Queue} (e : read_area cur ≡ some q) (next : Bytes) (kind out : ℕ) where
   module _ {b : Bool} (f : b ≡ (eqb kind 2 && eqb out 1)) where
@@ -268,7 +275,7 @@ module _ {cur : Bytes} {a : Area} {q : Queue} (e : read_area cur ≡ some q) (w 
   pub told_none : (next : Bytes) {next' : Bytes} → ((q : Queue) → read_area cur ≡ some q → next' ≡ over (area_bytes (moved a.persisted.0 h.0 none q)) next) → next' ≡ over (area_bytes (moved q.persisted h.0 none q)) next
   told_none next m = m q e ∙ ap (λ v. over (area_bytes (moved v h.0 none q)) next) (sym w.persisted)
 
-  pub told_some : {tip : Id} (r : Id) (next : Bytes) {next' : Bytes} → r ≡ tip → MovedTo cur a a.persisted h true r next next' → next' ≡ over (area_bytes (moved q.persisted h.0 (some tip) q)) next
+  pub told_some : {tip : Id} (r : Id) (next : Bytes) {next' : Bytes} → r ≡ tip → MovedTo cur a a.persisted h (code.Some r) next next' → next' ≡ over (area_bytes (moved q.persisted h.0 (some tip) q)) next
   told_some {tip} r next z m = m q e ∙ ap (λ v. over (area_bytes (moved v h.0 (some r) q)) next) (sym w.persisted) ∙ ap (λ v. over (area_bytes (moved q.persisted h.0 (some v) q)) next) z
 
 pub be_four : {cur next next' : Bytes} {a : Area} {q : Queue} {r : ℕ} → AreaAs cur a q → Put next 0 (be_last 4 a.persisted.0) 4 r next' → Put next 0 (be_last 4 q.persisted) 4 r next'

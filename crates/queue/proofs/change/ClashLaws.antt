@@ -1,7 +1,9 @@
 -- The laws of lent ids in a table: their rows, bisection by id, the loops, and that it is the clash. Assumes nothing.
 use Rattle.std.specs.Prelude.{◌≡◌, refl, Bool, true, false, ◌||◌, List, [], ◌∷◌, ◌++◌, ℕ, ◌+◌, ◌-◌, ◌/◌, ◌≤◌, ◌<◌, ltb, eqb, length, take, get_or, set}
-use Rattle.std.proofs.Common.{ap, sym, ◌∙◌, arith, add-one, take-suc-set, ltb-true, ltb-false}
+use Rattle.std.specs.List.Sorted.{IsPartitionPoint, IsPartitionedBy}
+use Rattle.std.proofs.Common.{ap, sym, ◌∙◌, arith, add-one, take-suc-set, ltb-true, ltb-false, eq-eqb, eqb-true}
 use Rattle.std.proofs.lemmas.Bool.{eqb-false}
+use Rattle.std.proofs.lemmas.List.{get_or_default}
 use Rattle.queue.specs.Basics.{any_count, any_append, or_more, any_same}
 use Rattle.queue.specs.Codec.{cases}
 use Rattle.queue.specs.bytes.Parts.{part}
@@ -9,16 +11,16 @@ use Rattle.queue.specs.bytes.OrderLaws.{cmp_self, same_is, same_sym}
 use Rattle.queue.specs.layout.FrameCodec.{rec_c, id_c}
 use Rattle.queue.specs.layout.FormsCodec.{form_c, after_in_value}
 use Rattle.queue.specs.bytes.ViewAs.{view}
-use Rattle.queue.specs.bytes.ReaderAs.{Reads, list_at}
+use Rattle.queue.specs.bytes.ReaderAs.{Found, list_at}
 use Rattle.queue.specs.check.SuspectsAs.{id_r, up_to, Shuffled, InOrder}
-use Rattle.queue.specs.change.ClashAs.{row_has, RowsOf, CutId, any_of, list_of, MeetsIs, meets_ids, clashes}
+use Rattle.queue.specs.change.ClashAs.{row_has, below_row, RowsOf, CutId, any_of, list_of, MeetsIs, meets_ids, clashes}
 use Rattle.queue.specs.change.TouchAs.{SeenHere}
 use Rattle.queue.specs.paper.Records.{Bytes, Id, Rec}
 use Rattle.queue.specs.paper.Ids.{cmp_l, same?}
 use Rattle.queue.specs.paper.Lists.{one, any?}
 use Rattle.queue.specs.paper.Sound.{among?}
 use Rattle.queue.specs.declared.layout.frame.Seen.{Seen}
-use Rattle.queue.proofs.layout.TurnLaws.{Scan, here, on, stop, end, ReadsRec, seen, see}
+use Rattle.queue.proofs.layout.TurnLaws.{Scan, here, on, stop, end, FoundRec, seen, see}
 use Rattle.queue.proofs.check.SuspectsRowLaws.{id_short, id_long, up_by, lower_trans, rising, any_none, any_some}
 
 -- ---- a row's id and an id
@@ -47,30 +49,18 @@ module _ (t : Bytes) where
   low_other x z h = same_sym z (id_r false t x) ∙ rw h
 
 module _ (t : Bytes) (v : List ℕ) (z : Id) where
-  pub id_start : CutId t v z 0 (length v)
-  id_start = record { up = omega arith; within = omega arith; low = λ i h. absurd (let e : ⊥ = omega arith in e); high = λ i h k. absurd (let e : ⊥ = omega arith in e) }
+  -- those with a lower id come before the others
+  pub id_parted : InOrder false t v → IsPartitionedBy (below_row t z) v
+  id_parted o i j d h l k =
+      let a = get_or_default v i d 0 (omega arith) in
+      let b = get_or_default v j d 0 l in
+      let e : cmp_l (id_r false t (get_or v j 0)) z ≡ 0 = eqb-true _ 0 (rw b at k) in
+      rw a (eq-eqb _ 0 (up_low t (get_or v i 0) (get_or v j 0) z (rising false t v o i j h l) e))
 
-  module _ {lo hi : ℕ} (o : InOrder false t v) (c : CutId t v z lo hi) (m : ℕ) (a : lo ≤ m) (b : m < hi) {r : ℕ} (e : r ≡ cmp_l (id_r false t (get_or v m 0)) z) where
-    pub id_low : r ≡ 0 → CutId t v z (m + 1) hi
-    id_low f = record {
-      up = omega arith;
-      within = c.within;
-      low = λ i h. up_low t (get_or v i 0) (get_or v m 0) z (rising false t v o i m (omega arith) (omega (arith, c.within))) (sym e ∙ f);
-      high = c.high;
-    }
+  pub id_cut : {n : ℕ} → n ≤ length v → IsPartitionPoint (λ x. below_row t z x ≡ true) (λ x. below_row t z x ≡ false) v n → CutId t v z n
+  id_cut h p = record { within = h; low = λ i k. eqb-true _ 0 (p.0 i 0 (omega arith) k); high = λ i k l. eqb-false _ 0 (p.1 i 0 k l) }
 
-    pub id_high : (r ≡ 0 → ⊥) → CutId t v z lo m
-    id_high f = record {
-      up = a;
-      within = omega (arith, c.within);
-      low = c.low;
-      high = λ i h k g. f (e ∙ up_low t (get_or v m 0) (get_or v i 0) z (rising false t v o m i h k) g);
-    }
-
-  pub id_end : {lo hi : ℕ} → CutId t v z lo hi → hi ≤ lo → CutId t v z lo lo
-  id_end {lo} {hi} c h = let k = c.up in let e : hi ≡ lo = omega arith in rw e at c
-
-  module _ {b : ℕ} (o : InOrder false t v) (c : CutId t v z b b) where
+  module _ {b : ℕ} (o : InOrder false t v) (c : CutId t v z b) where
     pub has_none : length v ≤ b → false ≡ any? (row_has t z) v
     has_none h = sym (any_none (row_has t z) v (λ i k. low_other t (get_or v i 0) z (c.low i (omega arith))))
 
@@ -98,7 +88,7 @@ unfoldable pub rows_f : Bytes → Id → List ℕ → List Id → Bool
 rows_f t z v l = any? (row_has t z) v || among? z l
 
 module _ (t : Bytes) {n i left : ℕ} {w : List ℕ} (x : (z : Id) → Scan id_c (rows_f t z) (view false t 0) n 0 [] i left w) where
-  pub rows_go : (k : ℕ) {next : ℕ} {ok : Bool} {y : Id} {w' : List ℕ} → 0 < left → Reads id_c (view false t 0) i ok next (λ a. a ≡ y) → id_r false t k ≡ y → w' ≡ w ++ (k ∷ []) → (z : Id) → Scan id_c (rows_f t z) (view false t 0) n 0 [] next (left - 1) w'
+  pub rows_go : (k : ℕ) {next : ℕ} {y : Id} {w' : List ℕ} → 0 < left → Found id_c (view false t 0) i next (λ a. a ≡ y) → id_r false t k ≡ y → w' ≡ w ++ (k ∷ []) → (z : Id) → Scan id_c (rows_f t z) (view false t 0) n 0 [] next (left - 1) w'
   unfolding rows_f row_has
   rows_go k {next} {y = y} {w'} h r e f z =
       let u = here (x z) h r in
@@ -123,7 +113,7 @@ unfoldable pub any_f : List Id → Unit {0} → List Id → Bool
 any_f ids u l = any_of ids l
 
 module _ (ids : List Id) {v : Bytes} {n at i left : ℕ} (x : Scan id_c (any_f ids) v n at tt i left tt) where
-  module _ {next : ℕ} {ok b : Bool} {y : Id} (h : 0 < left) (r : Reads id_c v i ok next (λ w. w ≡ y)) (e : b ≡ among? y ids) where
+  module _ {next : ℕ} {b : Bool} {y : Id} (h : 0 < left) (r : Found id_c v i next (λ w. w ≡ y)) (e : b ≡ among? y ids) where
     pub any_go : b ≡ false → Scan id_c (any_f ids) v n at tt next (left - 1) tt
     unfolding any_f any_of
     any_go f = let t = here x h r in on x tt h t (rw (t.is, ← e, f))
@@ -148,7 +138,7 @@ unfoldable pub meet_f : Bool → List Id → Unit {0} → List Rec → Bool
 meet_f read ids u l = meets_ids read ids l
 
 module _ (read : Bool) (ids : List Id) {s : Bytes} {n at i left : ℕ} (x : Scan (form_c false rec_c) (meet_f read ids) s n at tt i left tt) where
-  module _ {m : ℕ} {ok : Bool} {y : Seen} (h : 0 < left) (r : ReadsRec false s i ok m y) where
+  module _ {m : ℕ} {y : Seen} (h : 0 < left) (r : FoundRec false s i m y) where
     pub meet_seen : SeenHere s i y
     meet_seen = let t = seen false x h r in (t.item, (t.is.0, t.is.1.fine))
 

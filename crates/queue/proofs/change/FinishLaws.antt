@@ -1,13 +1,13 @@
 -- Finishing and forgetting: what stays, by the floor, and the loop that counts. Assumes nothing.
-use Rattle.std.specs.Prelude.{◌≡◌, refl, Bool, true, false, cond, ◌&&◌, ◌||◌, ◌⊎◌, List, [], ◌∷◌, ◌++◌, ℕ, ◌+◌, ◌-◌, ◌≤◌, ◌<◌, ltb, leb, length, drop}
+use Rattle.std.specs.Prelude.{◌≡◌, refl, Bool, true, false, cond, ◌||◌, ◌⊎◌, List, [], ◌∷◌, ◌++◌, ℕ, ◌+◌, ◌-◌, ◌≤◌, ◌<◌, ltb, leb, length, drop}
 use Rattle.std.proofs.Common.{ap, sym, ◌∙◌, ⊎_elim, arith, zero-add, drop-drop, drop_at, lt-ltb, le-ltb, ltb-true, ltb-false, le-leb}
 use Rattle.std.proofs.Math.Option.{Option, none, some}
 use Rattle.queue.specs.Codec.{cases, All, pair_c, map_c, vec_c}
 use Rattle.queue.specs.layout.FrameCodec.{id_c, rec_k, rec_c}
 use Rattle.queue.specs.bytes.ReaderAs.{list_at}
 use Rattle.queue.specs.layout.FormsCodec.{form_c, after_in_value}
-use Rattle.queue.specs.layout.FrameAs.{facts_of, SeenAs}
-use Rattle.queue.specs.check.RulesAs.{weight, sum, due_f, above_f}
+use Rattle.queue.specs.layout.FrameAs.{times, heights, facts_of, SeenAs}
+use Rattle.queue.specs.check.RulesAs.{time_due, height_due, weight, sum, due_f, above_f}
 use Rattle.queue.specs.paper.Records.{Bytes, Id, Rec}
 use Rattle.queue.specs.paper.Lists.{one, count, filter}
 use Rattle.queue.specs.paper.Sound.{holder?, tombstones}
@@ -18,18 +18,22 @@ use Rattle.queue.specs.declared.layout.frame.Seen.{Seen}
 use Rattle.queue.specs.declared.check.rules.Query.TheVariants.{Tombstones}
 use Rattle.queue.specs.declared.change.finish.Change.{Change}
 use Rattle.queue.specs.declared.change.finish.Change.TheVariants.{Named, Due}
-use Rattle.queue.proofs.layout.TurnLaws.{Scan, on, end, SeenIn, ReadsRec, seen, see}
+use Rattle.queue.proofs.layout.TurnLaws.{Scan, on, end, SeenIn, FoundRec, seen, see}
 use Rattle.queue.specs.check.NumbersAs.{new_above_value, above}
 
 -- ---- a record that was read is picked as the record is
-reached_is : (o : Option ℕ) (n : ℕ) → reached? o n ≡ (Rattle.queue.specs.paper.Lists.is_some o && leb (Rattle.queue.specs.layout.FrameAs.opt_num o) n)
-reached_is none n = refl
-reached_is (some d) n = refl
+time_is : (o : Option ℕ) (n : ℕ) → time_due (times o) n ≡ reached? o n
+time_is none n = refl
+time_is (some d) n = refl
+
+height_is : (o : Option ℕ) (n : ℕ) → height_due (heights o) n ≡ reached? o n
+height_is none n = refl
+height_is (some d) n = refl
 
 pub picked_is : (c : Change) (id : Id) {v : Bytes} {x : Seen} {r : Rec} → SeenAs v x r → picked_s c id x ≡ picked c id r
 unfolding picked picked_s due_f due? facts_of
 picked_is Named id w = rw w.id
-picked_is (Due t h) id {v} {x} {r} w = ap (due_f t.0 h.0) w.facts ∙ rw (reached_is r.terms.due t.0, reached_is r.terms.due_height h.0)
+picked_is (Due t h) id {v} {x} {r} w = ap (due_f t.0 h.0) w.facts ∙ rw (time_is r.terms.due t.0, height_is r.terms.due_height h.0)
 
 -- ---- forgetting, by the floor
 filter_low : (keep low : Rec → Bool) (l : List Rec) → All (λ r. holder? r ≡ false → keep r ≡ low r) l → filter (λ r. holder? r || keep r) l ≡ filter (λ r. holder? r || low r) l
@@ -148,12 +152,12 @@ unfolding after_in_value
 raw_after s i n = refl
 
 module _ (c : Change) (id : Id) {s : Bytes} {n at i left acc : ℕ} (x : Scan (form_c false rec_c) (hits_from c id) s n at 0 i left acc) where
-  pub hits_next : {m : ℕ} {ok : Bool} {y : Seen} → 0 < left → ReadsRec false s i ok m y → i + m ≤ length s
+  pub hits_next : {m : ℕ} {y : Seen} → 0 < left → FoundRec false s i m y → i + m ≤ length s
   hits_next {m} p r = rw (raw_after s i m) (seen false x p r).within
 
-  pub hits_go : {m w : ℕ} {ok b : Bool} {y : Seen} → 0 < left → ReadsRec false s i ok m y → b ≡ picked_s c id y → w ≡ cond b 1 0 → Scan (form_c false rec_c) (hits_from c id) s n at 0 (i + m) (left - 1) (acc + w)
+  pub hits_go : {m w : ℕ} {b : Bool} {y : Seen} → 0 < left → FoundRec false s i m y → b ≡ picked_s c id y → w ≡ cond b 1 0 → Scan (form_c false rec_c) (hits_from c id) s n at 0 (i + m) (left - 1) (acc + w)
   unfolding hits_from
-  hits_go {m} {w} {ok} {b} {y} p r e f =
+  hits_go {m} {w} {b} {y} p r e f =
       let t = see false x p r (raw_after s i m) in
       let g : b ≡ picked c id t.item = e ∙ picked_is c id t.is.0 in
       on x (acc + w) p t (rw (f, g) (omega arith))
@@ -170,9 +174,9 @@ pub id_32 : (r : Rec) → rec_c.ok r → length r.id ≡ 32
 unfolding rec_k map_c pair_c id_c vec_c
 id_32 r h = h.1.0.1
 
-pub id_long : {s : Bytes} {i m : ℕ} {ok : Bool} {x : Seen} {r : Rec} → SeenIn false s i ok m x r → length x.id ≡ 32
+pub id_long : {s : Bytes} {i m : ℕ} {x : Seen} {r : Rec} → SeenIn false s i m x r → length x.id ≡ 32
 id_long {r = r} w = ap length w.0.id ∙ id_32 r w.1.fine
 
-pub raw_within : {s : Bytes} {i m : ℕ} {ok : Bool} {x : Seen} {r : Rec} → SeenIn false s i ok m x r → i + m ≤ length s
+pub raw_within : {s : Bytes} {i m : ℕ} {x : Seen} {r : Rec} → SeenIn false s i m x r → i + m ≤ length s
 unfolding after_in_value
 raw_within w = w.1.after

@@ -1,19 +1,31 @@
 -- What is lent to a reconciliation. Assumes nothing.
-use Rattle.std.specs.Prelude.{◌≡◌, refl, Bool, true, false, ◌&&◌, List, ◌∷◌, ℕ, zero, suc, ◌+◌, ◌-◌, ◌*◌, ◌/◌, ◌%◌, ◌≤◌, ◌<◌, leb, eqb, length, take, drop}
-use Rattle.std.proofs.Common.{ap, sym, ◌∙◌, arith, div-add-mod', take-take, drop-drop, eq-eqb, ne_eqb, eqb-true}
+use Rattle.queue.proofs.layout.RisingLaws.{is_among, not_among}
+use Rattle.queue.proofs.read.ReservedStandLaws.{order_is, order_rises, chunks_pieces, pieces_front}
+use Rattle.queue.specs.bytes.OrderLaws.{cmp_flip}
+use Rattle.queue.specs.paper.Sound.{among?}
+use Rattle.queue.specs.theorems.Plain.{ids_plain}
+use Rattle.queue.specs.bytes.ReaderAs.{whole, list_at, is_got, val_of}
+use Rattle.queue.specs.layout.FrameCodec.{id_c}
+use Rattle.queue.specs.Codec.{Got, fail, got, All, decs, vec_bwd, vec_c, cases}
+use Rattle.std.specs.Simd.{first_chunks}
+use Rattle.std.specs.List.Sorted.{IsBinarySearchResult, IsSearchInRange}
+use Rattle.std.specs.Cmp.Lexicographic.{slice_cmp}
+use Rattle.std.specs.Ordering.{nat_cmp, ordering_index}
+use Rattle.std.specs.Prelude.{◌≡◌, refl, Bool, true, false, ◌&&◌, List, ◌∷◌, ℕ, zero, suc, ◌+◌, ◌-◌, ◌*◌, ◌/◌, ◌%◌, ◌≤◌, ◌<◌, leb, eqb, length, take, drop, [], ◌++◌, ltb, get_or, Result, Ok, Err, is_ok}
+use Rattle.std.proofs.Common.{ap, sym, ◌∙◌, arith, div-add-mod', take-take, drop-drop, eq-eqb, ne_eqb, eqb-true, append_assoc, take_at, drop_at, length-append, length-take-le, ltb-true, ltb-false}
 use Rattle.queue.specs.Basics.{and_same}
 use Rattle.queue.specs.bytes.Parts.{part}
 use Rattle.queue.specs.Lists.{and_true}
 use Rattle.queue.specs.bytes.ViewAs.{view}
 use Rattle.queue.specs.bytes.ReaderLaws as readlaws
 use Rattle.queue.specs.bytes.ReaderLaws.{false_true}
-use Rattle.queue.specs.change.ReopenAs.{ids_at}
+use Rattle.queue.specs.change.ReopenAs.{ids_at, IdsIn}
 use Rattle.queue.specs.change.TouchAs.{entry_ids}
 use Rattle.queue.specs.change.LentAs.{EntriesAre, IdsAre, ReconcileAsked}
 use Rattle.queue.specs.paper.Records.{Bytes, Id}
-use Rattle.queue.specs.paper.Lists.{map}
+use Rattle.queue.specs.paper.Lists.{map, concat}
 use Rattle.queue.specs.paper.Ids.{cmp_l, below?, rise?}
-use Rattle.queue.specs.paper.Calls.{id?, whole?, flag?, items}
+use Rattle.queue.specs.paper.Calls.{id?, whole?, flag?, items, pieces}
 use Rattle.queue.proofs.change.AdmitExitLaws.{long_is, small_of}
 use Rattle.queue.proofs.change.ReopenLaws.{lent_whole, lent_in, lent_are}
 
@@ -118,3 +130,55 @@ asked tip flag t ids {n} {r} {u} {a} {b} {c} e f g l h i j =
           let z = eqb-true (length t % 68) 0 w.0 in
           record { long = eqb-true (length tip) 32 v.0; entries = record { all = omega arith; rise = w.1 }; applied = refl; rise = o.0; available = o.1 };
     }
+
+-- ---- lent ids as the library's rows
+ids_long : (l : List Id) → All id_c.ok l → length (concat l) ≡ 32 * length l
+unfolding id_c vec_c
+ids_long [] a = refl
+ids_long (i ∷ l) a = length-append i (concat l) ∙ omega (arith, a.0.1, ids_long l a.1)
+
+pieces_back : (l : List Id) (r : Bytes) → All id_c.ok l → pieces 32 (length l) (concat l ++ r) ≡ l
+unfolding id_c vec_c
+pieces_back [] r a = refl
+pieces_back (i ∷ l) r a =
+    let e = append_assoc i (concat l) r in
+    rw e (two (take_at i (concat l ++ r) 32 a.0.1) (ap (pieces 32 (length l)) (drop_at i (concat l ++ r) 32 a.0.1) ∙ pieces_back l r a.1))
+  where
+    two : {x y : Id} {m n : List Id} → x ≡ y → m ≡ n → x ∷ m ≡ y ∷ n
+    two e f = cc
+
+module _ (t : Bytes) (k : ℕ) (w : IdsIn t k) where
+  ids_rows : (ids_at t k ≡ pieces 32 k t) × (32 * k ≤ length t)
+  unfolding whole list_at view
+  ids_rows = go (decs id_c k t) refl w
+    where
+      go : (o : Got (List Id)) → decs id_c k t ≡ o → is_got o ≡ true → (val_of o ≡ pieces 32 k t) × (32 * k ≤ length t)
+      go fail p h = false_true h
+      go (got l r) p h =
+          let u = vec_bwd id_c k t l r p in
+          let e : t ≡ concat l ++ r = u.0 ∙ ap (λ (s : Bytes). s ++ r) (ids_plain l) in
+          (sym (ap (λ n. pieces 32 n t) (sym u.1.1) ∙ ap (pieces 32 (length l)) e ∙ pieces_back l r u.1.0), omega (arith, ap length e, length-append (concat l) r, ids_long l u.1.0, u.1.1))
+
+  pub rows_room : 32 * k ≤ length t
+  rows_room = ids_rows.1
+
+  pub rows_are : first_chunks 32 (length (take (32 * k) t) / 32) (take (32 * k) t) ≡ ids_at t k
+  rows_are =
+      let n : length (take (32 * k) t) / 32 ≡ k = let l = length-take-le (32 * k) t ids_rows.1 in omega arith in
+      rw n (chunks_pieces k (take (32 * k) t) ∙ pieces_front k t ∙ sym ids_rows.0)
+
+-- the library's search says whether the id is among them
+module _ (z : Id) (l : List Id) (r : rise? l ≡ true) where
+  pub found_among : (x : Result ℕ ℕ) {b : Bool} {n : ℕ} → b ≡ is_ok x → n ≡ length l → IsSearchInRange x n → IsBinarySearchResult (λ y. slice_cmp nat_cmp y z) l x → b ≡ among? z l
+  found_among (Ok i) e m s h =
+      let q : cmp_l (get_or l i []) z ≡ 1 = sym (order_is (get_or l i []) z) ∙ ap ordering_index (h []) in
+      e ∙ is_among z l i (omega arith) (let f = (cmp_flip (get_or l i []) z).0 in omega arith)
+  found_among (Err i) e m s h =
+      let p = h (order_rises z l r) in
+      e ∙ not_among z l (λ j k c. cases (ltb j i)
+      (λ t.
+      let q : cmp_l (get_or l j []) z ≡ 0 = sym (order_is (get_or l j []) z) ∙ ap ordering_index (p.0 j [] (omega arith) (ltb-true j i t)) in
+      let f = (cmp_flip (get_or l j []) z).0 in omega arith)
+      (λ t.
+      let q : cmp_l (get_or l j []) z ≡ 2 = sym (order_is (get_or l j []) z) ∙ ap ordering_index (p.1 j [] (ltb-false j i t) k) in
+      let f = (cmp_flip (get_or l j []) z).0 in omega arith))

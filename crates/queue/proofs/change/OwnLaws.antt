@@ -9,7 +9,7 @@ use Rattle.queue.specs.layout.FrameCodec.{rec_c, id_c}
 use Rattle.queue.specs.layout.FormsCodec.{form_c, after_in_value}
 use Rattle.queue.specs.bytes.ViewAs.{view}
 use Rattle.queue.specs.bytes.Parts.{part}
-use Rattle.queue.specs.bytes.ReaderAs.{Reads, whole, list_at}
+use Rattle.queue.specs.bytes.ReaderAs.{Found, whole, list_at}
 use Rattle.queue.specs.bytes.ReaderLaws.{Turn, none_left, false_true}
 use Rattle.queue.specs.layout.FrameAs.{facts_of, SeenAs}
 use Rattle.queue.specs.bytes.OrderLaws.{same_self, same_is}
@@ -23,7 +23,7 @@ use Rattle.queue.specs.paper.Ids.{same?}
 use Rattle.queue.specs.paper.Sound.{inputs, outputs, reads, wanted, among?}
 use Rattle.queue.specs.paper.Changing.{queued_outputs}
 use Rattle.queue.specs.declared.layout.frame.Seen.{Seen}
-use Rattle.queue.proofs.layout.TurnLaws.{Scan, start, here, on, end, SeenIn, ReadsRec, see}
+use Rattle.queue.proofs.layout.TurnLaws.{Scan, start, here, on, end, SeenIn, FoundRec, see}
 use Rattle.queue.proofs.check.ScanLaws.{nothing_f}
 use Rattle.queue.proofs.check.FilterLaws.{mark_size, mark_here, mark_old}
 use Rattle.queue.proofs.check.SuspectsLaws.{id_bytes, shuffled_any}
@@ -154,8 +154,8 @@ module _ (s : Bytes) (l : List Id) (t : List ℕ) where
   later_is w y e f z = rw (e, f) (cases (same? z y) (λ t. rw t) (λ t. rw t))
 
   module _ {b : Bytes} {n at : ℕ} {f₀ v₀ f v : List ℕ} {i left : ℕ} (x : Adding b n at f₀ v₀ f v i left) where
-    pub add_go : {next : ℕ} (w : ℕ) {ok : Bool} {y : Id} {f' v' : List ℕ} → 0 < left → Reads id_c b i ok next (λ a. a ≡ y) → id_r false s w ≡ part 32 b i → no_r w ≡ 1 → Taken s l t f v (λ z. later false s z 0 w) f' v' → Adding b n at f₀ v₀ f' v' next (left - 1)
-    add_go {next} w {ok} {y} h r e g k =
+    pub add_go : {next : ℕ} (w : ℕ) {y : Id} {f' v' : List ℕ} → 0 < left → Found id_c b i next (λ a. a ≡ y) → id_r false s w ≡ part 32 b i → no_r w ≡ 1 → Taken s l t f v (λ z. later false s z 0 w) f' v' → Adding b n at f₀ v₀ f' v' next (left - 1)
+    add_go {next} w {y} h r e g k =
         let u = here x.scan h r in
         let q = later_is w u.item (e ∙ (id_bytes u).0 ∙ sym u.is) g in
         record {
@@ -181,9 +181,9 @@ module _ (s : Bytes) (l : List Id) (t : List ℕ) where
   queuing n at f h w = record { scan = start (form_c false rec_c) _ s n at tt h w; on = λ all rest c. c }
 
   module _ {n at : ℕ} {f₀ f v : List ℕ} {i left : ℕ} (x : Queuing n at f₀ f v i left) where
-    pub queue_go : {m j : ℕ} {ok : Bool} {y : Seen} {f' v' : List ℕ} → 0 < left → ReadsRec false s i ok m y → j ≡ after_in_value false s i m → Taken s l t f v (λ z. eqb y.facts.state 0 && among? z (list_at id_c y.facts.outs (view false s i) y.outs)) f' v' → Queuing n at f₀ f' v' j (left - 1)
+    pub queue_go : {m j : ℕ} {y : Seen} {f' v' : List ℕ} → 0 < left → FoundRec false s i m y → j ≡ after_in_value false s i m → Taken s l t f v (λ z. eqb y.facts.state 0 && among? z (list_at id_c y.facts.outs (view false s i) y.outs)) f' v' → Queuing n at f₀ f' v' j (left - 1)
     unfolding facts_of out_f
-    queue_go {m} {j} {ok} {y} h r g k' =
+    queue_go {m} {j} {y} h r g k' =
         let u = see false x.scan h r g in
         let w = u.is.0 in
         record {
@@ -259,9 +259,9 @@ unfoldable pub mark_f : (Id → Bool) → List ℕ × ℕ → List Id → List �
 mark_f p st l = mark_all_value p l st.0 st.1
 
 module _ (p : Id → Bool) {v : Bytes} {n at i left g : ℕ} {f f₀ : List ℕ} {g₀ : ℕ} (x : Scan id_c (mark_f p) v n at (f₀, g₀) i left (f, g)) where
-  pub mark_go : (k : Bool) {next : ℕ} {ok : Bool} {y : Id} {f' : List ℕ} → 0 < left → Reads id_c v i ok next (λ a. a ≡ y) → k ≡ p y → f' ≡ cond k (set f g 1) f → Scan id_c (mark_f p) v n at (f₀, g₀) next (left - 1) (f', g + 1)
+  pub mark_go : (k : Bool) {next : ℕ} {y : Id} {f' : List ℕ} → 0 < left → Found id_c v i next (λ a. a ≡ y) → k ≡ p y → f' ≡ cond k (set f g 1) f → Scan id_c (mark_f p) v n at (f₀, g₀) next (left - 1) (f', g + 1)
   unfolding mark_f mark_all_value
-  mark_go k {next} {ok} {y} {f'} h r q e = let t = here x h r in on x (f', g + 1) h t (rw (t.is, e, q))
+  mark_go k {next} {y} {f'} h r q e = let t = here x h r in on x (f', g + 1) h t (rw (t.is, e, q))
 
   pub mark_end : left ≡ 0 → f ≡ mark_all_value p (list_at id_c n v at) f₀ g₀
   unfolding mark_f mark_all_value
@@ -288,7 +288,7 @@ unfolding wanted_of
 wanted_cut r l = refl
 
 module _ (p : Id → Bool) {s : Bytes} {n at i left g : ℕ} {f f₀ : List ℕ} (x : Scan (form_c false rec_c) (mark_r p) s n at (f₀, 0) i left (f, g)) where
-  module _ (h : 0 < left) {m : ℕ} {ok : Bool} {y : Seen} (r : ReadsRec false s i ok m y) where
+  module _ (h : 0 < left) {m : ℕ} {y : Seen} (r : FoundRec false s i m y) where
     pub marks_room : {j : ℕ} → j ≡ after_in_value false s i m → length (wanted_of (list_at (form_c false rec_c) left s i)) ≡ y.facts.ins + y.facts.reads + length (wanted_of (list_at (form_c false rec_c) (left - 1) s j))
     marks_room {j} q =
         let t = see false x h r q in
@@ -317,9 +317,9 @@ unfoldable pub miss_f : (Id → Bool) → List ℕ → List Id → List ℕ
 miss_f p t l = miss_all p l t
 
 module _ (p : Id → Bool) {v : Bytes} {n at i left : ℕ} {t t₀ : List ℕ} (x : Scan id_c (miss_f p) v n at t₀ i left t) where
-  pub miss_go : (k : Bool) {next : ℕ} {ok : Bool} {y : Id} {t' : List ℕ} → 0 < left → Reads id_c v i ok next (λ a. a ≡ y) → k ≡ p y → t' ≡ cond k t (mark_l t (hash_l y)) → Scan id_c (miss_f p) v n at t₀ next (left - 1) t'
+  pub miss_go : (k : Bool) {next : ℕ} {y : Id} {t' : List ℕ} → 0 < left → Found id_c v i next (λ a. a ≡ y) → k ≡ p y → t' ≡ cond k t (mark_l t (hash_l y)) → Scan id_c (miss_f p) v n at t₀ next (left - 1) t'
   unfolding miss_f miss_all
-  miss_go k {next} {ok} {y} {t'} h r q e = let u = here x h r in on x t' h u (rw (u.is, e, q))
+  miss_go k {next} {y} {t'} h r q e = let u = here x h r in on x t' h u (rw (u.is, e, q))
 
   pub miss_end : left ≡ 0 → t ≡ miss_all p (list_at id_c n v at) t₀
   unfolding miss_f miss_all
@@ -334,10 +334,10 @@ unfoldable pub miss_r : (Id → Bool) → List ℕ → List Rec → List ℕ
 miss_r p t l = miss_all p (wanted_of l) t
 
 module _ (p : Id → Bool) {s : Bytes} {n at i left : ℕ} {t t₀ : List ℕ} (x : Scan (form_c false rec_c) (miss_r p) s n at t₀ i left t) where
-  pub misses_go : {m j : ℕ} {ok : Bool} {y : Seen} {t' t'' : List ℕ} → 0 < left → ReadsRec false s i ok m y → j ≡ after_in_value false s i m → t' ≡ miss_all p (list_at id_c y.facts.ins (view false s i) y.at) t → t'' ≡ miss_all p (list_at id_c y.facts.reads (view false s i) y.reads) t'
+  pub misses_go : {m j : ℕ} {y : Seen} {t' t'' : List ℕ} → 0 < left → FoundRec false s i m y → j ≡ after_in_value false s i m → t' ≡ miss_all p (list_at id_c y.facts.ins (view false s i) y.at) t → t'' ≡ miss_all p (list_at id_c y.facts.reads (view false s i) y.reads) t'
       → Scan (form_c false rec_c) (miss_r p) s n at t₀ j (left - 1) t''
   unfolding miss_r
-  misses_go {m} {j} {ok} {y} {t'} {t''} h r q e d =
+  misses_go {m} {j} {y} {t'} {t''} h r q e d =
       let u = see false x h r q in
       let l = list_at (form_c false rec_c) (left - 1) s j in
       let both : t'' ≡ miss_all p (wanted u.item.body) t = d ∙ ap (miss_all p (list_at id_c y.facts.reads (view false s i) y.reads)) e ∙ sym (miss_append p (list_at id_c y.facts.ins (view false s i) y.at) (list_at id_c y.facts.reads (view false s i) y.reads) t) ∙ ap (λ k. miss_all p k t) (wanted_is u.is.0) in
@@ -346,11 +346,6 @@ module _ (p : Id → Bool) {s : Bytes} {n at i left : ℕ} {t t₀ : List ℕ} (
   pub misses_end : left ≡ 0 → t ≡ miss_all p (wanted_of (list_at (form_c false rec_c) n s at)) t₀
   unfolding miss_r miss_all wanted_of
   misses_end e = end x e
-
-pub miss_size : (p : Id → Bool) (l : List Id) (t : List ℕ) → length (miss_all p l t) ≡ length t
-unfolding miss_all
-miss_size p [] t = refl
-miss_size p (z ∷ l) t = miss_size p l (cond (p z) t (mark_l t (hash_l z))) ∙ cases (p z) (λ k. rw k) (λ k. rw k (mark_size t (hash_l z)))
 
 miss_old : (p : Id → Bool) (l : List Id) (t : List ℕ) → 0 < length t → (h : ℕ) → marked t h ≡ true → marked (miss_all p l t) h ≡ true
 unfolding miss_all
@@ -376,9 +371,9 @@ unfoldable pub wanted_from : ℕ → List Rec → ℕ
 wanted_from acc l = acc + length (wanted_of l)
 
 module _ {s : Bytes} {n at i left acc : ℕ} (x : Scan (form_c false rec_c) wanted_from s n at 0 i left acc) where
-  pub wanted_go : {m j : ℕ} {ok : Bool} {y : Seen} → 0 < left → ReadsRec false s i ok m y → j ≡ after_in_value false s i m → Scan (form_c false rec_c) wanted_from s n at 0 j (left - 1) (acc + (y.facts.ins + y.facts.reads))
+  pub wanted_go : {m j : ℕ} {y : Seen} → 0 < left → FoundRec false s i m y → j ≡ after_in_value false s i m → Scan (form_c false rec_c) wanted_from s n at 0 j (left - 1) (acc + (y.facts.ins + y.facts.reads))
   unfolding wanted_from
-  wanted_go {m} {j} {ok} {y} h r g =
+  wanted_go {m} {j} {y} h r g =
       let t = see false x h r g in
       let l = list_at (form_c false rec_c) (left - 1) s j in
       on x (acc + (y.facts.ins + y.facts.reads)) h t (let a = ap length (wanted_cut t.item l) in let b = length-append (wanted t.item.body) (wanted_of l) in let c = wants_long t.is.0 in omega arith)
@@ -420,7 +415,6 @@ module _ (c : Id → Bool) (b : List Id) where
 pub noted : (ids : List Id) (l : List Id) (f₀ f t₀ t : List ℕ) → Fits (length l) f → 0 < length t₀ → FlagsAre (λ z. false) l f₀ → bits_in f ≡ mark_all_value (λ z. among? z ids) l f₀ 0 → t ≡ miss_all (λ z. among? z ids) l t₀ → Noted (λ z. among? z ids) l f t
 noted ids l f₀ f t₀ t r n z e d = record {
   room = r;
-  some = rw (d, miss_size (λ z. among? z ids) l t₀) n;
   are = later_flags (λ z. among? z ids) f₀ l (λ z. false) z e;
   new = λ y i h. rw d (miss_new (λ z. among? z ids) l t₀ n y i h);
 }
@@ -428,9 +422,9 @@ noted ids l f₀ f t₀ t r n z e d = record {
 pub flags_from : (own : List Id) (l : List Id) (flags : List ℕ) → FlagsAre (λ z. among? z own) l flags → FlagsFrom own l flags 0
 flags_from own l flags g = record { up = omega arith; are = g }
 
-module _ (own : List Id) (flags : List ℕ) (g : ℕ) (quick : Bool) {s : Bytes} {n at i left : ℕ} (x : Scan (form_c false rec_c) nothing_f s n at tt i left tt) (q : quick ≡ true → FlagsFrom own (wanted_of (list_at (form_c false rec_c) left s i)) flags g) (h : 0 < left) {m : ℕ} {ok : Bool} {y : Seen} (r : ReadsRec false s i ok m y) where
+module _ (own : List Id) (flags : List ℕ) (g : ℕ) (quick : Bool) {s : Bytes} {n at i left : ℕ} (x : Scan (form_c false rec_c) nothing_f s n at tt i left tt) (q : quick ≡ true → FlagsFrom own (wanted_of (list_at (form_c false rec_c) left s i)) flags g) (h : 0 < left) {m : ℕ} {y : Seen} (r : FoundRec false s i m y) where
   module _ {j : ℕ} (e : j ≡ after_in_value false s i m) (t : quick ≡ true) where
-    its : Turn (form_c false rec_c) s left i j (SeenIn false s i ok m y)
+    its : Turn (form_c false rec_c) s left i j (SeenIn false s i m y)
     its = see false x h r e
 
     cut_here : (all? set? (take (y.facts.ins + y.facts.reads) (drop g flags)) ≡ all? (λ z. among? z own) (wanted its.item.body)) × FlagsAre (λ z. among? z own) (wanted_of (list_at (form_c false rec_c) (left - 1) s j)) (drop (y.facts.ins + y.facts.reads) (drop g flags)) × (y.facts.ins + y.facts.reads ≤ length (drop g flags))

@@ -1,3 +1,4 @@
+use Rattle.queue.specs.bytes.ViewAs.{view}
 -- The rows of a plan: in one number, gathered over the records, and applied. Assumes nothing.
 use Rattle.std.specs.Prelude.{◌≡◌, refl, Bool, true, false, cond, not, ◌&&◌, ◌||◌, List, [], ◌∷◌, ◌++◌, ℕ, ◌+◌, ◌-◌, ◌*◌, ◌/◌, ◌%◌, ◌^◌, ◌≤◌, ◌<◌, leb, eqb, length, take, get_or, set}
 use Rattle.std.proofs.Common.{ap, sym, ◌∙◌, ⊎_elim, inl, inr, append_assoc, append-nil, arith, add-one, length-append, length-set, take-suc-set, eq-eqb, ne_eqb, eqb-true}
@@ -6,14 +7,17 @@ use Rattle.queue.specs.check.AreaAs.{AreaIn}
 use Rattle.queue.specs.Codec.{All, cases, encs}
 use Rattle.queue.specs.Lists.{and_true}
 use Rattle.queue.specs.layout.FrameCodec.{rec_c}
-use Rattle.queue.specs.bytes.ReaderAs.{whole, list_at}
+use Rattle.queue.specs.bytes.ReaderAs.{whole, list_at, reads?}
 use Rattle.queue.specs.bytes.ReaderLaws.{Turn, none_left}
-use Rattle.queue.specs.layout.FormsCodec.{form_c, turn_in}
+use Rattle.queue.specs.layout.FormsCodec.{form_c, turn_in, stands_in}
 use Rattle.queue.specs.layout.FrameAs.{facts_of}
 use Rattle.queue.specs.theorems.Plain.{rec_plain}
 use Rattle.queue.specs.read.FindAs.{recs_in}
 use Rattle.queue.specs.change.TouchAs.{as_touched, verdict_of_value}
 use Rattle.queue.specs.change.RanksAs.{numbered}
+use Rattle.queue.specs.change.VerdictAs.{verdict_code}
+use Rattle.queue.specs.declared.change.verdict.Verdict.{Verdict}
+use Rattle.queue.specs.declared.change.verdict.Verdict.TheVariants.{Forgotten}
 use Rattle.queue.specs.change.PlanAs.{row_of, Packs, idle?, RowAdded, state_f, reason_f, state_n, reason_n, mark_n, place_after, becomes, number_n, verdict_in_value, made, RowFit, edited, RowsAt, row_made, RowFits, Planned, stay_f}
 use Rattle.queue.specs.paper.Records.{Bytes, Rec}
 use Rattle.queue.specs.paper.Lists.{maybe}
@@ -22,19 +26,19 @@ use Rattle.queue.specs.paper.Changing.{confirm, finished, reopened}
 use Rattle.queue.specs.declared.check.area.Area.{Area}
 use Rattle.queue.specs.declared.layout.frame.Seen.{Seen}
 use Rattle.queue.specs.declared.layout.frame.Facts.{Facts}
-use Rattle.queue.specs.declared.change.plan.Row.{Row}
-use Rattle.queue.specs.declared.change.touch.Verdict.{Verdict}
-use Rattle.queue.proofs.layout.TurnLaws.{SeenIn, ReadsRec}
+use Rattle.queue.specs.change.PlanAs.{RowNumbers}
+use Rattle.queue.specs.change.TouchAs.{VerdictNumbers}
+use Rattle.queue.proofs.layout.TurnLaws.{SeenIn, FoundRec}
 use Rattle.queue.proofs.change.FinishLaws.{raw_after}
 
 -- ---- a row in one number
-abbrev pub row : ℕ → ℕ → ℕ → ℕ → Row
+abbrev pub row : ℕ → ℕ → ℕ → ℕ → RowNumbers
 row place index rank what = record { place = place; index = index; rank = rank; what = what }
 
 four : {a a' b b' c c' d d' : ℕ} → a ≡ a' → b ≡ b' → c ≡ c' → d ≡ d' → row a b c d ≡ row a' b' c' d'
 four e f g h = rw (e, f, g, h)
 
-pub row_packs : (x : Row) {w : ℕ} → Packs x → w ≡ ((x.place * 4096 + x.index) * 4096 + x.rank) * 8 + x.what → row_of w ≡ x
+pub row_packs : (x : RowNumbers) {w : ℕ} → Packs x → w ≡ ((x.place * 4096 + x.index) * 4096 + x.rank) * 8 + x.what → row_of w ≡ x
 unfolding row_of
 row_packs x {w} p e =
     let i = p.index in let r = p.rank in let h = p.what in
@@ -44,11 +48,11 @@ row_packs x {w} p e =
     let d : w % 8 ≡ x.what = omega arith in
     four a b c d
 
-pub row_idle : {x : Row} (w : ℕ) {k : ℕ} {d : List ℕ} {b : Bool} → row_of w ≡ x → b ≡ (eqb x.what 0 && eqb x.rank 0) → b ≡ true → RowAdded x k d k d
+pub row_idle : {x : RowNumbers} (w : ℕ) {k : ℕ} {d : List ℕ} {b : Bool} → row_of w ≡ x → b ≡ (eqb x.what 0 && eqb x.rank 0) → b ≡ true → RowAdded x k d k d
 unfolding idle?
 row_idle {x} w {k} {d} e f t = record { w = w; is = e; rows = rw (← f, t) (sym (append-nil (take k d))); most = omega arith; long = refl }
 
-pub row_more : {x : Row} (w : ℕ) {k : ℕ} {d : List ℕ} {b : Bool} → row_of w ≡ x → b ≡ (eqb x.what 0 && eqb x.rank 0) → b ≡ false → k < length d → RowAdded x k d (k + 1) (set d k w)
+pub row_more : {x : RowNumbers} (w : ℕ) {k : ℕ} {d : List ℕ} {b : Bool} → row_of w ≡ x → b ≡ (eqb x.what 0 && eqb x.rank 0) → b ≡ false → k < length d → RowAdded x k d (k + 1) (set d k w)
 unfolding idle?
 row_more {x} w {k} {d} e f t h = record { w = w; is = e; rows = rw (← f, t, add-one) (take-suc-set d k w h); most = omega arith; long = length-set d k w }
 
@@ -76,7 +80,7 @@ module _ (t : Bytes) (vs : List ℕ) (c place index : ℕ) (r : Rec) where
     made_expired = rw h
 
 -- after a reconciliation's verdict
-pub become_judged : (t : Bytes) (v : Verdict) (n : ℕ) (r : Rec) → v.what < 4 → becomes t v n r ≡ numbered n (maybe r (λ y. y) (as_touched t v r))
+pub become_judged : (t : Bytes) (v : VerdictNumbers) (n : ℕ) (r : Rec) → v.what < 4 → becomes t v n r ≡ numbered n (maybe r (λ y. y) (as_touched t v r))
 unfolding becomes state_n reason_n mark_n place_after facts_of numbered as_touched confirm finished
 become_judged t v n r h =
     let a : eqb v.what 4 ≡ false = ne_eqb v.what 4 (λ e. let y : ⊥ = omega arith in y) in
@@ -98,16 +102,17 @@ become_judged t v n r h =
     one_not a = let z = eqb-true v.what 0 a in ne_eqb v.what 1 (λ e. let y : ⊥ = omega arith in y)
 
 -- a row's verdict, as the record's own verdict has it
-pub verdict_read : (vs : List ℕ) (x : Row) → x.what ≡ 1 → get_or vs x.index 0 % 4 ≡ 1 → verdict_of_value (get_or vs x.index 0) ≡ verdict_in_value vs x
+pub verdict_read : (vs : List ℕ) (x : RowNumbers) → x.what ≡ 1 → get_or vs x.index 0 % 4 ≡ 1 → verdict_of_value (get_or vs x.index 0) ≡ verdict_in_value vs x
 unfolding verdict_of_value
 verdict_read vs x e z = two (z ∙ sym e) (ap (λ b. cond b (68 * (get_or vs x.index 0 / 4)) 0) (eq-eqb _ 1 z ∙ sym (eq-eqb x.what 1 e)))
   where
-    two : {a a' b b' : ℕ} → a ≡ a' → b ≡ b' → ◌≡◌ {A = Verdict} (record { what = a; at = b }) (record { what = a'; at = b' })
+    two : {a a' b b' : ℕ} → a ≡ a' → b ≡ b' → ◌≡◌ {A = VerdictNumbers} (record { what = a; at = b }) (record { what = a'; at = b' })
     two e f = rw (e, f)
 
 -- what becomes of a record, or it is forgotten
-pub fate_is : (b : Bool) {r w v : ℕ} → r ≡ cond b w 7 → w ≡ v → r ≡ cond b v 7
-fate_is b e f = e ∙ ap (λ k. cond b k 7) f
+pub fate_is : (b : Bool) (w : Verdict) {r : Verdict} {v : ℕ} → r ≡ cond b w Forgotten → verdict_code w ≡ v → verdict_code r ≡ cond b v 7
+fate_is true w e f = ap verdict_code e ∙ f
+fate_is false w e f = ap verdict_code e
 
 -- ---- numbers, and staying
 pub number_0 : (c r : ℕ) → r ≡ 0 → 0 ≡ number_n c r
@@ -256,8 +261,11 @@ visiting w = let st = w.read.store in record { within = omega (arith, st.up, st.
 pub visit_low : {s : Bytes} {a : Area} {i left : ℕ} → Visiting s a.open.start a.open.head.count i left → AreaIn s a → i < 4294967296
 visit_low g w = let st = w.read.store in omega (arith, g.ends, ap (λ l. length (encs rec_c l)) st.list, (recs_here w.read).1, st.up, w.read.fits, w.read.small)
 
-module _ {s : Bytes} {at n i left : ℕ} (g : Visiting s at n i left) {ok : Bool} {x : Seen} (p : 0 < left) (r : ReadsRec false s i ok x.size x) where
-  pub visit_turn : Turn (form_c false rec_c) s left i (i + x.size) (SeenIn false s i ok x.size x)
+pub visit_stands : {s : Bytes} {at n i left : ℕ} → Visiting s at n i left → 0 < left → reads? rec_c (view false s i) 0 ≡ true
+visit_stands {s} {left = left} g p = stands_in rec_c false s left g.within g.all p
+
+module _ {s : Bytes} {at n i left : ℕ} (g : Visiting s at n i left) {x : Seen} (p : 0 < left) (r : FoundRec false s i x.size x) where
+  pub visit_turn : Turn (form_c false rec_c) s left i (i + x.size) (SeenIn false s i x.size x)
   visit_turn = rw (raw_after s i x.size) (turn_in false left g.within g.all p r)
 
   visit_on : Visiting s at n (i + x.size) (left - 1)
@@ -274,14 +282,14 @@ module _ {s : Bytes} {at n i left : ℕ} (g : Visiting s at n i left) {ok : Bool
       }
 
 -- a row was put, or none was needed
-idle_made : (t : Bytes) (vs : List ℕ) (c : ℕ) (x : Row) (r : Rec) → idle? x ≡ true → made t vs c x r ≡ r ∷ []
+idle_made : (t : Bytes) (vs : List ℕ) (c : ℕ) (x : RowNumbers) (r : Rec) → idle? x ≡ true → made t vs c x r ≡ r ∷ []
 unfolding idle?
 idle_made t vs c x r e =
     let k = and_true (eqb x.what 0) (eqb x.rank 0) e in
     let y : x ≡ row x.place x.index 0 0 = four refl refl (eqb-true x.rank 0 k.1) (eqb-true x.what 0 k.0) in
     ap (λ z. made t vs c z r) y ∙ made_same t vs c x.place x.index r
 
-pub made_long : (t : Bytes) (vs : List ℕ) (c : ℕ) (x : Row) (r : Rec) → length (made t vs c x r) ≡ cond (not (eqb x.what 7)) 1 0
+pub made_long : (t : Bytes) (vs : List ℕ) (c : ℕ) (x : RowNumbers) (r : Rec) → length (made t vs c x r) ≡ cond (not (eqb x.what 7)) 1 0
 unfolding made
 made_long t vs c x r = cases (eqb x.what 7) (λ e. rw e) (λ e. rw e)
 
@@ -298,7 +306,7 @@ pub plan_loop : {s : Bytes} {a : Area} (c : ℕ) (t : Bytes) (vs : List ℕ) (al
 plan_loop {s} {a} c t vs all d w l = record { visit = visiting w; rows = omega arith; long = l; plan = planning (row_made c t vs) (RowFits c t vs) a.open.start (recs_in s a) all; count = omega arith; less = omega arith }
 
 module _ {s : Bytes} {at n c : ℕ} {t : Bytes} {vs : List ℕ} {all : List Rec} {d : List ℕ} {i left k many : ℕ} {rest : List Rec} (g : PlanLoop s at n c t vs all d i left k many rest) where
-  module _ {ok : Bool} {y : Seen} (p : 0 < left) (r : ReadsRec false s i ok y.size y) {x : Row} {k' m : ℕ} {d' : List ℕ} {rest' : List Rec} where
+  module _ {y : Seen} (p : 0 < left) (r : FoundRec false s i y.size y) {x : RowNumbers} {k' m : ℕ} {d' : List ℕ} {rest' : List Rec} where
     pub plan_next : RowAdded x k d k' d' → x.place ≡ i → RowFit t vs c x → rest ≡ made t vs c x (visit_turn g.visit p r).item ++ rest' → m ≡ cond (not (eqb x.what 7)) 1 0
         → PlanLoop s at n c t vs all d' (i + y.size) (left - 1) k' (many + m) rest'
     plan_next A e f h b =

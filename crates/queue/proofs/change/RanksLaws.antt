@@ -1,6 +1,10 @@
+use Rattle.queue.specs.bytes.OrderAs.{order_number}
+use Rattle.std.specs.declared.cmp.Ordering.{Ordering}
+use Rattle.std.specs.Ordering.{is_eq}
+use Rattle.queue.proofs.change.IdLaws.{alike}
 -- The rank of a released record, by rows in the order of their ids. Assumes nothing.
 use Rattle.std.specs.Prelude.{◌≡◌, refl, Bool, true, false, ◌&&◌, List, [], ◌∷◌, ℕ, zero, suc, ◌+◌, ◌≤◌, ◌<◌, ltb, eqb, length, get_or, set, take}
-use Rattle.std.proofs.Common.{ap, sym, ◌∙◌, arith, get_or-set_same, get_or-set_other, drop-drop, eq-eqb, ne_eqb, eqb-true, ltb-true, ltb-false, lt-ltb}
+use Rattle.std.proofs.Common.{ap, sym, ◌∙◌, arith, get_or-set_same, get_or-set_other, drop-drop, eq-eqb, eqb-true, ltb-true, ltb-false, lt-ltb}
 use Rattle.std.proofs.lemmas.Bool.{eqb-false}
 use Rattle.queue.specs.Basics.{any_at}
 use Rattle.queue.proofs.check.SuspectsLaws.{shuffled_any}
@@ -92,11 +96,14 @@ module _ (s : Bytes) (gone rows : List ℕ) (g : Ranked s gone rows) (y : ℕ) {
   pub rank_none : length rows ≤ b → 0 ≡ place_in z (map (id_at s) gone)
   rank_none h = sym (no_later (sym (look_none false s rows g.order c h)))
 
-  module _ (h : b < length rows) {r : ℕ} (e : r ≡ cmp_l (id_r false s y) (id_r false s (get_or rows b 0))) where
-    pub rank_other : (r ≡ 1 → ⊥) → 0 ≡ place_in z (map (id_at s) gone)
-    rank_other n = sym (no_later (sym (look_here false s rows g.order c h e) ∙ ne_eqb r 1 n))
+  module _ (h : b < length rows) (ord : Ordering) {same : Bool} (f : same ≡ is_eq ord) (e : order_number ord ≡ cmp_l (id_r false s y) (id_r false s (get_or rows b 0))) where
+    pub rank_other : same ≡ false → 0 ≡ place_in z (map (id_at s) gone)
+    rank_other n = sym (no_later (sym (look_here false s rows g.order c ord h f e) ∙ n))
 
-    module _ (t : r ≡ 1) where
+    module _ (yes : same ≡ true) where
+      t : order_number ord ≡ 1
+      t = eqb-true (order_number ord) 1 (sym (alike ord f refl) ∙ yes)
+
       row : ℕ
       row = get_or rows b 0
 

@@ -25,9 +25,9 @@ use Rattle.queue.specs.paper.Changing.{confirm, finished, one_past, place_in, re
 use Rattle.queue.specs.declared.check.area.Area.{Area}
 use Rattle.queue.specs.declared.layout.frame.Seen.{Seen}
 use Rattle.queue.specs.declared.layout.frame.Facts.{Facts}
-use Rattle.queue.specs.declared.change.plan.Row.{Row}
-use Rattle.queue.specs.declared.change.touch.Verdict.{Verdict}
-use Rattle.queue.proofs.layout.TurnLaws.{ReadsRec}
+use Rattle.queue.specs.change.PlanAs.{RowNumbers}
+use Rattle.queue.specs.change.TouchAs.{VerdictNumbers}
+use Rattle.queue.proofs.layout.TurnLaws.{FoundRec}
 use Rattle.queue.proofs.change.ReleaseLaws.{all_at}
 use Rattle.queue.proofs.change.PlanLaws.{row, become_judged, visit_turn, PlanLoop, plan_loop, plan_next, plan_close}
 
@@ -92,7 +92,7 @@ number_is c ids y = cases (eqb (place_in y.id ids) 0)
     (λ a. let z = eqb-false (place_in y.id ids) 0 a in let k : eqb (c + place_in y.id ids) 0 ≡ false = ne_eqb (c + place_in y.id ids) 0 (λ e. z (let u : place_in y.id ids ≡ 0 = omega arith in u)) in rw (a, k))
 
 -- ---- what a verdict leaves of a record
-module _ (t : Bytes) (v : Verdict) (r : Rec) where
+module _ (t : Bytes) (v : VerdictNumbers) (r : Rec) where
   abbrev after : Rec
   after = maybe r (λ y. y) (as_touched t v r)
 
@@ -117,7 +117,7 @@ module _ (t : Bytes) (v : Verdict) (r : Rec) where
 
 -- ---- the rows
 module _ (t : Bytes) (vs : List ℕ) (c floor i j rank : ℕ) (r : Rec) where
-  abbrev pub judged_row : Facts → Row
+  abbrev pub judged_row : Facts → RowNumbers
   judged_row f = row i j rank (cond (stay_f (number_n c rank) floor f) (get_or vs j 0 % 4) 7)
 
   judged_made : made t vs c (judged_row (facts_of r)) r ≡ cond (stay_f (number_n c rank) floor (facts_of r)) (numbered (number_n c rank) (maybe r (λ y. y) (as_touched t (verdict_of_value (get_or vs j 0)) r)) ∷ []) []
@@ -157,7 +157,7 @@ unfolding kept_l next_l
 judge_plan {s} {a} c t vs gone floor d w l = record { loop = plan_loop c t vs (kept_l s a.open.start a.open.head.count t vs gone c floor) d w l; index = omega arith }
 
 module _ {s : Bytes} {at n c : ℕ} {t : Bytes} {vs gone : List ℕ} {floor : ℕ} {d : List ℕ} {i left j k many : ℕ} (g : JudgePlan s at n c t vs gone floor d i left j k many) (N : length vs ≡ n) where
-  module _ {ok : Bool} {x : Seen} (p : 0 < left) (r : ReadsRec false s i ok x.size x) {rank what : ℕ} (er : rank ≡ place_in x.id (map (id_at s) gone)) (ew : what ≡ cond (stay_f (number_n c rank) floor x.facts) (get_or vs j 0 % 4) 7) where
+  module _ {x : Seen} (p : 0 < left) (r : FoundRec false s i x.size x) {rank what : ℕ} (er : rank ≡ place_in x.id (map (id_at s) gone)) (ew : what ≡ cond (stay_f (number_n c rank) floor x.facts) (get_or vs j 0 % 4) 7) where
     what_is : what ≡ cond (stay_f (number_n c rank) floor (facts_of (visit_turn g.loop.visit p r).item)) (get_or vs j 0 % 4) 7
     what_is = ew ∙ ap (λ f. cond (stay_f (number_n c rank) floor f) (get_or vs j 0 % 4) 7) (visit_turn g.loop.visit p r).is.0.facts
 

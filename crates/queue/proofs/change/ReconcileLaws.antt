@@ -1,4 +1,5 @@
 -- Reconciliation, exit by exit. Assumes nothing.
+use Rattle.std.specs.Prelude as code
 use Rattle.std.specs.Prelude.{◌≡◌, refl, Bool, true, false, cond, not, ◌||◌, ◌⊎◌, List, [], ◌∷◌, ℕ, ◌+◌, ◌-◌, ◌*◌, ◌/◌, ◌%◌, ◌^◌, ◌≤◌, ◌<◌, min, ltb, leb, eqb, length, take}
 use Rattle.std.proofs.Common.{ap, sym, ◌∙◌, arith, mod-lt, length-append, length-take, length-take-le, lt-ltb, le-ltb, ltb-false}
 use Rattle.std.proofs.Math.Option.{none, some}
@@ -18,20 +19,20 @@ use Rattle.queue.specs.layout.FormsCodec.{form_c, queue_c}
 use Rattle.queue.specs.Areas.{read_area}
 use Rattle.queue.specs.theorems.Bound.{fits_need}
 use Rattle.queue.specs.Lists.{Pairwise, sub_pairwise, and_true}
-use Rattle.queue.specs.bytes.ListLaws.{filter_sub, all_every, sort_all, map_length}
+use Rattle.queue.specs.bytes.ListLaws.{filter_sub, all_every, sort_all, map_length, sort_length}
 use Rattle.queue.specs.bytes.OrderLaws.{or_false}
 use Rattle.queue.specs.theorems.SoundParts.{Fit, fit_sound, fit_ok, Before}
 use Rattle.queue.specs.theorems.CallsKeeps.{Alike, alike_rising, leaves_kept, moved_fit}
 use Rattle.queue.specs.theorems.ReconcileKeeps.{touched_alike, reconcile_leaves, released_all, released}
-use Rattle.queue.specs.check.AreaAs.{limits, AreaIs, records_of, AreaIn}
+use Rattle.queue.specs.check.AreaAs.{limits, records_of, AreaIn}
 use Rattle.queue.specs.check.RulesAs.{sum}
 use Rattle.queue.specs.change.WriteAs.{MovedFrom, MovedTo}
 use Rattle.queue.specs.theorems.Arguments.{reconciling_ok}
 use Rattle.queue.specs.change.LentAs.{ReconcileAsked}
 use Rattle.queue.specs.change.ReopenAs.{ids_at}
-use Rattle.queue.specs.read.SelectAs.{Row, rows, Even, Table, ahead?, id_at, RecStands}
+use Rattle.queue.specs.read.SelectAs.{Row, row_of, ahead?, id_at}
 use Rattle.queue.specs.change.TouchAs.{applied_in, own_ids, InEntry, Judged, changed?, changes?}
-use Rattle.queue.specs.change.ReleaseAs.{next_r, next_v, next_l, mined_of, StandsAt, bytes_at, FallingRows, MinedRows, MinedGathered, walk_r, walk_c}
+use Rattle.queue.specs.change.ReleaseAs.{next_r, next_v, next_l, mined_of, StandsAt, bytes_at, FallingRows, MinedRows, MinedGathered, walk_r}
 use Rattle.queue.specs.change.RanksAs.{kept_of, kept_l, kept_in}
 use Rattle.queue.specs.change.PlanAs.{planned_q, PlanFor, Planned}
 use Rattle.queue.specs.theorems.Decided.{decided_number}
@@ -45,9 +46,9 @@ use Rattle.queue.specs.paper.Changing.{done, top, top_height, Applied, Reconcili
 use Rattle.queue.specs.Checked.{Outcome, outcome, told, reconcile_shape?, reconcile_of}
 use Rattle.queue.specs.paper.Calls.{released_bytes, ids_bytes, ReconcileArgs, reconcile_args, reconciliation}
 use Rattle.queue.specs.declared.Kind.TheVariants.{Memory, Whole, Cursor}
-use Rattle.queue.specs.declared.Answer.{Answer}
-use Rattle.queue.specs.declared.Answer.TheVariants.{Refused, Done}
+use Rattle.queue.specs.paper.Answer.{Answer, Refused, Done}
 use Rattle.queue.specs.declared.check.area.Area.{Area}
+use Rattle.queue.specs.declared.read.select.Ranked.{Ranked}
 use Rattle.queue.specs.declared.change.block.Block.{Block}
 use Rattle.queue.specs.declared.layout.frame.Height.{Height}
 use Rattle.queue.specs.declared.layout.head.Marks.{Marks}
@@ -56,25 +57,18 @@ use Rattle.queue.proofs.bytes.PutLaws.{then, recast, kept, over_splice}
 use Rattle.queue.proofs.bytes.PutByteLaws.{be_same}
 use Rattle.queue.proofs.change.WriteLaws.{one_queue, same_queue, the_limits}
 use Rattle.queue.proofs.read.ReadingLaws.{key}
-use Rattle.queue.proofs.read.SelectLaws.{rows_places, rows_take, even_to, ids_size}
-use Rattle.queue.proofs.change.ReleaseLaws.{sort_mined, mined_placed, walk_ids, walk_columns}
+use Rattle.queue.proofs.read.SelectLaws.{ids_size}
+use Rattle.queue.proofs.change.ReleaseLaws.{sort_mined, mined_placed, walk_ids}
 use Rattle.queue.proofs.change.TouchLaws.{judged_any, judged_long, judged_within}
 use Rattle.queue.proofs.change.ReconcileTrimLaws.{KeepsEach, PlacedOnce, releases_placed, trim_is}
 
 -- ---- rows in order, and walked
-all_places : (P : ℕ → Type 0) (z : List Row) → All (λ (w : Row). P w.1.1) z → All P (map (λ (w : Row). w.1.1) z)
-all_places P [] h = tt
-all_places P (w ∷ z) h = (h.0, all_places P z h.1)
+module _ (s : Bytes) (z z' : List Ranked) (x : map row_of z' ≡ sort ahead? (map row_of z)) where
+  pub rows_stand : All (StandsAt s) (map row_of z) → All (StandsAt s) (map row_of z')
+  rows_stand h = rw x (sort_all ahead? (StandsAt s) (map row_of z) h)
 
-module _ (s : Bytes) (a b c : List ℕ) {n : ℕ} (a' b' c' : List ℕ) (h : All (StandsAt s) (rows a b c)) (x : Table n a' b' c' (sort ahead? (rows a b c))) where
-  pub rows_stand : All (RecStands s) c'
-  rows_stand =
-      let e = x.even in
-      let u : All (StandsAt s) (rows a' b' c') = rw x.is (sort_all ahead? (StandsAt s) (rows a b c) h) in
-      rw (rows_places a' b' c' (e.times ∙ sym e.ranks) (e.places ∙ sym e.ranks)) at (all_places (RecStands s) (rows a' b' c') u)
-
-  pub rows_walk : (m : Limits) (height window : ℕ) {g : List ℕ} → g ≡ walk_c m height window s 0 0 a' c' → g ≡ walk_r m height window s 0 0 (sort ahead? (rows a b c))
-  rows_walk m height window f = let e = x.even in f ∙ walk_columns m height window s 0 0 a' b' c' (e.times ∙ sym e.ranks) (e.places ∙ sym e.ranks) ∙ ap (walk_r m height window s 0 0) x.is
+  pub rows_long : length z' ≡ length z
+  rows_long = sym (map_length row_of z') ∙ ap length x ∙ sort_length ahead? (map row_of z) ∙ map_length row_of z
 
 -- ---- the limits count only by P and B
 same_releases : (m m' : Limits) (height window seen bytes : ℕ) (l : List Rec) → m.P ≡ m'.P → m.B ≡ m'.B → releases m height window seen bytes l ≡ releases m' height window seen bytes l
@@ -170,41 +164,37 @@ module _ {s : Bytes} {a : Area} (w : AreaIn s a) {B : Block} {t ids : Bytes} (L 
       same_releases _ w.q.limits B.height.0 B.window 0 0 (sort newer? (mined_of s (records_of a.open) t vs)) (sym (head_p h)) (sym (head_b h))
       ∙ ap (λ l. releases w.q.limits B.height.0 B.window 0 0 (sort newer? l)) mined_is
 
-  module _ {n c : ℕ} {ra ti pl : List ℕ} (G : MinedGathered s n (mined_of s (records_of a.open) t vs) 2048 c ra ti pl) where
-    pub mined_even : Even c (take c ra) (take c ti) (take c pl)
-    mined_even = let e = G.even in let q = few_mined in record {
-      ranks = length-take-le c ra (omega (arith, G.all, e.ranks));
-      times = length-take-le c ti (omega (arith, G.all, e.times));
-      places = length-take-le c pl (omega (arith, G.all, e.places));
-    }
-
+  module _ {n c : ℕ} {z : List Ranked} (G : MinedGathered s n (mined_of s (records_of a.open) t vs) 2048 c z) where
     pub mined_few : c ≤ 2048
     mined_few = let q = few_mined in omega (arith, G.all)
+
+    pub mined_long : length (take c z) ≡ c
+    mined_long = length-take-le c z (omega (arith, mined_few, G.size))
 
     fall_stand : (b : ℕ) (z : List Row) (l : List Rec) → FallingRows s b z l → All (StandsAt s) z
     fall_stand b [] l h = tt
     fall_stand b (v ∷ z) [] h = absurd h
     fall_stand b (v ∷ z) (x ∷ l) h = (h.0.stands, fall_stand v.1.0 z l h.2)
 
-    pub mined_stands : All (StandsAt s) (rows (take c ra) (take c ti) (take c pl))
-    mined_stands = rw (rows_take c ra ti pl) (fall_stand (n + 1) (take c (rows ra ti pl)) _ G.listed)
+    pub mined_stands : All (StandsAt s) (map row_of (take c z))
+    mined_stands = fall_stand (n + 1) (map row_of (take c z)) _ G.listed
 
-    sorted : MinedRows s (sort ahead? (rows (take c ra) (take c ti) (take c pl))) (sort newer? (mined_of s (records_of a.open) t vs))
-    sorted = rw (rows_take c ra ti pl) (sort_mined s (n + 1) (take c (rows ra ti pl)) _ G.listed before_mined)
+    sorted : MinedRows s (sort ahead? (map row_of (take c z))) (sort newer? (mined_of s (records_of a.open) t vs))
+    sorted = sort_mined s (n + 1) (map row_of (take c z)) _ G.listed before_mined
 
-    pub gone_are : (r : ℕ) (gone : List ℕ) → r ≤ length (take c ra) → take r gone ≡ walk_r (limits a.open.head.limits.p a.open.head.limits.b 0 0) B.height.0 B.window s 0 0 (sort ahead? (rows (take c ra) (take c ti) (take c pl))) → (r ≤ 2048) × GoneAre s (asked B t ids) (take r gone)
+    pub gone_are : (r : ℕ) (gone : List ℕ) → r ≤ length (take c z) → take r gone ≡ walk_r (limits a.open.head.limits.p a.open.head.limits.b 0 0) B.height.0 B.window s 0 0 (sort ahead? (map row_of (take c z))) → (r ≤ 2048) × GoneAre s (asked B t ids) (take r gone)
     gone_are r gone h e =
-        let z : r ≤ 2048 = omega (arith, mined_even.ranks, mined_few) in (
-          z,
+        let k : r ≤ 2048 = omega (arith, mined_long, mined_few) in (
+          k,
           record {
             are = λ q x. ap (map (id_at s)) e ∙ walk_ids _ B.height.0 B.window s 0 0 _ _ sorted ∙ gone_is ∙ ap (to_release C) (one_queue s w.is x);
-            placed = rw e (walk_part (λ p. p + 33 ≤ length s) _ B.height.0 B.window s 0 0 _ (mined_placed s (sort ahead? (rows (take c ra) (take c ti) (take c pl))) (sort newer? (mined_of s (records_of a.open) t vs)) sorted));
+            placed = rw e (walk_part (λ p. p + 33 ≤ length s) _ B.height.0 B.window s 0 0 _ (mined_placed s (sort ahead? (map row_of (take c z))) (sort newer? (mined_of s (records_of a.open) t vs)) sorted));
             few = let y = length-take r gone in let x = min-le_left r (length gone) in omega arith;
           },
         )
 
-    pub decided_are : {d : ℕ} → d ≡ length (take c ra) → DecidedAre s (asked B t ids) d
-    decided_are {d} e q x = e ∙ mined_even.ranks ∙ G.all ∙ ap length mined_is ∙ sym (decided_number C w.q) ∙ ap (λ z. length (decisions C z)) (one_queue s w.is x)
+    pub decided_are : {d : ℕ} → d ≡ length (take c z) → DecidedAre s (asked B t ids) d
+    decided_are {d} e q x = e ∙ mined_long ∙ G.all ∙ ap length mined_is ∙ sym (decided_number C w.q) ∙ ap (λ z. length (decisions C z)) (one_queue s w.is x)
 
   -- ---- the whole area
   module _ {gone : List ℕ} (G : GoneAre s (asked B t ids) gone) where
@@ -262,10 +252,10 @@ module _ {s : Bytes} {a : Area} (w : AreaIn s a) {B : Block} {t ids : Bytes} (L 
         whole_fit = (leaves_kept w.q (whole_q C w.q) (reconcile C w.q) Whole (true, to_release C w.q) (reconcile_leaves C w.q (fit w.read) L.ok) whole_done).fit
 
         abbrev pub marks_w : ℕ → Marks
-        marks_w kept = record { persisted = B.height; revision = (a.open.head.revision + 1) % 2 ^ 64; cursor = B.height; tip = true; counter = record { 0 = a.open.head.counter.0 + length gone }; count = kept }
+        marks_w kept = record { persisted = B.height; revision = (a.open.head.revision + 1) % 2 ^ 64; cursor = B.height; tip = code.Some B.tip; counter = record { 0 = a.open.head.counter.0 + length gone }; count = kept }
 
         module _ {rows : List ℕ} {kept : ℕ} (P : WholePlan s a C t vs rows kept) where
-          whole_is : planned_q s a (marks_w kept) B.tip t vs rows ≡ whole_q C w.q
+          whole_is : planned_q s a (marks_w kept) t vs rows ≡ whole_q C w.q
           unfolding whole_q committed
           whole_is =
               let st = w.read.store in
@@ -276,7 +266,7 @@ module _ {s : Bytes} {a : Area} (w : AreaIn s a) {B : Block} {t ids : Bytes} (L 
           unfolding whole_q committed
           whole_need = fits_need (whole_q C w.q) (fit_sound _ whole_fit) (fit_ok _ whole_fit)
 
-          pub whole_for : PlanFor s a (marks_w kept) B.tip t vs rows
+          pub whole_for : PlanFor s a (marks_w kept) t vs rows
           whole_for =
               let p = P w.q w.is in
               let h = w.read.store.head in
@@ -286,11 +276,10 @@ module _ {s : Bytes} {a : Area} (w : AreaIn s a) {B : Block} {t ids : Bytes} (L 
                 fit = p.fit;
                 count = p.count ∙ sym (ap length p.are);
                 small = record { persisted = L.ok.height; revision = mod-lt _ (omega arith); cursor = L.ok.height; counter = room; count = omega (arith, p.few, h.count_small) };
-                long = L.long;
                 fits = let u = ap (λ v. length (queue_c.enc v)) whole_is in omega (arith, whole_need, w.read.need);
               }
 
-          pub whole_put : (d : Bytes) {d' : Bytes} {q' : Queue} → read_area s ≡ some q' → d' ≡ over (area_bytes (planned_q s a (marks_w kept) B.tip t vs rows)) d → d' ≡ over (area_bytes (whole_q C q')) d
+          pub whole_put : (d : Bytes) {d' : Bytes} {q' : Queue} → read_area s ≡ some q' → d' ≡ over (area_bytes (planned_q s a (marks_w kept) t vs rows)) d → d' ≡ over (area_bytes (whole_q C q')) d
           whole_put d x h = h ∙ ap (λ v. over (area_bytes v) d) (whole_is ∙ ap (whole_q C) (one_queue s w.is x))
 
       -- ---- the answer
@@ -352,9 +341,6 @@ module _ {s : Bytes} {a : Area} (w : AreaIn s a) {B : Block} {t ids : Bytes} (L 
     unfolding any_touched touch own_ids
     changed_is e f q x = f ∙ or_same (e ∙ judged_any t B.caught (own_ids (ids_at ids B.available) (list_at (form_c false rec_c) a.open.head.count s a.open.start)) (applied_in t B.entries) (list_at (form_c false rec_c) a.open.head.count s a.open.start) vs J.all ∙ ap (λ l. any? (changes? B.caught (own_ids (ids_at ids B.available) l) (applied_in t B.entries)) l) w.read.store.list) (sym (some_is (to_release C w.q) many_gone)) ∙ ap (λ v. any_touched C v || not (is_empty? (to_release C v))) (one_queue s w.is x)
 
-pub gathered_to : {s : Bytes} {n : ℕ} {l : List Rec} {room m : ℕ} {a b c : List ℕ} → room ≡ 2048 → MinedGathered s n l room m a b c → MinedGathered s n l 2048 m a b c
-gathered_to e g = record { even = even_to g.even e; all = g.all; listed = g.listed }
-
 -- ---- the floor, a flag, and the answer's bytes
 pub floor_none : (s : Bytes) (a : Area) (g : ℕ) → g ≡ 0 → FloorFor s a g 0
 floor_none s a g e = (λ _. refl, λ n. absurd (n e))
@@ -377,7 +363,7 @@ pub far_top : (p h : ℕ) {b : Bool} → 4294967295 < p + 32 → b ≡ leb 42949
 far_top p h k e = e ∙ ap (λ n. leb n h) (sym (min-eq_right (let z : 4294967295 ≤ p + 32 = omega arith in z)))
 
 module _ {s : Bytes} {a : Area} (w : AreaIn s a) (height : Height) (tip : Id) where
-  pub move_to : (p : Height) → p.0 < 4294967296 → height.0 < 4294967296 → id_c.ok tip → MovedFrom s a p height true tip
+  pub move_to : (p : Height) → p.0 < 4294967296 → height.0 < 4294967296 → id_c.ok tip → MovedFrom s a p height (code.Some tip)
   unfolding moved opt_c
   move_to p i j o =
       let g = moved_fit p.0 height.0 (some tip) w.q i j o (fit w.read) in
@@ -393,10 +379,10 @@ module _ {s : Bytes} {a : Area} (w : AreaIn s a) (height : Height) (tip : Id) wh
     far_is : leb (min (w.q.persisted + 32) top_height) height.0 ≡ b
     far_is = ap (λ n. leb (min (n + 32) top_height) height.0) w.read.persisted ∙ sym e
 
-    pub cursor_far : (next : Bytes) {next' : Bytes} → b ≡ true → MovedTo s a height height true tip next next' → CursorTold s height.0 tip (Done Cursor) next next'
+    pub cursor_far : (next : Bytes) {next' : Bytes} → b ≡ true → MovedTo s a height height (code.Some tip) next next' → CursorTold s height.0 tip (Done Cursor) next next'
     cursor_far next t x q f = rw (← (one_queue s w.is f), far_is ∙ t) (refl, x w.q w.is)
 
-    pub cursor_near : (next : Bytes) {next' : Bytes} → b ≡ false → MovedTo s a a.persisted height true tip next next' → CursorTold s height.0 tip (Done Memory) next next'
+    pub cursor_near : (next : Bytes) {next' : Bytes} → b ≡ false → MovedTo s a a.persisted height (code.Some tip) next next' → CursorTold s height.0 tip (Done Memory) next next'
     cursor_near next t x q f = rw (← (one_queue s w.is f), far_is ∙ t) (refl, x w.q w.is ∙ ap (λ n. over (area_bytes (moved n height.0 (some tip) w.q)) next) (sym w.read.persisted))
 
 -- ---- the call
@@ -404,24 +390,24 @@ pub reconcile_3 : (cur next out : Bytes) (g : ReconcileArgs) → read_area cur �
 unfolding reconcile_of
 reconcile_3 cur next out g e = rw e
 
-module _ (cur next out : Bytes) {a : Area} (i : AreaIs cur a) (ok : a.ok ≡ true) (height : ℕ) (tip t : Bytes) (flag : ℕ) (ids : Bytes) (window : ℕ) where
+module _ (cur next out : Bytes) {a : Area} (i : AreaIn cur a) (height : ℕ) (tip t : Bytes) (flag : ℕ) (ids : Bytes) (window : ℕ) where
   abbrev Given : ReconcileArgs
   Given = reconcile_args height tip t flag ids window
 
   pub reconcile_2 : length next < a.need → outcome (Refused 2) next out ≡ reconcile_of cur next out Given
   unfolding reconcile_of
-  reconcile_2 h = let g = i.good ok in rw (g.1, lt-ltb (length next) (need g.0.limits) (omega (arith, g.2.need)))
+  reconcile_2 h = rw (i.is, lt-ltb (length next) (need i.q.limits) (omega (arith, i.read.need)))
 
   module _ (h : a.need ≤ length next) {r : Bool} (A : ReconcileAsked tip flag t ids r) where
-    enough : ltb (length next) (need (i.good ok).0.limits) ≡ false
-    enough = le-ltb (length next) (need (i.good ok).0.limits) (omega (arith, (i.good ok).2.need))
+    enough : ltb (length next) (need i.q.limits) ≡ false
+    enough = le-ltb (length next) (need i.q.limits) (omega (arith, i.read.need))
 
     shape_is : reconcile_shape? Given ≡ r
     shape_is = sym A.is
 
     pub reconcile_5 : r ≡ false → outcome (Refused 5) next out ≡ reconcile_of cur next out Given
     unfolding reconcile_of
-    reconcile_5 n = let g = i.good ok in rw (g.1, enough, shape_is ∙ n)
+    reconcile_5 n = rw (i.is, enough, shape_is ∙ n)
 
     module _ (n : r ≡ true) {j : Id} (z : j ≡ part 32 (view false tip 0) 0) where
       tip_key : j ≡ tip
@@ -447,4 +433,4 @@ module _ (cur next out : Bytes) {a : Area} (i : AreaIs cur a) (ok : a.ok ≡ tru
 
       pub reconcile_rest : {o : Outcome} → ReconcileTold cur (asked block t ids) o next out → o ≡ reconcile_of cur next out Given
       unfolding reconcile_of
-      reconcile_rest {o} c = let g = i.good ok in let v = c g.0 g.1 ∙ ap (λ y. told released_bytes next out (reconcile y g.0)) asked_is in rw (g.1, enough, shape_is ∙ n) v
+      reconcile_rest {o} c = let v = c i.q i.is ∙ ap (λ y. told released_bytes next out (reconcile y i.q)) asked_is in rw (i.is, enough, shape_is ∙ n) v

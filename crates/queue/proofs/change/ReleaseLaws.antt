@@ -1,5 +1,6 @@
 -- The Mined holders, their order, and which of them are released. Assumes nothing.
-use Rattle.std.specs.Prelude.{◌≡◌, refl, Bool, true, false, cond, ◌&&◌, ◌||◌, List, [], ◌∷◌, ◌++◌, ℕ, zero, suc, ◌+◌, ◌-◌, ◌*◌, ◌/◌, ◌%◌, ◌≤◌, ◌<◌, ltb, leb, eqb, length, take, drop, get_or, set}
+use Rattle.std.specs.Prelude as code
+use Rattle.std.specs.Prelude.{◌≡◌, refl, Bool, true, false, cond, ◌||◌, List, [], ◌∷◌, ◌++◌, ℕ, zero, suc, ◌+◌, ◌-◌, ◌*◌, ◌/◌, ◌%◌, ◌≤◌, ◌<◌, ltb, leb, eqb, length, take, drop, get_or, set}
 use Rattle.std.proofs.Common.{ap, sym, ◌∙◌, append_assoc, append-nil, arith, le_of_suc-le-suc, add-one, length-drop, length-set, drop_of_length-le, drop-cons, take-suc, take_all, take-suc-set, eq-eqb, ne_eqb, eqb-true}
 use Rattle.std.proofs.Math.Option.{Option, none, some}
 use Rattle.std.proofs.lemmas.Bool.{lt-leb}
@@ -14,11 +15,12 @@ use Rattle.queue.specs.bytes.ReaderAs.{whole, list_at}
 use Rattle.queue.specs.bytes.ReaderLaws.{Turn, be_at, false_true, none_left}
 use Rattle.queue.specs.layout.FormsCodec.{form_c, after_in_value}
 use Rattle.queue.specs.layout.RecordsAs.{records}
-use Rattle.queue.specs.layout.FrameAs.{facts_of, place_height}
+use Rattle.queue.specs.layout.FrameAs.{facts_of, mined_at}
 use Rattle.queue.specs.theorems.SoundParts.{Before}
-use Rattle.queue.specs.read.SelectAs.{Row, rows, Even, ahead_of, ahead?, Added, id_at, RecStands, PlaceAdded}
+use Rattle.queue.specs.read.SelectAs.{Row, row_of, Standing, ahead_of, ahead?, RankedAdded, id_at, RecStands, PlaceAdded}
 use Rattle.queue.specs.change.TouchAs.{SeenOf, as_touched, verdict_of_value, InEntry}
-use Rattle.queue.specs.change.ReleaseAs.{next_v, next_l, mined_of, mined_f, height_f, bytes_at, MinedRow, FallingRows, MinedRows, MinedGathered, walk_r, walk_c}
+use Rattle.queue.specs.change.AdmitAs.{height_of}
+use Rattle.queue.specs.change.ReleaseAs.{next_v, next_l, mined_of, mined_f, height_f, bytes_at, MinedRow, FallingRows, MinedRows, MinedGathered, walk_r}
 use Rattle.queue.specs.paper.Decisions.{mined_holder?}
 use Rattle.queue.specs.paper.Records.{Bytes, Id, Limits, Rec}
 use Rattle.queue.specs.paper.Lists.{total, filter, insert, sort, map, maybe}
@@ -26,12 +28,15 @@ use Rattle.queue.specs.paper.Ids.{cmp_l, below?}
 use Rattle.queue.specs.paper.Sound.{holder?, content}
 use Rattle.queue.specs.paper.Changing.{confirm, mined_height, newer?, releases}
 use Rattle.queue.specs.declared.layout.frame.Seen.{Seen}
+use Rattle.queue.specs.declared.read.select.Ranked.{Ranked}
 use Rattle.queue.specs.declared.layout.frame.Facts.{Facts}
-use Rattle.queue.specs.declared.change.touch.Verdict.{Verdict}
-use Rattle.queue.proofs.layout.TurnLaws.{Scan, start, on, SeenIn, ReadsRec, seen}
+use Rattle.queue.specs.declared.layout.frame.Height.{Height}
+use Rattle.queue.specs.change.TouchAs.{VerdictNumbers}
+use Rattle.queue.proofs.layout.TurnLaws.{Scan, start, on, SeenIn, FoundRec, seen}
 use Rattle.queue.proofs.check.ScanLaws.{nothing_f}
 use Rattle.queue.proofs.read.ReadingLaws.{id_here, one_here}
-use Rattle.queue.proofs.read.SelectLaws.{rows_length}
+use Rattle.queue.proofs.read.SelectLaws as select
+use Rattle.queue.proofs.read.SelectLaws.{table, table_snoc, standing_snoc, below_more}
 use Rattle.queue.proofs.change.TouchLaws.{entry_height}
 
 -- ---- each of a list
@@ -41,14 +46,14 @@ all_at P (a ∷ l) zero h k = h.0
 all_at P (a ∷ l) (suc j) h k = all_at P l j h.1 (le_of_suc-le-suc k)
 
 -- ---- one record after its verdict
-pub verdict_within : (t : Bytes) {v : Verdict} (c : ℕ) → v ≡ verdict_of_value c → InEntry t c → v.what ≡ 1 → v.at + 68 ≤ length t
+pub verdict_within : (t : Bytes) {v : VerdictNumbers} (c : ℕ) → v ≡ verdict_of_value c → InEntry t c → v.what ≡ 1 → v.at + 68 ≤ length t
 unfolding verdict_of_value
 verdict_within t {v} c e h w =
     let a : c % 4 ≡ 1 = sym (ap (λ y. y.what) e) ∙ w in
     let b : v.at ≡ 68 * (c / 4) = ap (λ y. y.at) e ∙ rw a in
     omega (arith, h a)
 
-module _ (s : Bytes) (base : ℕ) (x : Seen) (t : Bytes) (v : Verdict) (within : v.what ≡ 1 → v.at + 68 ≤ length t) (r : Rec) (w : SeenOf s base x r) where
+module _ (s : Bytes) (base : ℕ) (x : Seen) (t : Bytes) (v : VerdictNumbers) (within : v.what ≡ 1 → v.at + 68 ≤ length t) (r : Rec) (w : SeenOf s base x r) where
   abbrev after : Rec
   after = maybe r (λ y. y) (as_touched t v r)
 
@@ -60,11 +65,11 @@ module _ (s : Bytes) (base : ℕ) (x : Seen) (t : Bytes) (v : Verdict) (within :
   unfolding facts_of
   holder_is = ap (λ f. f.holder) w.0.facts
 
-  mined_is : x.facts.mined.0 ≡ place_height r.place
+  mined_is : (height_of x.facts.mined).0 ≡ (height_of (mined_at r.place)).0
   unfolding facts_of
-  mined_is = ap (λ f. f.mined.0) w.0.facts
+  mined_is = ap (λ f. (height_of f.mined).0) w.0.facts
 
-  height_same : (o : Option (ℕ × Id)) → place_height o ≡ maybe 0 (λ p. p.0) o
+  height_same : (o : Option (ℕ × Id)) → (height_of (mined_at o)).0 ≡ maybe 0 (λ p. p.0) o
   height_same none = refl
   height_same (some p) = refl
 
@@ -101,17 +106,17 @@ module _ (s : Bytes) (base : ℕ) (x : Seen) (t : Bytes) (v : Verdict) (within :
       (λ b. cases (eqb v.what 2) (λ c. rw (a, b, c)) (λ c. rw (a, b, c))))
 
 -- ---- what the code works out of a verdict
-pub mined_after : (what : ℕ) (f : Facts) {r a b : Bool} → r ≡ (a && f.holder) → a ≡ (eqb what 1 || b) → b ≡ (eqb what 0 && eqb f.state 2) → r ≡ mined_f what f
-unfolding mined_f
-mined_after what f e g h = e ∙ ap (λ v. v && f.holder) (g ∙ ap (λ v. eqb what 1 || v) h)
+pub height_told : (o : code.Option Height) {h : Height} → h ≡ code.unwrap_or o (record { 0 = 0 }) → h.0 ≡ (height_of o).0
+height_told (code.Some x) e = ap (λ k. k.0) e
+height_told code.None e = ap (λ k. k.0) e
 
-pub height_new : (t : Bytes) (v : Verdict) (f : Facts) {n : ℕ} → v.what ≡ 1 → n ≡ be_at 4 (view false t 0) (v.at + 32) → n ≡ height_f t v f
+pub height_new : (t : Bytes) (v : VerdictNumbers) (f : Facts) {n : ℕ} → v.what ≡ 1 → n ≡ be_at 4 (view false t 0) (v.at + 32) → n ≡ height_f t v f
 unfolding height_f
-height_new t v f e h = h ∙ sym (ap (λ b. cond b (be_at 4 (view false t 0) (v.at + 32)) f.mined.0) (eq-eqb v.what 1 e))
+height_new t v f e h = h ∙ sym (ap (λ b. cond b (be_at 4 (view false t 0) (v.at + 32)) (height_of f.mined).0) (eq-eqb v.what 1 e))
 
-pub height_old : (t : Bytes) (v : Verdict) (f : Facts) → (v.what ≡ 1 → ⊥) → f.mined.0 ≡ height_f t v f
+pub height_old : (t : Bytes) (v : VerdictNumbers) (f : Facts) → (v.what ≡ 1 → ⊥) → (height_of f.mined).0 ≡ height_f t v f
 unfolding height_f
-height_old t v f e = sym (ap (λ b. cond b (be_at 4 (view false t 0) (v.at + 32)) f.mined.0) (ne_eqb v.what 1 e))
+height_old t v f e = sym (ap (λ b. cond b (be_at 4 (view false t 0) (v.at + 32)) (height_of f.mined).0) (ne_eqb v.what 1 e))
 
 pub out_is : (height window p b level seen bytes : ℕ) {r a : Bool} {d : ℕ} → r ≡ (leb window d || a) → a ≡ (leb p seen || ltb b bytes) → d ≡ height - level → r ≡ (leb window (height - level) || (leb p seen || ltb b bytes))
 out_is height window p b level seen bytes e f g = cc
@@ -131,28 +136,30 @@ all_snoc : (z : List Row) (w : Row) (a : ℕ) → All (λ (v : Row). a < v.1.0) 
 all_snoc [] w a h k = (k, tt)
 all_snoc (v ∷ z) w a h k = (h.0, all_snoc z w a h.1 k)
 
-pub record Mining (s : Bytes) (at n : ℕ) (t : Bytes) (vs : List ℕ) (room i left j m : ℕ) (a b c : List ℕ) : Type 0 where
+pub record Mining (s : Bytes) (at n : ℕ) (t : Bytes) (vs : List ℕ) (room i left j m : ℕ) (b : List Ranked) : Type 0 where
   pub count : j + left ≡ n
   pub scan : Scan (form_c false rec_c) nothing_f s n at tt i left tt
-  pub even : Even room a b c
+  pub size : length b ≡ room
   pub few : length (mined_of s (records at n) t vs) ≤ room
   pub upto : m ≤ length (mined_of s (records at n) t vs)
   pub rest : drop m (mined_of s (records at n) t vs) ≡ filter mined_holder? (next_v t (list_at (form_c false rec_c) left s i) (drop j vs))
-  pub sofar : FallingRows s (n + 1) (take m (rows a b c)) (take m (mined_of s (records at n) t vs))
-  pub above : All (λ (v : Row). left < v.1.0) (take m (rows a b c))
+  pub sofar : FallingRows s (n + 1) (table (take m b)) (take m (mined_of s (records at n) t vs))
+  pub above : All (λ (v : Row). left < v.1.0) (table (take m b))
+  pub stand : Standing (table (take m b))
+  pub below : All (λ (v : Row). v.1.1 ≤ i) (table (take m b))
 
-pub mine_start : (s : Bytes) (at n : ℕ) (t : Bytes) (vs : List ℕ) {room : ℕ} {a b c : List ℕ} → at ≤ length s → whole (form_c false rec_c) n s at ≡ true → Even room a b c → length (mined_of s (records at n) t vs) ≤ room → Mining s at n t vs room at n 0 0 a b c
+pub mine_start : (s : Bytes) (at n : ℕ) (t : Bytes) (vs : List ℕ) {room : ℕ} {b : List Ranked} → at ≤ length s → whole (form_c false rec_c) n s at ≡ true → length b ≡ room → length (mined_of s (records at n) t vs) ≤ room → Mining s at n t vs room at n 0 0 b
 unfolding mined_of next_l
-mine_start s at n t vs h w e f = record { count = omega arith; scan = start (form_c false rec_c) nothing_f s n at tt h w; even = e; few = f; upto = omega arith; rest = refl; sofar = tt; above = tt }
+mine_start s at n t vs h w e f = record { count = omega arith; scan = start (form_c false rec_c) nothing_f s n at tt h w; size = e; few = f; upto = omega arith; rest = refl; sofar = tt; above = tt; stand = tt; below = tt }
 
-module _ {s : Bytes} {at n : ℕ} {t : Bytes} {vs : List ℕ} {room i left j m : ℕ} {a b c : List ℕ} (g : Mining s at n t vs room i left j m a b c) (p : 0 < left) {z : ℕ} {ok : Bool} {y : Seen} (rd : ReadsRec false s i ok z y) where
-  abbrev turn : Turn (form_c false rec_c) s left i (after_in_value false s i z) (SeenIn false s i ok z y)
+module _ {s : Bytes} {at n : ℕ} {t : Bytes} {vs : List ℕ} {room i left j m : ℕ} {b : List Ranked} (g : Mining s at n t vs room i left j m b) (p : 0 < left) {z : ℕ} {y : Seen} (rd : FoundRec false s i z y) where
+  abbrev turn : Turn (form_c false rec_c) s left i (after_in_value false s i z) (SeenIn false s i z y)
   turn = seen false g.scan p rd
 
   pub mine_seen : SeenOf s i y (seen false g.scan p rd).item
   mine_seen = (turn.is.0, turn.is.1.fine)
 
-  module _ {v : Verdict} (eV : v ≡ verdict_of_value (get_or vs j 0)) (long : length vs ≡ n) (E : All (InEntry t) vs) {sel : Bool} (e : sel ≡ mined_f v.what y.facts) where
+  module _ {v : VerdictNumbers} (eV : v ≡ verdict_of_value (get_or vs j 0)) (long : length vs ≡ n) (E : All (InEntry t) vs) {sel : Bool} (e : sel ≡ mined_f v.what y.facts) where
     within : v.what ≡ 1 → v.at + 68 ≤ length t
     within = verdict_within t (get_or vs j 0) eV (all_at (InEntry t) vs j E (omega (arith, g.count)))
 
@@ -192,15 +199,15 @@ module _ {s : Bytes} {at n : ℕ} {t : Bytes} {vs : List ℕ} {room i left j m :
           stands = (g.scan.within, o.0);
         }
 
-    pub mine_go : {h o r : ℕ} {a' b' c' : List ℕ} → h ≡ height_f t v y.facts → Added sel m (h, (left, i)) (rows a b c) room r a' b' c' → o ≡ after_in_value false s i z → Mining s at n t vs room o (left - 1) (j + 1) r a' b' c'
+    pub mine_go : {w : Ranked} {o r : ℕ} {b' : List Ranked} → w.rank ≡ height_f t v y.facts → w.second ≡ left → w.place ≡ i → RankedAdded sel m w b r b' → o ≡ after_in_value false s i z → Mining s at n t vs room o (left - 1) (j + 1) r b'
     unfolding nothing_f behind
-    mine_go {h} {o} {r} {a'} {b'} {c'} q w x =
+    mine_go {w} {o} {r} {b'} q k h y x =
         let sc : Scan (form_c false rec_c) nothing_f s n at tt o (left - 1) tt = rw x (on g.scan tt p turn refl) in
-        let ln = g.even in
-        let rl : length (rows a b c) ≡ room = rows_length a b c (ln.times ∙ sym ln.ranks) (ln.places ∙ sym ln.ranks) ∙ ln.ranks in
+        let up : i ≤ o = omega (arith, turn.up) in
+        let e : row_of w ≡ (w.rank, (left, i)) = rw (k, h) in
         cases sel
         (λ u.
-        let y = w.yes u in
+        let a = y.yes u in
         let d : drop m L ≡ it ∷ behind = cut ∙ ap (λ b. cond b (it ∷ behind) behind) u in
         let f = mine_room u in
         let d2 = drop-cons L m it f in
@@ -208,40 +215,44 @@ module _ {s : Bytes} {at n : ℕ} {t : Bytes} {vs : List ℕ} {room i left j m :
         let g2 : drop (suc m) L ≡ behind = cc in
         let t1 : take (suc m) L ≡ take m L ++ (it ∷ []) = take-suc L m it f ∙ rw g1 in
         let fw = g.few in
-        let t2 : take (suc m) (rows a' b' c') ≡ take m (rows a b c) ++ ((h, (left, i)) ∷ []) = ap (take (suc m)) y.1 ∙ take-suc-set (rows a b c) m (h, (left, i)) (omega arith) in
-        let r1 : r ≡ suc m = y.0 ∙ add-one m in
+        let t2 : table (take (suc m) b') ≡ table (take m b) ++ ((w.rank, (left, i)) ∷ []) = ap (λ (c : List Ranked). table (take (suc m) c)) a.1 ∙ ap table (take-suc-set b m w (omega (arith, g.size))) ∙ table_snoc (take m b) w ∙ ap (λ (c : Row). table (take m b) ++ (c ∷ [])) e in
+        let r1 : r ≡ suc m = a.0 ∙ add-one m in
         rw r1 (record {
           count = omega (arith, g.count);
           scan = sc;
-          even = w.even;
+          size = y.size ∙ g.size;
           few = g.few;
           upto = omega arith;
           rest = g2 ∙ rw x;
-          sofar = rw (t1, t2) (fall_snoc s (n + 1) (take m (rows a b c)) (take m L) (h, (left, i)) it g.sofar g.above (row_is u q) (omega (arith, g.scan.few)));
-          above = rw t2 (all_snoc (take m (rows a b c)) (h, (left, i)) (left - 1) (all_more (take m (rows a b c)) left (left - 1) (omega arith) g.above) (omega arith));
+          sofar = rw (t1, t2) (fall_snoc s (n + 1) (table (take m b)) (take m L) (w.rank, (left, i)) it g.sofar g.above (row_is u q) (omega (arith, g.scan.few)));
+          above = rw t2 (all_snoc (table (take m b)) (w.rank, (left, i)) (left - 1) (all_more (table (take m b)) left (left - 1) (omega arith) g.above) (omega arith));
+          stand = rw t2 (standing_snoc (table (take m b)) (w.rank, (left, i)) g.stand (below_more (table (take m b)) (omega arith) g.below));
+          below = rw t2 (select.all_snoc (λ (c : Row). c.1.1 ≤ o) (table (take m b)) (w.rank, (left, i)) (below_more (table (take m b)) up g.below) up);
         }))
         (λ u.
-        let y = w.no u in
-        rw y.0 (record {
+        let a = y.no u in
+        rw a.0 (record {
           count = omega (arith, g.count);
           scan = sc;
-          even = w.even;
+          size = y.size ∙ g.size;
           few = g.few;
           upto = g.upto;
           rest = cut ∙ ap (λ b. cond b (it ∷ behind) behind) u ∙ rw x;
-          sofar = rw y.1 g.sofar;
-          above = rw y.1 (all_more (take m (rows a b c)) left (left - 1) (omega arith) g.above);
+          sofar = rw a.1 g.sofar;
+          above = rw a.1 (all_more (table (take m b)) left (left - 1) (omega arith) g.above);
+          stand = rw a.1 g.stand;
+          below = rw a.1 (below_more (table (take m b)) up g.below);
         }))
 
-pub mine_end : {s : Bytes} {at n : ℕ} {t : Bytes} {vs : List ℕ} {room i left j m : ℕ} {a b c : List ℕ} → Mining s at n t vs room i left j m a b c → left ≡ 0 → MinedGathered s n (mined_of s (records at n) t vs) room m a b c
+pub mine_end : {s : Bytes} {at n : ℕ} {t : Bytes} {vs : List ℕ} {room i left j m : ℕ} {b : List Ranked} → Mining s at n t vs room i left j m b → left ≡ 0 → MinedGathered s n (mined_of s (records at n) t vs) room m b
 unfolding next_v
-mine_end {s} {at} {n} {t} {vs} {room} {i} {left} {j} {m} {a} {b} {c} g z =
+mine_end {s} {at} {n} {t} {vs} {room} {i} {left} {j} {m} {b} g z =
     let L = mined_of s (records at n) t vs in
     let d : drop m L ≡ [] = g.rest ∙ ap (λ l. filter mined_holder? (next_v t l (drop j vs))) (none_left (form_c false rec_c) s left i z).0 in
     let l = ap length d in
     let u = g.upto in
     let e : m ≡ length L = omega (arith, length-drop m L) in
-    record { even = g.even; all = e; listed = rw (take_all m L (omega arith)) at g.sofar }
+    record { size = g.size; all = e; listed = rw (take_all m L (omega arith)) at g.sofar; stand = g.stand }
 
 -- ---- sorted rows are sorted records
 below_not : (a b : Id) → below? a b ≡ true → below? b a ≡ false
@@ -297,68 +308,62 @@ module _ (m : Limits) (height window : ℕ) (s : Bytes) where
       (λ t. rw t (cons_same h.0.id i))
       (λ t. rw t i))
 
-  pub walk_columns : (seen bytes : ℕ) (a b c : List ℕ) → length b ≡ length a → length c ≡ length a → walk_c m height window s seen bytes a c ≡ walk_r m height window s seen bytes (rows a b c)
-  unfolding walk_c walk_r rows
-  walk_columns seen bytes [] b c e f = refl
-  walk_columns seen bytes (x ∷ a) [] c e f = absurd (let y : ⊥ = omega arith in y)
-  walk_columns seen bytes (x ∷ a) (y ∷ b) [] e f = absurd (let y : ⊥ = omega arith in y)
-  walk_columns seen bytes (x ∷ a) (y ∷ b) (p ∷ c) e f =
-      let i = walk_columns (seen + 1) (bytes + bytes_at s p) a b c (omega arith) (omega arith) in
-      ap (λ l. cond (leb window (height - x) || (leb m.P seen || ltb m.B (bytes + bytes_at s p))) (p ∷ l) l) i
-
-pub stands_at : (s : Bytes) (l : List ℕ) (j : ℕ) → All (RecStands s) l → j < length l → RecStands s (get_or l j 0)
-stands_at s l j h k = all_at (RecStands s) l j h k
-
-pub bytes_is : (s : Bytes) (p : ℕ) {ok : Bool} {z : ℕ} {y : Seen} → RecStands s p → ReadsRec false s p ok z y → (y.facts.bytes ≡ bytes_at s p) × (y.facts.bytes < 4294967296)
+pub bytes_is : (s : Bytes) (p : ℕ) {z : ℕ} {y : Seen} → RecStands s p → FoundRec false s p z y → (y.facts.bytes ≡ bytes_at s p) × (y.facts.bytes < 4294967296)
 unfolding bytes_at facts_of nothing_f
-bytes_is s p {ok} {z} {y} w rd =
+bytes_is s p {z} {y} w rd =
     let g = start (form_c false rec_c) nothing_f s 1 p tt w.0 w.1 in
     let t = seen false g (omega arith) rd in
     let o = one_here s p (after_in_value false s p z) t.item t.here in
     let e : length (content t.item.body) + 0 ≡ length (content t.item.body) = omega arith in
     (ap (λ f. f.bytes) t.is.0.facts ∙ sym e ∙ sym (ap (λ l. total (λ r. length (content r.body)) l) o.1), t.is.0.small.bytes)
 
-module _ (m : Limits) (height window : ℕ) (s : Bytes) (ranks places : List ℕ) where
+-- a row of the table
+pub row_stands : (s : Bytes) (z : List Ranked) (j : ℕ) (d : Ranked) → All (λ (w : Row). RecStands s w.1.1) (map row_of z) → j < length z → RecStands s (get_or z j d).place
+row_stands s [] j d h k = absurd (let y : ⊥ = omega arith in y)
+row_stands s (w ∷ z) zero d h k = h.0
+row_stands s (w ∷ z) (suc j) d h k = row_stands s z j d h.1 (le_of_suc-le-suc k)
+
+module _ (m : Limits) (height window : ℕ) (s : Bytes) (z : List Ranked) where
   pub record Walking (len : ℕ) (rel : List ℕ) (j g sum : ℕ) : Type 0 where
-    pub within : j ≤ length places
+    pub within : j ≤ length z
     pub fewer : g ≤ j
     pub size : length rel ≡ len
     pub small : sum ≤ j * 4294967295
-    pub same : take g rel ++ walk_c m height window s j sum (drop j ranks) (drop j places) ≡ walk_c m height window s 0 0 ranks places
+    pub same : take g rel ++ walk_r m height window s j sum (table (drop j z)) ≡ walk_r m height window s 0 0 (table z)
 
   pub walk_start : (rel : List ℕ) → Walking (length rel) rel 0 0 0
   walk_start rel = record { within = omega arith; fewer = omega arith; size = refl; small = omega arith; same = refl }
 
-  module _ {len : ℕ} {rel : List ℕ} {j g sum : ℕ} (x : Walking len rel j g sum) (even : length ranks ≡ length places) (h : j < length places) where
-    turn_is : walk_c m height window s j sum (drop j ranks) (drop j places) ≡ walk_c m height window s j sum (get_or ranks j 0 ∷ drop (suc j) ranks) (get_or places j 0 ∷ drop (suc j) places)
-    turn_is = two (drop-cons ranks j 0 (omega arith)) (drop-cons places j 0 h)
-      where
-        two : {a a' b b' : List ℕ} → a ≡ a' → b ≡ b' → walk_c m height window s j sum a b ≡ walk_c m height window s j sum a' b'
-        two e f = cc
+  module _ {len : ℕ} {rel : List ℕ} {j g sum : ℕ} (d : Ranked) (x : Walking len rel j g sum) (h : j < length z) where
+    abbrev row : Ranked
+    row = get_or z j d
 
-    module _ {u : Bool} (e : u ≡ (leb window (height - get_or ranks j 0) || (leb m.P j || ltb m.B (sum + bytes_at s (get_or places j 0))))) (low : bytes_at s (get_or places j 0) < 4294967296) where
+    turn_is : table (drop j z) ≡ row_of row ∷ table (drop (suc j) z)
+    turn_is = ap table (drop-cons z j d h)
+
+    module _ {u : Bool} (e : u ≡ (leb window (height - row.rank) || (leb m.P j || ltb m.B (sum + bytes_at s row.place)))) (low : bytes_at s row.place < 4294967296) where
       abbrev on_walk : List ℕ
-      on_walk = walk_c m height window s (j + 1) (sum + bytes_at s (get_or places j 0)) (drop (j + 1) ranks) (drop (j + 1) places)
+      on_walk = walk_r m height window s (j + 1) (sum + bytes_at s row.place) (table (drop (j + 1) z))
 
-      taken : u ≡ true → walk_c m height window s j sum (drop j ranks) (drop j places) ≡ get_or places j 0 ∷ on_walk
-      unfolding walk_c
-      taken t = turn_is ∙ rw (sym e ∙ t, add-one j)
+      taken : u ≡ true → walk_r m height window s j sum (table (drop j z)) ≡ row.place ∷ on_walk
+      unfolding walk_r
+      taken t = ap (walk_r m height window s j sum) turn_is ∙ rw (sym e ∙ t, add-one j)
 
-      left_in : u ≡ false → walk_c m height window s j sum (drop j ranks) (drop j places) ≡ on_walk
-      unfolding walk_c
-      left_in t = turn_is ∙ rw (sym e ∙ t, add-one j)
+      left_in : u ≡ false → walk_r m height window s j sum (table (drop j z)) ≡ on_walk
+      unfolding walk_r
+      left_in t = ap (walk_r m height window s j sum) turn_is ∙ rw (sym e ∙ t, add-one j)
 
-      walk_out : u ≡ true → length places ≤ len → Walking len (set rel g (get_or places j 0)) (j + 1) (g + 1) (sum + bytes_at s (get_or places j 0))
+      walk_out : u ≡ true → length z ≤ len → Walking len (set rel g row.place) (j + 1) (g + 1) (sum + bytes_at s row.place)
       walk_out t room = record {
         within = omega arith;
         fewer = omega (arith, x.fewer);
-        size = length-set rel g (get_or places j 0) ∙ x.size;
+        size = length-set rel g row.place ∙ x.size;
         small = omega (arith, x.small);
-        same = ap (λ l. l ++ on_walk) (ap (λ k. take k (set rel g (get_or places j 0))) (add-one g) ∙ take-suc-set rel g (get_or places j 0) (omega (arith, x.size, x.fewer)))
-            ∙ append_assoc (take g rel) (get_or places j 0 ∷ []) on_walk ∙ ap (λ l. take g rel ++ l) (sym (taken t)) ∙ x.same;
+        same = ap (λ l. l ++ on_walk) (ap (λ k. take k (set rel g row.place)) (add-one g) ∙ take-suc-set rel g row.place (omega (arith, x.size, x.fewer)))
+            ∙ append_assoc (take g rel) (row.place ∷ []) on_walk ∙ ap (λ l. take g rel ++ l) (sym (taken t)) ∙ x.same;
       }
 
-      walk_in : u ≡ false → Walking len rel (j + 1) g (sum + bytes_at s (get_or places j 0))
+      walk_in : u ≡ false → Walking len rel (j + 1) g (sum + bytes_at s row.place)
       walk_in t = record {
         within = omega arith;
         fewer = omega (arith, x.fewer);
@@ -367,16 +372,17 @@ module _ (m : Limits) (height window : ℕ) (s : Bytes) (ranks places : List ℕ
         same = ap (λ l. take g rel ++ l) (sym (left_in t)) ∙ x.same;
       }
 
-      pub walk_go : {g' : ℕ} {rel' : List ℕ} {sum' : ℕ} → length places ≤ len → sum' ≡ sum + bytes_at s (get_or places j 0) → PlaceAdded u g (get_or places j 0) rel g' rel' → Walking len rel' (j + 1) g' sum'
-      walk_go room k y = cases u
-          (λ t. let z = y.yes t in rw (z.0, z.1, k) (walk_out t room))
-          (λ t. let z = y.no t in rw (z.0, z.1, k) (walk_in t))
+      walked : {g' : ℕ} {rel' : List ℕ} → length z ≤ len → PlaceAdded u g row.place rel g' rel' → Walking len rel' (j + 1) g' (sum + bytes_at s row.place)
+      walked room y = cases u
+          (λ t. let z = y.yes t in rw (z.0, z.1) (walk_out t room))
+          (λ t. let z = y.no t in rw (z.0, z.1) (walk_in t))
 
-  pub walk_end : {len : ℕ} {rel : List ℕ} {j g sum : ℕ} → Walking len rel j g sum → length ranks ≡ length places → length places ≤ j → (g ≤ length places) × (take g rel ≡ walk_c m height window s 0 0 ranks places)
-  unfolding walk_c
-  walk_end {len} {rel} {j} {g} {sum} x even h =
-      let z : drop j ranks ≡ [] = past ranks j (omega arith) in
-      (omega (arith, x.within, x.fewer), sym (append-nil (take g rel)) ∙ sym (ap (λ l. take g rel ++ walk_c m height window s j sum l (drop j places)) z) ∙ x.same)
-    where
-      past : (l : List ℕ) (j : ℕ) → length l ≤ j → drop j l ≡ []
-      past l j k = drop_of_length-le l k
+    pub walk_go : {u : Bool} {n g' : ℕ} {rel' : List ℕ} → n ≡ bytes_at s row.place → n < 4294967296 → u ≡ (leb window (height - row.rank) || (leb m.P j || ltb m.B (sum + n))) → length z ≤ len → PlaceAdded u g row.place rel g' rel' → Walking len rel' (j + 1) g' (sum + n)
+    walk_go {n = n} q l e room y =
+        rw q (walked (e ∙ ap (λ k. leb window (height - row.rank) || (leb m.P j || ltb m.B (sum + k))) q) (omega arith) room y)
+
+  pub walk_end : {len : ℕ} {rel : List ℕ} {j g sum : ℕ} → Walking len rel j g sum → length z ≤ j → (g ≤ length z) × (take g rel ≡ walk_r m height window s 0 0 (table z))
+  unfolding walk_r
+  walk_end {len} {rel} {j} {g} {sum} x h =
+      let e : table (drop j z) ≡ [] = ap table (drop_of_length-le z {i = j} h) in
+      (omega (arith, x.within, x.fewer), sym (append-nil (take g rel)) ∙ sym (ap (λ l. take g rel ++ walk_r m height window s j sum l) e) ∙ x.same)

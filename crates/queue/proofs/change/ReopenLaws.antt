@@ -1,4 +1,5 @@
 -- Reopening: lent ids, the listed, their rows, and the call exit by exit. Assumes nothing.
+use Rattle.std.specs.Prelude as code
 use Rattle.std.specs.Prelude.{◌≡◌, refl, Bool, true, false, cond, not, ◌&&◌, List, [], ◌∷◌, ◌++◌, ℕ, zero, suc, ◌+◌, ◌-◌, ◌*◌, ◌/◌, ◌%◌, ◌^◌, ◌≤◌, ◌<◌, ltb, eqb, length, drop, take}
 use Rattle.std.proofs.Common.{ap, sym, ◌∙◌, append-nil, arith, add-zero, mod-lt, div-add-mod', length-drop, take-append-drop, lt-ltb, le-ltb, eq-eqb, ne_eqb}
 use Rattle.std.proofs.Math.Option.{none, some}
@@ -6,7 +7,7 @@ use Rattle.queue.proofs.check.AreaLaws.{fit}
 use Rattle.queue.specs.Codec.{got, cases, encs, decs, vec_fwd}
 use Rattle.queue.specs.layout.FrameCodec.{id_c, rec_c}
 use Rattle.queue.specs.bytes.ViewAs.{view}
-use Rattle.queue.specs.bytes.ReaderAs.{Reads, whole, list_at, is_got, val_of}
+use Rattle.queue.specs.bytes.ReaderAs.{Found, whole, list_at, is_got, val_of}
 use Rattle.queue.specs.bytes.ReaderLaws as readlaws
 use Rattle.queue.specs.bytes.ReaderLaws.{turn, none_left}
 use Rattle.queue.specs.layout.FormsCodec.{form_c, queue_c}
@@ -16,7 +17,7 @@ use Rattle.queue.specs.theorems.SoundParts.{Fit, fit_sound, fit_ok}
 use Rattle.queue.specs.theorems.CallsKeeps.{leaves_kept, reopen_leaves}
 use Rattle.queue.specs.theorems.Plain.{ids_plain}
 use Rattle.queue.specs.layout.FrameAs.{facts_of, SeenAs}
-use Rattle.queue.specs.check.AreaAs.{AreaIs, AreaIn}
+use Rattle.queue.specs.check.AreaAs.{AreaIn}
 use Rattle.queue.specs.theorems.Arguments.{Small, items_ok, ids_ok}
 use Rattle.queue.specs.change.WriteAs.{TipIs, marks_after}
 use Rattle.queue.specs.read.FindAs.{recs_in}
@@ -31,11 +32,11 @@ use Rattle.queue.specs.paper.Changing.{done, committed, listed?, reopen}
 use Rattle.queue.specs.Checked.{Outcome, outcome, told, reopen_of}
 use Rattle.queue.specs.paper.Calls.{nothing_bytes, pieces, items}
 use Rattle.queue.specs.declared.Kind.TheVariants.{Nothing, Whole}
-use Rattle.queue.specs.declared.Answer.TheVariants.{Refused, Done}
+use Rattle.queue.specs.paper.Answer.{Refused, Done}
 use Rattle.queue.specs.declared.layout.frame.Seen.{Seen}
 use Rattle.queue.specs.declared.layout.frame.Facts.{Facts}
 use Rattle.queue.specs.declared.check.area.Area.{Area}
-use Rattle.queue.proofs.layout.TurnLaws.{Scan, start, here, on, stop, end, ReadsRec, seen, see}
+use Rattle.queue.proofs.layout.TurnLaws.{id_room, Scan, start, here, on, stop, end, FoundRec, seen, see}
 use Rattle.queue.proofs.change.FinishLaws.{raw_after}
 use Rattle.queue.proofs.change.WriteLaws.{one_queue, same_queue, the_limits, tip_of_law}
 use Rattle.queue.proofs.change.CallsLaws.{small_all}
@@ -107,20 +108,24 @@ pub ids_none : (v : Bytes) (n : ℕ) → n ≡ 0 → true ≡ rise? (list_at id_
 unfolding rise?
 ids_none v n z = rw (none_left id_c v n 0 z).0
 
-pub ids_first : {v : Bytes} (n : ℕ) {m : ℕ} {ok : Bool} {y : Id} → whole id_c n v 0 ≡ true → 0 < n → Reads id_c v 0 ok m (λ w. w ≡ y)
+-- an id stands at the start
+pub ids_room : (t : Bytes) (n : ℕ) → whole id_c n (view false t 0) 0 ≡ true → 0 < n → 0 + 32 ≤ length (view false t 0)
+ids_room t n w p = id_room (start id_c (λ (u : Unit {0}) (l : List Id). u) (view false t 0) n 0 tt (omega arith) w) p
+
+pub ids_first : {v : Bytes} (n : ℕ) {m : ℕ} {y : Id} → whole id_c n v 0 ≡ true → 0 < n → Found id_c v 0 m (λ w. w ≡ y)
     → Scan id_c chain_i? v (n - 1) m y m (n - 1) y × (chain_i? y (list_at id_c (n - 1) v m) ≡ rise? (list_at id_c n v 0))
-ids_first {v} n {m} {ok} {y} w p r =
-    let t = turn n (omega arith) w p r in (
+ids_first {v} n {m} {y} w p r =
+    let t = turn n w p r in (
       start id_c chain_i? v (n - 1) m y t.within t.rest,
       ap (λ i. chain_i? i (list_at id_c (n - 1) v m)) (sym t.is) ∙ sym (rise_chain t.item (list_at id_c (n - 1) v m)) ∙ ap rise? (sym t.list),
     )
 
 module _ {v : Bytes} {n at i left : ℕ} {p₀ p : Id} (x : Scan id_c chain_i? v n at p₀ i left p) where
-  pub ids_go : {m : ℕ} {ok : Bool} {y : Id} → 0 < left → Reads id_c v i ok m (λ w. w ≡ y) → cmp_l p y ≡ 0 → Scan id_c chain_i? v n at p₀ m (left - 1) y
+  pub ids_go : {m : ℕ} {y : Id} → 0 < left → Found id_c v i m (λ w. w ≡ y) → cmp_l p y ≡ 0 → Scan id_c chain_i? v n at p₀ m (left - 1) y
   unfolding chain_i?
   ids_go {y = y} h r e = let t = here x h r in on x y h t (rw (t.is, eq-eqb _ _ e))
 
-  pub ids_stop : {m : ℕ} {ok : Bool} {y : Id} → 0 < left → Reads id_c v i ok m (λ w. w ≡ y) → (cmp_l p y ≡ 0 → ⊥) → false ≡ chain_i? p₀ (list_at id_c n v at)
+  pub ids_stop : {m : ℕ} {y : Id} → 0 < left → Found id_c v i m (λ w. w ≡ y) → (cmp_l p y ≡ 0 → ⊥) → false ≡ chain_i? p₀ (list_at id_c n v at)
   unfolding chain_i?
   ids_stop h r e = let t = here x h r in stop x t (rw (t.is, ne_eqb _ _ e))
 
@@ -137,10 +142,10 @@ unfoldable pub any_f : List Id → Unit {0} → List Rec → Bool
 any_f ids u l = any? (listed? ids) l
 
 module _ (ids : List Id) {s : Bytes} {n at i left : ℕ} (x : Scan (form_c false rec_c) (any_f ids) s n at tt i left tt) where
-  pub any_next : {m : ℕ} {ok : Bool} {y : Seen} → 0 < left → ReadsRec false s i ok m y → i + m ≤ length s
+  pub any_next : {m : ℕ} {y : Seen} → 0 < left → FoundRec false s i m y → i + m ≤ length s
   any_next {m} p r = rw (raw_after s i m) (seen false x p r).within
 
-  module _ {m : ℕ} {ok b : Bool} {y : Seen} (p : 0 < left) (r : ReadsRec false s i ok m y) (e : b ≡ listed_s ids y) where
+  module _ {m : ℕ} {b : Bool} {y : Seen} (p : 0 < left) (r : FoundRec false s i m y) (e : b ≡ listed_s ids y) where
     pub any_go : b ≡ false → Scan (form_c false rec_c) (any_f ids) s n at tt (i + m) (left - 1) tt
     unfolding any_f
     any_go f = let t = see false x p r (raw_after s i m) in let g : listed? ids t.item ≡ false = sym (listed_is ids t.is.0) ∙ sym e ∙ f in on x tt p t (rw g)
@@ -167,7 +172,7 @@ pub list_plan : {s : Bytes} {a : Area} (num : ℕ) (ids : List Id) (d : List ℕ
 list_plan {s} {a} num ids d w l = record { loop = rw (let y : a.open.head.count - a.open.head.count ≡ 0 = omega arith in y) (plan_loop num [] [] (map (again ids) (recs_in s a)) d w l) }
 
 module _ {s : Bytes} {at n num : ℕ} {ids : List Id} {d : List ℕ} {i left k : ℕ} (g : ListPlan s at n num ids d i left k) where
-  module _ {ok hit : Bool} {x : Seen} (p : 0 < left) (r : ReadsRec false s i ok x.size x) (e : hit ≡ listed_s ids x) {what : ℕ} (ew : what ≡ cond hit 4 0) where
+  module _ {hit : Bool} {x : Seen} (p : 0 < left) (r : FoundRec false s i x.size x) (e : hit ≡ listed_s ids x) {what : ℕ} (ew : what ≡ cond hit 4 0) where
     what_few : what < 7
     what_few = cases hit (λ b. let y : what ≡ 4 = ew ∙ rw b in omega arith) (λ b. let y : what ≡ 0 = ew ∙ rw b in omega arith)
 
@@ -204,16 +209,16 @@ module _ {s : Bytes} {a : Area} {ids : List Id} (w : AgainFrom s a ids) where
   pub area_again : AreaIn s a
   area_again = record { q = w.q; is = w.is; read = w.read }
 
-  module _ (tip : Id) {kept : ℕ} {rows : List ℕ} (t : TipIs s a.open.head tip) (P : Planned s a [] [] rows (map (again ids) (recs_in s a)) kept) where
-    opened_is : planned_q s a (marks_after a.open.head 0 kept) tip [] [] rows ≡ again_q ids w.q
+  module _ (tip : code.Option Id) {kept : ℕ} {rows : List ℕ} (t : TipIs s a.open.head tip) (P : Planned s a [] [] rows (map (again ids) (recs_in s a)) kept) where
+    opened_is : planned_q s a (marks_after a.open.head tip 0 kept) [] [] rows ≡ again_q ids w.q
     unfolding again_q committed
     opened_is =
         let st = w.read.store in
         same_queue (sym st.head.cursor) (sym (the_limits w.read)) (ap (λ v. (v + 1) % 2 ^ 64) (sym st.head.revision)) (sym st.head.cursor) (tip_of_law w.read tip t)
         (add-zero a.open.head.counter.0 ∙ sym st.head.counter) (P.are ∙ ap (map (again ids)) st.list)
 
-    pub opened_plan : length tip ≡ 32 → PlanFor s a (marks_after a.open.head 0 kept) tip [] [] rows
-    opened_plan l =
+    pub opened_plan : PlanFor s a (marks_after a.open.head tip 0 kept) [] [] rows
+    opened_plan =
         let h = w.read.store.head in
         record {
           area = area_again;
@@ -221,11 +226,10 @@ module _ {s : Bytes} {a : Area} {ids : List Id} (w : AgainFrom s a ids) where
           fit = P.fit;
           count = P.count ∙ sym (ap length P.are);
           small = record { persisted = h.cursor_small; revision = mod-lt _ (omega arith); cursor = h.cursor_small; counter = omega (arith, h.counter_small); count = omega (arith, P.few, h.count_small) };
-          long = l;
           fits = let u = ap (λ v. length (queue_c.enc v)) opened_is in omega (arith, w.fits, w.read.need);
         }
 
-    pub opened_done : (d : Bytes) {d' : Bytes} {q' : Queue} → read_area s ≡ some q' → d' ≡ over (area_bytes (planned_q s a (marks_after a.open.head 0 kept) tip [] [] rows)) d → d' ≡ over (area_bytes (again_q ids q')) d
+    pub opened_done : (d : Bytes) {d' : Bytes} {q' : Queue} → read_area s ≡ some q' → d' ≡ over (area_bytes (planned_q s a (marks_after a.open.head tip 0 kept) [] [] rows)) d → d' ≡ over (area_bytes (again_q ids q')) d
     opened_done d e h = h ∙ ap (λ v. over (area_bytes v) d) (opened_is ∙ ap (again_q ids) (one_queue s w.is e))
 
 -- ---- the call
@@ -233,18 +237,18 @@ pub reopen_3 : (cur next ids : Bytes) → read_area cur ≡ none → outcome (Re
 unfolding reopen_of
 reopen_3 cur next ids e = rw e
 
-module _ (cur next ids : Bytes) {a : Area} (i : AreaIs cur a) (t : a.ok ≡ true) where
+module _ (cur next ids : Bytes) {a : Area} (i : AreaIn cur a) where
   pub reopen_2 : length next < a.need → outcome (Refused 2) next [] ≡ reopen_of cur next ids
   unfolding reopen_of
-  reopen_2 h = let g = i.good t in rw (g.1, lt-ltb (length next) (need g.0.limits) (omega (arith, g.2.need)))
+  reopen_2 h = rw (i.is, lt-ltb (length next) (need i.q.limits) (omega (arith, i.read.need)))
 
   module _ (h : a.need ≤ length next) where
-    enough : ltb (length next) (need (i.good t).0.limits) ≡ false
-    enough = le-ltb (length next) (need (i.good t).0.limits) (omega (arith, (i.good t).2.need))
+    enough : ltb (length next) (need i.q.limits) ≡ false
+    enough = le-ltb (length next) (need i.q.limits) (omega (arith, i.read.need))
 
     pub reopen_5 : (length ids % 32 ≡ 0 → ⊥) → outcome (Refused 5) next [] ≡ reopen_of cur next ids
     unfolding reopen_of
-    reopen_5 n = let g = i.good t in rw (g.1, enough, ne_eqb (length ids % 32) 0 n)
+    reopen_5 n = rw (i.is, enough, ne_eqb (length ids % 32) 0 n)
 
     module _ (k : ℕ) (z : length ids % 32 ≡ 0) (f : ids_at ids k ≡ items 32 ids) {b : Bool} (r : b ≡ rise? (ids_at ids k)) where
       rises : b ≡ rise? (items 32 ids)
@@ -252,12 +256,12 @@ module _ (cur next ids : Bytes) {a : Area} (i : AreaIs cur a) (t : a.ok ≡ true
 
       pub reopen_5' : b ≡ false → outcome (Refused 5) next [] ≡ reopen_of cur next ids
       unfolding reopen_of
-      reopen_5' n = let g = i.good t in rw (g.1, enough, eq-eqb (length ids % 32) 0 z, ← rises, n)
+      reopen_5' n = rw (i.is, enough, eq-eqb (length ids % 32) 0 z, ← rises, n)
 
       pub reopen_rest : b ≡ true → {o : Outcome} → ReopenTold cur (ids_at ids k) o next → o ≡ reopen_of cur next ids
       unfolding reopen_of
-      reopen_rest n c = let g = i.good t in let y = c g.0 g.1 ∙ ap (λ l. told nothing_bytes next [] (reopen l g.0)) f in
-          rw (g.1, enough, eq-eqb (length ids % 32) 0 z, ← rises, n) y
+      reopen_rest n c = let y = c i.q i.is ∙ ap (λ l. told nothing_bytes next [] (reopen l i.q)) f in
+          rw (i.is, enough, eq-eqb (length ids % 32) 0 z, ← rises, n) y
 
 -- ---- from the ids on
 module _ {s : Bytes} {a : Area} (w : AreaIn s a) (ids : List Id) {b : Bool} (e : b ≡ any? (listed? ids) (list_at (form_c false rec_c) a.open.head.count s a.open.start)) where

@@ -1,6 +1,7 @@
 -- What a reconciliation makes of one record. Assumes nothing.
 use Rattle.std.specs.Prelude.{◌≡◌, refl, Bool, true, false, cond, ◌&&◌, ◌||◌, List, [], ◌∷◌, ◌++◌, ℕ, zero, suc, ◌+◌, ◌-◌, ◌*◌, ◌/◌, ◌%◌, ◌≤◌, ◌<◌, eqb, length, take, drop, get_or, set}
 use Rattle.std.proofs.Common.{ap, sym, ◌∙◌, append_assoc, append-nil, arith, le_of_suc-le-suc, add-one, length-append, length-set, take-take, take-suc-set, drop-drop, eq-eqb, ne_eqb, eqb-true}
+use Rattle.std.specs.Prelude as code
 use Rattle.std.proofs.Math.Option.{Option, none, some}
 use Rattle.std.proofs.Math.Arith.{digits_div, digits_mod}
 use Rattle.std.proofs.Math.Seq.{drop-append_seam, take-append_seam}
@@ -11,15 +12,17 @@ use Rattle.queue.specs.Codec.{All, cases, be_length, opt_c, pair_c, vec_c}
 use Rattle.queue.specs.layout.FrameCodec.{rec_c, id_c, place_c}
 use Rattle.queue.specs.bytes.Parts.{part}
 use Rattle.queue.specs.bytes.ViewAs.{view}
-use Rattle.queue.specs.bytes.ReaderAs.{Reads, whole, list_at}
+use Rattle.queue.specs.bytes.ReaderAs.{Found, whole, list_at}
 use Rattle.queue.specs.bytes.ReaderLaws.{be_at, false_true, none_left}
 use Rattle.queue.specs.layout.FormsCodec.{form_c, after_in_value}
 use Rattle.queue.specs.layout.RecordsAs.{records, recs_at}
-use Rattle.queue.specs.layout.FrameAs.{facts_of, place_height, SeenAs}
+use Rattle.queue.specs.layout.FrameAs.{facts_of, mined_at, SeenAs}
 use Rattle.queue.specs.theorems.Plain.{place_plain}
 use Rattle.queue.specs.theorems.SoundParts.{fields_of}
+use Rattle.queue.specs.change.AdmitAs.{height_of}
 use Rattle.queue.specs.change.OwnAs.{wanted_at}
-use Rattle.queue.specs.change.TouchAs.{entry_in, applied_in, entry_ids, EntriesRise, EntryAs, SeenOf, SeenHere, ConfirmedIs, own_ids, judge_f, as_touched, verdict_of_value, InEntry, TouchIs, VerdictOn, Judged, changed?, changes?}
+use Rattle.queue.specs.declared.layout.frame.Height.{Height}
+use Rattle.queue.specs.change.TouchAs.{entry_in, applied_in, entry_ids, EntriesRise, EntryAt, NoEntry, SeenOf, SeenHere, ConfirmedIs, own_ids, judge_f, as_touched, verdict_of_value, InEntry, TouchIs, VerdictOn, Judged, changed?, changes?}
 use Rattle.queue.specs.paper.Records.{Bytes, Id, Rec, queued, conflicted}
 use Rattle.queue.specs.paper.Lists.{is_some, any?, all?, find}
 use Rattle.queue.specs.paper.Ids.{cmp_l, same?, rise?}
@@ -30,9 +33,8 @@ use Rattle.queue.specs.paper.Calls.{applied_of}
 use Rattle.queue.specs.declared.layout.frame.Seen.{Seen}
 use Rattle.queue.specs.declared.layout.frame.Facts.{Facts}
 use Rattle.queue.specs.declared.layout.records.Records.{Records}
-use Rattle.queue.specs.declared.read.find.Found.{Found}
-use Rattle.queue.specs.declared.change.touch.Verdict.{Verdict}
-use Rattle.queue.proofs.layout.TurnLaws.{Scan, start, here, on, stop, end, ReadsRec, seen}
+use Rattle.queue.specs.change.TouchAs.{VerdictNumbers}
+use Rattle.queue.proofs.layout.TurnLaws.{Scan, start, here, on, stop, end, FoundRec, seen}
 use Rattle.queue.specs.bytes.OrderLaws.{cmp_flip, same_sym, below_not_same, or_false}
 use Rattle.queue.proofs.check.ScanLaws.{nothing_f}
 use Rattle.queue.proofs.bytes.PutByteLaws.{between, be_val_law, drop_take}
@@ -83,8 +85,8 @@ this_entry z (suc k) (suc m) t r h e =
     let o : same? z i ≡ false = same_sym z i ∙ below_not_same i z (rw q b) in
     rw o (this_entry z k m (drop 68 t) (rest_rises i l r) (le_of_suc-le-suc h) e ∙ ap (λ s. some (applied_of (take 68 s))) (behind m t))
 
-pub entry_end : (t : Bytes) (k : ℕ) {z : Id} {lo hi : ℕ} → Finding z (entry_ids t k) lo hi → hi ≤ lo → EntryAs t k z (record { found = false; at = 0 })
-entry_end t k {z} g h = record { good = λ f. false_true f; bad = λ _. no_entry z k t (find_end g h) }
+pub entry_end : (t : Bytes) (k : ℕ) {z : Id} {lo hi : ℕ} → Finding z (entry_ids t k) lo hi → hi ≤ lo → NoEntry t k z
+entry_end t k {z} g h = record { is = no_entry z k t (find_end g h) }
 
 module _ (t : Bytes) (k : ℕ) (w : EntriesRise t k) {z : Id} {lo hi : ℕ} (g : Finding z (entry_ids t k) lo hi) (m : ℕ) (h : m < hi) where
   pub entry_room : 68 * m + 68 ≤ length t
@@ -97,8 +99,8 @@ module _ (t : Bytes) (k : ℕ) (w : EntriesRise t k) {z : Id} {lo hi : ℕ} (g :
     it : y ≡ get_or (entry_ids t k) m []
     it = q ∙ sym (entry_at k m t few)
 
-    pub entry_here : cmp_l z y ≡ 1 → EntryAs t k z (record { found = true; at = m })
-    entry_here e = record { good = λ _. (entry_room, this_entry z k m t w.rise few (ap (cmp_l z) (sym it) ∙ e)); bad = λ f. false_true (sym f) }
+    pub entry_here : cmp_l z y ≡ 1 → EntryAt t k z m
+    entry_here e = record { within = entry_room; is = this_entry z k m t w.rise few (ap (cmp_l z) (sym it) ∙ e) }
 
     pub entry_low : cmp_l z y ≡ 0 → Finding z (entry_ids t k) lo m
     entry_low = at_low g w.rise m it h
@@ -112,23 +114,19 @@ module _ (s : Bytes) (base : ℕ) (x : Seen) (t : Bytes) (p : ℕ) where
   unfolding facts_of
   state_of r w = ap (λ v. v.state) w.0.facts
 
-  placed_of : (r : Rec) → SeenOf s base x r → is_some r.place ≡ x.facts.placed
+  placed_of : (r : Rec) → SeenOf s base x r → mined_at r.place ≡ x.facts.mined
   unfolding facts_of
-  placed_of r w = sym (ap (λ v. v.placed) w.0.facts)
-
-  height_of : (r : Rec) → SeenOf s base x r → place_height r.place ≡ x.facts.mined.0
-  unfolding facts_of
-  height_of r w = sym (ap (λ v. v.mined.0) w.0.facts)
+  placed_of r w = sym (ap (λ v. v.mined) w.0.facts)
 
   pub unmined : (x.facts.state ≡ 2 → ⊥) → ConfirmedIs s base x t p false
   unmined n r w = rw (ne_eqb r.state 2 (λ e. n (state_of r w ∙ e)))
 
-  pub unplaced : x.facts.state ≡ 2 → x.facts.placed ≡ false → ConfirmedIs s base x t p false
+  pub unplaced : x.facts.state ≡ 2 → x.facts.mined ≡ code.None → ConfirmedIs s base x t p false
   unplaced e n r w = rw (eq-eqb r.state 2 (sym (state_of r w) ∙ e)) (go r.place (placed_of r w ∙ n))
     where
-      go : (o : Option (ℕ × Id)) → is_some o ≡ false → false ≡ confirmed? (entry_in t p) o
+      go : (o : Option (ℕ × Id)) → mined_at o ≡ code.None → false ≡ confirmed? (entry_in t p) o
       go none e = refl
-      go (some y) e = false_true (sym e)
+      go (some y) e = false_true (sym (ap code.is_some e))
 
   place_some : (r : Rec) (h : ℕ) (b : Id) → SeenOf s base x r → r.place ≡ some (h, b) → length b ≡ 32 → (part 32 (view false s base) (x.after + 5) ≡ b) × (x.after + 37 ≤ length (view false s base))
   unfolding part place_bytes
@@ -146,25 +144,24 @@ module _ (s : Bytes) (base : ℕ) (x : Seen) (t : Bytes) (p : ℕ) where
       front : (a c : Bytes) → length a ≡ 32 → take 32 (a ++ c) ≡ a
       front a c e = ap (λ (k : ℕ). take k (a ++ c)) (sym e) ∙ take-append_seam a c
 
-  some_place : (r : Rec) → rec_c.ok r → is_some r.place ≡ true → (h : ℕ) × (b : Id) × (r.place ≡ some (h, b)) × (length b ≡ 32)
+  some_place : (r : Rec) → rec_c.ok r → {m : Height} → mined_at r.place ≡ code.Some m → (b : Id) × (r.place ≡ some (m.0, b)) × (length b ≡ 32)
   unfolding place_c opt_c pair_c id_c vec_c
-  some_place r o e = go r.place refl e (fields_of r o).place
+  some_place r o {m} e = go r.place refl e (fields_of r o).place
     where
-      go : (y : Option (ℕ × Id)) → r.place ≡ y → is_some y ≡ true → place_c.ok y → (h : ℕ) × (b : Id) × (r.place ≡ some (h, b)) × (length b ≡ 32)
-      go none f e k = false_true e
-      go (some z) f e k = (z.0, z.1, f, k.1.1)
+      go : (y : Option (ℕ × Id)) → r.place ≡ y → mined_at y ≡ code.Some m → place_c.ok y → (b : Id) × (r.place ≡ some (m.0, b)) × (length b ≡ 32)
+      go none f e k = false_true (ap code.is_some e)
+      go (some z) f e k = let h : z.0 ≡ m.0 = ap (λ o. (height_of o).0) e in (z.1, f ∙ ap (λ n. some (n, z.1)) h, k.1.1)
 
-  pub place_room : SeenHere s base x → x.facts.placed ≡ true → x.after + 37 ≤ length (view false s base)
-  place_room w n = let q = some_place w.0 w.1.1 (placed_of w.0 w.1 ∙ n) in (place_some w.0 q.0 q.1 w.1 q.2 q.3).1
+  pub place_room : {m : Height} → SeenHere s base x → x.facts.mined ≡ code.Some m → x.after + 37 ≤ length (view false s base)
+  place_room w n = let q = some_place w.0 w.1.1 (placed_of w.0 w.1 ∙ n) in (place_some w.0 _ q.0 w.1 q.1 q.2).1
 
-  pub placed_is : {n : ℕ} {a b : Id} {u : Bool} → x.facts.state ≡ 2 → x.facts.placed ≡ true → p + 68 ≤ length t → n ≡ be_at 4 (view false t 0) (p + 32) → a ≡ part 32 (view false s base) (x.after + 5) → b ≡ part 32 (view false t 0) (p + 36)
-      → u ≡ (eqb x.facts.mined.0 n && eqb (cmp_l a b) 1) → ConfirmedIs s base x t p u
-  placed_is {n} {a} {b} {u} e m h i j k f r w =
+  pub placed_is : {n : ℕ} {m' : Height} {a b : Id} {u : Bool} → x.facts.state ≡ 2 → x.facts.mined ≡ code.Some m' → p + 68 ≤ length t → n ≡ be_at 4 (view false t 0) (p + 32) → a ≡ part 32 (view false s base) (x.after + 5) → b ≡ part 32 (view false t 0) (p + 36)
+      → u ≡ (eqb m'.0 n && eqb (cmp_l a b) 1) → ConfirmedIs s base x t p u
+  placed_is {n} {m'} {a} {b} {u} e m h i j k f r w =
       let q = some_place r w.1 (placed_of r w ∙ m) in
-      let z = (place_some r q.0 q.1 w q.2 q.3).0 in
-      let g : q.0 ≡ x.facts.mined.0 = sym (ap place_height q.2) ∙ height_of r w in
-      let y : u ≡ confirmed? (entry_in t p) (some (q.0, q.1)) = f ∙ and_same (two' (sym g) (i ∙ sym (entry_height t p h))) (two'' (j ∙ z) (k ∙ sym (entry_block t p))) in
-      y ∙ ap (confirmed? (entry_in t p)) (sym q.2) ∙ ap (λ (v : Bool). v && confirmed? (entry_in t p) r.place) (sym (eq-eqb r.state 2 (sym (state_of r w) ∙ e)))
+      let z = (place_some r m'.0 q.0 w q.1 q.2).0 in
+      let y : u ≡ confirmed? (entry_in t p) (some (m'.0, q.0)) = f ∙ and_same (two' refl (i ∙ sym (entry_height t p h))) (two'' (j ∙ z) (k ∙ sym (entry_block t p))) in
+      y ∙ ap (confirmed? (entry_in t p)) (sym q.1) ∙ ap (λ (v : Bool). v && confirmed? (entry_in t p) r.place) (sym (eq-eqb r.state 2 (sym (state_of r w) ∙ e)))
     where
       two' : {a a' b b' : ℕ} → a ≡ a' → b ≡ b' → eqb a b ≡ eqb a' b'
       two' e f = cc
@@ -181,7 +178,7 @@ pub out_turn : (i : Id) (r : Rec) (l : List Rec) → out_f i tt (r ∷ l) ≡ ((
 unfolding out_f
 out_turn i r l = among_append i (cond (eqb r.state 0) (outputs r.body) []) (queued_outputs l) ∙ cases (eqb r.state 0) (λ t. rw t) (λ t. rw t)
 
-module _ (z : Id) {s : Bytes} {n at i left : ℕ} (x : Scan (form_c false rec_c) (out_f z) s n at tt i left tt) (h : 0 < left) {m : ℕ} {ok b : Bool} {y : Seen} (r : ReadsRec false s i ok m y) (e : b ≡ (eqb y.facts.state 0 && among? z (list_at id_c y.facts.outs (view false s i) y.outs))) where
+module _ (z : Id) {s : Bytes} {n at i left : ℕ} (x : Scan (form_c false rec_c) (out_f z) s n at tt i left tt) (h : 0 < left) {m : ℕ} {b : Bool} {y : Seen} (r : FoundRec false s i m y) (e : b ≡ (eqb y.facts.state 0 && among? z (list_at id_c y.facts.outs (view false s i) y.outs))) where
   hit_is : (eqb (seen false x h r).item.state 0 && among? z (outputs (seen false x h r).item.body)) ≡ b
   unfolding facts_of
   hit_is = let w = (seen false x h r).is.0 in sym (e ∙ and_same (ap (λ v. eqb v.state 0) w.facts) (ap (among? z) w.outs_list))
@@ -210,11 +207,11 @@ unfoldable pub fine_f : List Id → Unit {0} → List Id → Bool
 fine_f own u l = all? (λ i. among? i own) l
 
 module _ (own : List Id) {v : Bytes} {n at i left : ℕ} (x : Scan id_c (fine_f own) v n at tt i left tt) where
-  pub fine_go : {next : ℕ} {ok b : Bool} {y : Id} → 0 < left → Reads id_c v i ok next (λ w. w ≡ y) → b ≡ among? y own → b ≡ true → Scan id_c (fine_f own) v n at tt next (left - 1) tt
+  pub fine_go : {next : ℕ} {b : Bool} {y : Id} → 0 < left → Found id_c v i next (λ w. w ≡ y) → b ≡ among? y own → b ≡ true → Scan id_c (fine_f own) v n at tt next (left - 1) tt
   unfolding fine_f
   fine_go h r e f = let t = here x h r in on x tt h t (rw (t.is, ← e, f))
 
-  pub fine_stop : {next : ℕ} {ok b : Bool} {y : Id} → 0 < left → Reads id_c v i ok next (λ w. w ≡ y) → b ≡ among? y own → b ≡ false → false ≡ all? (λ i. among? i own) (list_at id_c n v at)
+  pub fine_stop : {next : ℕ} {b : Bool} {y : Id} → 0 < left → Found id_c v i next (λ w. w ≡ y) → b ≡ among? y own → b ≡ false → false ≡ all? (λ i. among? i own) (list_at id_c n v at)
   unfolding fine_f
   fine_stop h r e f = let t = here x h r in stop x t (rw (t.is, ← e, f))
 
@@ -290,30 +287,30 @@ pub other_is : (c : ℕ) {what : ℕ} → what ≡ c % 4 → (what ≡ 1 → ⊥
 unfolding verdict_of_value
 other_is c e h = rw (e, ne_eqb (c % 4) 1 (λ z. h (e ∙ z)))
 
-module _ (s : Bytes) (recs : Records) (base : ℕ) (x : Seen) (t : Bytes) (k : ℕ) (caught : Bool) (ids : List Id) {f : Found} (e : EntryAs t k x.id f) where
+module _ (s : Bytes) (recs : Records) (base : ℕ) (x : Seen) (t : Bytes) (k : ℕ) (caught : Bool) (ids : List Id) where
   abbrev own : List Id
   own = own_ids ids (recs_at (form_c false rec_c) s recs)
 
   by_id : (r : Rec) → SeenOf s base x r → find (λ a. same? r.id a.id) (applied_in t k) ≡ find (λ a. same? x.id a.id) (applied_in t k)
   by_id r w = ap (λ i. find (λ a. same? i a.id) (applied_in t k)) (sym w.0.id)
 
-  module _ (g : f.found ≡ true) {b : Bool} (c : ConfirmedIs s base x t (68 * f.at) b) where
-    found_is : (r : Rec) → SeenOf s base x r → touch_found caught own r (find (λ a. same? r.id a.id) (applied_in t k)) ≡ cond b none (some (confirm (entry_in t (68 * f.at)) r))
-    found_is r w = ap (touch_found caught own r) (by_id r w ∙ (e.good g).1) ∙ ap (λ v. cond v none (some (confirm (entry_in t (68 * f.at)) r))) (sym (c r w))
+  module _ {at : ℕ} (e : EntryAt t k x.id at) {b : Bool} (c : ConfirmedIs s base x t (68 * at) b) where
+    found_is : (r : Rec) → SeenOf s base x r → touch_found caught own r (find (λ a. same? r.id a.id) (applied_in t k)) ≡ cond b none (some (confirm (entry_in t (68 * at)) r))
+    found_is r w = ap (touch_found caught own r) (by_id r w ∙ e.is) ∙ ap (λ v. cond v none (some (confirm (entry_in t (68 * at)) r))) (sym (c r w))
 
     pub verdict_same : b ≡ true → TouchIs s recs base x t k caught ids 0
     unfolding as_touched
     verdict_same y = record { is = λ r w. found_is r w ∙ rw (y, verdict_0); within = λ z. absurd (let u : ⊥ = omega arith in u) }
 
-    pub verdict_confirm : b ≡ false → TouchIs s recs base x t k caught ids (f.at * 4 + 1)
+    pub verdict_confirm : b ≡ false → TouchIs s recs base x t k caught ids (at * 4 + 1)
     unfolding as_touched
-    verdict_confirm y = record { is = λ r w. found_is r w ∙ rw (y, verdict_1 f.at); within = λ z. rw (digits_div f.at {m = 4} {r = 1} (omega arith)) (e.good g).0 }
+    verdict_confirm y = record { is = λ r w. found_is r w ∙ rw (y, verdict_1 at); within = λ z. rw (digits_div at {m = 4} {r = 1} (omega arith)) e.within }
 
-  module _ (g : f.found ≡ false) {u : Bool} (c : u ≡ (caught && pending? x.facts.state)) where
+  module _ (e : NoEntry t k x.id) {u : Bool} (c : u ≡ (caught && pending? x.facts.state)) where
     missing_is : (r : Rec) → SeenOf s base x r → touch_found caught own r (find (λ a. same? r.id a.id) (applied_in t k)) ≡ cond u (cond (all? (λ i. among? i own) (wanted r.body)) (judge queued 0 r) (judge conflicted 5 r)) none
     unfolding facts_of
     missing_is r w =
-        ap (touch_found caught own r) (by_id r w ∙ e.bad g)
+        ap (touch_found caught own r) (by_id r w ∙ e.is)
         ∙ ap (λ v. cond v (cond (all? (λ i. among? i own) (wanted r.body)) (judge queued 0 r) (judge conflicted 5 r)) none) (sym (c ∙ ap (λ v. caught && pending? v.state) w.0.facts))
 
     pub verdict_none : u ≡ false → TouchIs s recs base x t k caught ids 0
@@ -329,11 +326,11 @@ module _ (s : Bytes) (recs : Records) (base : ℕ) (x : Seen) (t : Bytes) (k : �
     }
 
 -- ---- does any change
-changed : (t : Bytes) (v : Verdict) (r : Rec) → (v.what ≡ 0 → ⊥) → is_some (as_touched t v r) ≡ true
+changed : (t : Bytes) (v : VerdictNumbers) (r : Rec) → (v.what ≡ 0 → ⊥) → is_some (as_touched t v r) ≡ true
 unfolding as_touched
 changed t v r n = rw (ne_eqb v.what 0 n) (cases (eqb v.what 1) (λ e. rw e) (λ e. rw e (cases (eqb v.what 2) (λ f. rw f) (λ f. rw f))))
 
-unchanged : (t : Bytes) (v : Verdict) (r : Rec) → v.what ≡ 0 → is_some (as_touched t v r) ≡ false
+unchanged : (t : Bytes) (v : VerdictNumbers) (r : Rec) → v.what ≡ 0 → is_some (as_touched t v r) ≡ false
 unfolding as_touched
 unchanged t v r e = rw (eq-eqb v.what 0 e)
 
@@ -373,7 +370,7 @@ pub judging : (t : Bytes) (caught : Bool) (own : List Id) (es : List Applied) (s
 judging t caught own es s n at vs h w = record { scan = start (form_c false rec_c) nothing_f s n at tt h w; count = omega arith; long = refl; rest = λ z j. j }
 
 module _ {t : Bytes} (k : ℕ) {caught : Bool} (ids : List Id) {s : Bytes} {n at room i left j : ℕ} {vs : List ℕ} (x : Judging t caught (own_ids ids (list_at (form_c false rec_c) n s at)) (applied_in t k) s n at room i left j vs) where
-  module _ (h : 0 < left) {m : ℕ} {ok : Bool} {y : Seen} (r : ReadsRec false s i ok m y) where
+  module _ (h : 0 < left) {m : ℕ} {y : Seen} (r : FoundRec false s i m y) where
     pub judge_seen : SeenOf s i y (seen false x.scan h r).item
     judge_seen = let u = seen false x.scan h r in (u.is.0, u.is.1.fine)
 

@@ -1,4 +1,5 @@
 -- Whole areas written from an area. Assumes nothing.
+use Rattle.std.specs.Prelude as code
 use Rattle.std.specs.Prelude.{◌≡◌, refl, Bool, true, false, List, [], ◌∷◌, ◌++◌, ℕ, ◌+◌, ◌≤◌, ◌<◌, leb, length, drop, take}
 use Rattle.std.proofs.Common.{ap, sym, ◌∙◌, append_assoc, arith, length-append, length-drop, drop-drop, take_at, drop_at, leb-true}
 use Rattle.std.proofs.Math.Option.{Option, none, some}
@@ -16,7 +17,7 @@ use Rattle.queue.specs.Areas.{read_area}
 use Rattle.queue.specs.layout.FrameAs.{limits_in, HeadAs, head_t}
 use Rattle.queue.specs.check.AreaAs.{AreaAs, records_of}
 use Rattle.queue.specs.theorems.SoundParts.{Right}
-use Rattle.queue.specs.layout.HeadAs.{front_len, tip_of, tip_size, head_with, front_bytes, queue_of}
+use Rattle.queue.specs.layout.HeadAs.{front_len, tip_in, tip_size, TipLong, head_with, front_bytes, queue_of}
 use Rattle.queue.specs.layout.LimitsAs.{shares_long}
 use Rattle.queue.specs.change.WriteAs.{HeadIn, TipIs}
 use Rattle.queue.specs.theorems.Plain.{bytes_plain, limits_plain}
@@ -25,7 +26,7 @@ use Rattle.queue.specs.paper.Lists.{is_some}
 use Rattle.queue.specs.paper.Sound.{need, holder?, finish_right?, tombstones}
 use Rattle.queue.specs.paper.Calls.{numbers}
 use Rattle.queue.specs.paper.Kinds.{newest}
-use Rattle.queue.specs.declared.layout.frame.HeadR.{HeadR}
+use Rattle.queue.specs.declared.layout.frame.Head as code_head
 use Rattle.queue.specs.declared.check.area.Area.{Area}
 use Rattle.queue.specs.declared.layout.head.Marks.{Marks}
 use Rattle.queue.proofs.check.AreaLaws.{recs_stand, fit}
@@ -45,7 +46,7 @@ tip_ok : (i : Id) → (opt_c id_c).ok (some i) → length i ≡ 32
 unfolding opt_c id_c vec_c
 tip_ok i h = h.1
 
-module _ (v : Bytes) (x : Head) (h : HeadR) (w : HeadAs v h x) where
+module _ (v : Bytes) (x : Head) (h : code_head.Head) (w : HeadAs v h x) where
   tip_some : (i : Id) → x.tip ≡ some i → length i ≡ 32 → (take 32 (drop 94 v) ≡ i) × (126 ≤ length v)
   tip_some i e l =
       let a : drop 89 v ≡ ((codec.be 4 x.cursor ++ (1 ∷ [])) ++ i) ++ drop h.after v = ap (λ k. drop k v) (sym w.marks_at) ∙ w.marks ∙ ap (λ o. ((be_c 4).enc x.cursor ++ (opt_c id_c).enc o) ++ drop h.after v) e ∙ ap (λ k. k ++ drop h.after v) (tip_enc x.cursor i) in
@@ -61,19 +62,19 @@ module _ (v : Bytes) (x : Head) (h : HeadR) (w : HeadAs v h x) where
       go none e = false_true (sym (ap is_some e) ∙ w.tip ∙ t)
       go (some i) e = (tip_some i e (tip_ok i (rw e at o))).1
 
-  pub tip_here : {r : Id} → (opt_c id_c).ok x.tip → h.tip ≡ true → r ≡ part 32 v 94 → tip_of h.tip r ≡ x.tip
+  pub tip_here : {r : Id} → (opt_c id_c).ok x.tip → h.tip ≡ true → r ≡ part 32 v 94 → some r ≡ x.tip
   unfolding part
   tip_here {r} o t f = go x.tip refl
     where
-      go : (y : Option Id) → x.tip ≡ y → tip_of h.tip r ≡ x.tip
+      go : (y : Option Id) → x.tip ≡ y → some r ≡ x.tip
       go none e = false_true (sym (ap is_some e) ∙ w.tip ∙ t)
-      go (some i) e = rw (t, e) (ap some (f ∙ (tip_some i e (tip_ok i (rw e at o))).0))
+      go (some i) e = rw e (ap some (f ∙ (tip_some i e (tip_ok i (rw e at o))).0))
 
-  pub tip_none : (r : Id) → h.tip ≡ false → tip_of h.tip r ≡ x.tip
-  tip_none r t = go x.tip refl
+  pub tip_none : h.tip ≡ false → none ≡ x.tip
+  tip_none t = go x.tip refl
     where
-      go : (y : Option Id) → x.tip ≡ y → tip_of h.tip r ≡ x.tip
-      go none e = rw (t, e)
+      go : (y : Option Id) → x.tip ≡ y → none ≡ x.tip
+      go none e = sym e
       go (some i) e = false_true (sym t ∙ sym w.tip ∙ ap is_some e)
 
 -- ---- the records as they stand
@@ -92,31 +93,31 @@ module _ {s : Bytes} {a : Area} {q : Queue} (w : AreaAs s a q) where
   pub head_in_law : HeadIn s a.open.head
   head_in_law = (head_for (store_of q), w.store.head, (fit w).tip)
 
-  pub tip_of_law : (r : Id) → TipIs s a.open.head r → tip_of a.open.head.tip r ≡ q.tip
+  pub tip_of_law : (r : code.Option Id) → TipIs s a.open.head r → tip_in r ≡ q.tip
   tip_of_law r t = t (head_for (store_of q)) w.store.head (fit w).tip
 
 -- how long a queue's bytes are
-tip_long : (has : Bool) (tip : Id) → length tip ≡ 32 → length ((opt_c id_c).enc (tip_of has tip)) ≡ tip_size has
+tip_long : (tip : code.Option Id) → TipLong tip → length ((opt_c id_c).enc (tip_in tip)) ≡ tip_size tip
 unfolding opt_c opt_enc id_c vec_c
-tip_long true tip h = let e = ap length (bytes_plain tip) in omega arith
-tip_long false tip h = refl
+tip_long (code.Some id) h = let e = ap length (bytes_plain id) in omega arith
+tip_long code.None h = refl
 
 pub limits_long : (l : Limits) → length l.shares ≡ 16 → length (limits_c.enc l) ≡ 80
 limits_long l h =
     let b = be_length 4 l.P in let c = be_length 4 l.B in let d = be_length 4 l.T in let e = be_length 4 l.K in let f = shares_long l.shares in
     ap length (limits_plain newest l) ∙ simp length-append (omega arith)
 
-front_long : (l : Limits) (m : Marks) (tip : Id) → length l.shares ≡ 16 → length tip ≡ 32 → length (front_bytes l m tip) ≡ front_len + tip_size m.tip
+front_long : (l : Limits) (m : Marks) → length l.shares ≡ 16 → TipLong m.tip → length (front_bytes l m) ≡ front_len + tip_size m.tip
 unfolding front_bytes
-front_long l m tip n h =
+front_long l m n h =
     let a = be_length 4 m.persisted.0 in let b = limits_long l n in
-    let f = be_length 8 m.revision in let g = be_length 4 m.cursor.0 in let i = tip_long m.tip tip h in let j = be_length 8 m.counter.0 in let k = be_length 4 m.count in
-    ap (λ y. length (codec.be 4 m.persisted.0 ++ y)) (head_enc (head_with l m tip))
-    ∙ length_eight (codec.be 4 m.persisted.0) (1 ∷ []) (limits_c.enc l) (codec.be 8 m.revision) (codec.be 4 m.cursor.0) ((opt_c id_c).enc (tip_of m.tip tip)) (codec.be 8 m.counter.0) (codec.be 4 m.count)
+    let f = be_length 8 m.revision in let g = be_length 4 m.cursor.0 in let i = tip_long m.tip h in let j = be_length 8 m.counter.0 in let k = be_length 4 m.count in
+    ap (λ y. length (codec.be 4 m.persisted.0 ++ y)) (head_enc (head_with l m))
+    ∙ length_eight (codec.be 4 m.persisted.0) (1 ∷ []) (limits_c.enc l) (codec.be 8 m.revision) (codec.be 4 m.cursor.0) ((opt_c id_c).enc (tip_in m.tip)) (codec.be 8 m.counter.0) (codec.be 4 m.count)
     ∙ omega arith
 
-pub queue_long : (l : Limits) (m : Marks) (tip : Id) (recs : List Rec) → length l.shares ≡ 16 → m.count ≡ length recs → length tip ≡ 32 → length (queue_c.enc (queue_of l m tip recs)) ≡ front_len + tip_size m.tip + length (encs rec_c recs)
-queue_long l m tip recs n e h = ap length (sym (front_enc l m tip recs e)) ∙ length-append (front_bytes l m tip) (encs rec_c recs) ∙ ap (λ k. k + length (encs rec_c recs)) (front_long l m tip n h)
+pub queue_long : (l : Limits) (m : Marks) (recs : List Rec) → length l.shares ≡ 16 → m.count ≡ length recs → TipLong m.tip → length (queue_c.enc (queue_of l m recs)) ≡ front_len + tip_size m.tip + length (encs rec_c recs)
+queue_long l m recs n e h = ap length (sym (front_enc l m recs e)) ∙ length-append (front_bytes l m) (encs rec_c recs) ∙ ap (λ k. k + length (encs rec_c recs)) (front_long l m n h)
 
 -- ---- one queue
 abbrev queue : ℕ → Limits → ℕ → ℕ → Option Id → ℕ → List Rec → Queue

@@ -1,5 +1,5 @@
 -- The bytes of a record after its verdict. Assumes nothing.
-use Rattle.std.specs.Prelude.{◌≡◌, refl, Bool, false, cond, ◌&&◌, ◌||◌, [], ◌∷◌, ◌++◌, ℕ, zero, suc, ◌+◌, ◌-◌, ◌^◌, ◌≤◌, ◌<◌, eqb, length, take, drop}
+use Rattle.std.specs.Prelude.{◌≡◌, refl, false, cond, ◌&&◌, ◌||◌, [], ◌∷◌, ◌++◌, ℕ, zero, suc, ◌+◌, ◌-◌, ◌^◌, ◌≤◌, ◌<◌, eqb, length, take, drop}
 use Rattle.std.proofs.Common.{ap, sym, ◌∙◌, append_assoc, append-nil, arith, le_of_suc-le-suc, length-append, length-drop, take-append-drop, drop_of_length-le, drop-drop, take-take, take_all, length-take-le, eq-eqb, ne_eqb, eqb-true}
 use Rattle.std.proofs.Math.Option.{none, some}
 use Rattle.queue.specs.Basics.{join_same, join_eight}
@@ -20,8 +20,7 @@ use Rattle.queue.specs.paper.Area.{be_val, flagged, terms_bytes, place_bytes, he
 use Rattle.queue.specs.paper.Kinds.{newest}
 use Rattle.queue.specs.declared.layout.frame.Seen.{Seen}
 use Rattle.queue.specs.declared.layout.frame.Facts.{Facts}
-use Rattle.queue.specs.declared.change.touch.Verdict.{Verdict}
-use Rattle.queue.proofs.layout.FrameLaws.{caller_byte}
+use Rattle.queue.specs.change.TouchAs.{VerdictNumbers}
 use Rattle.queue.proofs.layout.TurnLaws.{SeenIn}
 use Rattle.queue.proofs.bytes.PutLaws.{then, recast, nothing, length_be}
 use Rattle.queue.proofs.bytes.PutByteLaws.{be_same, between, be_val_law, drop_take}
@@ -40,12 +39,8 @@ reason_small f = cases (eqb f.mark 0)
     (λ t. cases f.holder (λ u. rw (t, u) (omega arith)) (λ u. rw (t, u) (omega arith)))
     (λ t. cases (eqb f.mark 4) (λ u. rw (t, u) (omega arith)) (λ u. cases (eqb f.mark 5) (λ v. rw (t, u, v) (omega arith)) (λ v. rw (t, u, v) (omega arith))))
 
-pub mark_again : (what : ℕ) (f : Facts) → what ≡ 4 → 0 ≡ mark_n what f
-unfolding mark_n
-mark_again what f e = rw (ne_eqb what 1 (λ z. let y : ⊥ = omega arith in y), eq-eqb what 4 e)
-
 -- ---- the place, and what stands behind the mark
-module _ (s : Bytes) (base : ℕ) (x : Seen) (t : Bytes) (v : Verdict) where
+module _ (s : Bytes) (base : ℕ) (x : Seen) (t : Bytes) (v : VerdictNumbers) where
   pub place_new : {d d₁ d₂ : Bytes} {at a r : ℕ} → v.what ≡ 1 → Put d at (1 ∷ []) 1 a d₁ → Put d₁ a (take 36 (drop (v.at + 32) t)) 36 r d₂ → Put d at (place_n s base x t v) (place_len x v) r d₂
   unfolding place_n
   place_new e p q = rw (eq-eqb v.what 1 e) (recast (then p q) refl refl refl)
@@ -96,7 +91,7 @@ module _ (s : Bytes) (base : ℕ) (x : Seen) (n : ℕ) where
       (λ a. rw a (length-take-le (x.size - (x.mark + 1)) (drop (base + (x.mark + 1)) s) (omega (arith, length-drop (base + (x.mark + 1)) s, p.up_body, p.within))))
       (λ a. let e = length_be 8 n in rw a (length-append (be_last 8 n) (0 ∷ []) ∙ omega arith))
 
-pub next_long : (s : Bytes) (base : ℕ) (x : Seen) (t : Bytes) (v : Verdict) (n : ℕ) → PartsIn s base x → (v.what ≡ 1 → v.at + 68 ≤ length t) → length (next_bytes s base x t v n) ≡ next_len x v n
+pub next_long : (s : Bytes) (base : ℕ) (x : Seen) (t : Bytes) (v : VerdictNumbers) (n : ℕ) → PartsIn s base x → (v.what ≡ 1 → v.at + 68 ≤ length t) → length (next_bytes s base x t v n) ≡ next_len x v n
 unfolding next_bytes lead_bytes
 next_long s base x t v n p w =
     let a = length-take-le (x.after - terms_at) (drop (base + terms_at) s) (omega (arith, length-drop (base + terms_at) s, p.up_place, p.up_body, p.within)) in
@@ -106,7 +101,11 @@ next_long s base x t v n p w =
     simp length-append (omega (arith, p.id, p.up))
 
 -- ---- the parts of a record that was read
-pub parts_in : {s : Bytes} {i : ℕ} {ok : Bool} {x : Seen} {r : Rec} → SeenIn false s i ok x.size x r → PartsIn s i x
+pub caller_byte : {v : Bytes} {x : Seen} {r : Rec} → SeenAs v x r → be_last 1 x.facts.caller ≡ codec.be 1 r.caller
+unfolding facts_of
+caller_byte {x = x} w = be_same 1 x.facts.caller w.small.caller ∙ ap (λ (f : Facts). codec.be 1 f.caller) w.facts
+
+pub parts_in : {s : Bytes} {i : ℕ} {x : Seen} {r : Rec} → SeenIn false s i x.size x r → PartsIn s i x
 parts_in w = record { id = id_long w; up = w.0.up; up_place = w.0.up_place; up_body = w.0.up_body; within = raw_within w }
 
 module _ (s : Bytes) (base : ℕ) {x : Seen} {r : Rec} (w : SeenAs (view false s base) x r) where
@@ -170,7 +169,7 @@ entry_bytes_law t p h w =
     let c : codec.be 4 (be_val (take 4 X)) ≡ take 4 X = four_back (take 4 X) (length-take-le 4 X (omega (arith, length-drop (p + 32) t))) (small_part (p + 32) 4 t w) in
     ap (λ (y : Bytes). 1 ∷ y) (sym (join_same (ap (λ (y : Bytes). codec.be 4 (be_val y)) a ∙ c ∙ sym (take-take 4 36 X (omega arith))) b ∙ take-append-drop 4 (take 36 X)))
 
-module _ (s : Bytes) (base : ℕ) (x : Seen) (t : Bytes) (v : Verdict) (n : ℕ) (r : Rec) (w : SeenOf s base x r) (h : v.what ≡ 1 → v.at + 68 ≤ length t) (S : Small t) where
+module _ (s : Bytes) (base : ℕ) (x : Seen) (t : Bytes) (v : VerdictNumbers) (n : ℕ) (r : Rec) (w : SeenOf s base x r) (h : v.what ≡ 1 → v.at + 68 ≤ length t) (S : Small t) where
   n_place : place_n s base x t v ≡ place_bytes (place_after t v r.place)
   unfolding place_n place_after place_bytes
   n_place = cases (eqb v.what 1)
@@ -236,7 +235,7 @@ module _ (s : Bytes) (base : ℕ) (x : Seen) (t : Bytes) (v : Verdict) (n : ℕ)
   unfolding step_n encs
   step_is l = cases (eqb v.what 7) (λ a. rw a) (λ a. rw a (next_is l ∙ sym (append-nil (rec_c.enc (becomes t v n r)))))
 
-module _ (s : Bytes) (base : ℕ) (x : Seen) (t : Bytes) (v : Verdict) (n : ℕ) where
+module _ (s : Bytes) (base : ℕ) (x : Seen) (t : Bytes) (v : VerdictNumbers) (n : ℕ) where
   pub step_yes : (v.what ≡ 7 → ⊥) → step_n s base x t v n ≡ next_bytes s base x t v n
   unfolding step_n
   step_yes e = rw (ne_eqb v.what 7 e)

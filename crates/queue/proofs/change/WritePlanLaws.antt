@@ -1,4 +1,6 @@
+use Rattle.queue.specs.bytes.ViewAs.{view}
 -- An area written from an area and the rows of a plan: the loop over the rows, and the whole area. Assumes nothing.
+use Rattle.std.specs.Prelude as code
 use Rattle.std.specs.Prelude.{◌≡◌, refl, Bool, true, false, cond, not, ◌||◌, ◌⊎◌, List, [], ◌∷◌, ◌++◌, ℕ, ◌+◌, ◌-◌, ◌%◌, ◌^◌, ◌≤◌, ◌<◌, ltb, leb, eqb, length, take, drop, get_or, replicate}
 use Rattle.std.proofs.Common.{ap, sym, ◌∙◌, append-nil, arith, add-zero, mod-lt, add-one, length-append, length-drop, take-append-drop, drop_of_length-le, drop-cons, drop-drop, eq-eqb, ne_eqb}
 use Rattle.std.proofs.Math.Option.{some}
@@ -9,12 +11,12 @@ use Rattle.queue.specs.Basics.{join_same, join_four, drop_past}
 use Rattle.queue.specs.Codec.{All, cases, encs, got}
 use Rattle.queue.specs.bytes.PutAs.{Put}
 use Rattle.queue.specs.layout.FrameCodec.{rec_c}
-use Rattle.queue.specs.bytes.ReaderAs.{list_at}
+use Rattle.queue.specs.bytes.ReaderAs.{list_at, reads?}
 use Rattle.queue.specs.bytes.ReaderLaws.{none_left}
 use Rattle.queue.specs.layout.FormsCodec.{form_c, form_raw, queue_c, store_of, area_form, ok_queue, ok_store}
 use Rattle.queue.specs.Areas.{read_area}
 use Rattle.queue.specs.layout.FrameAs.{facts_of, limits_in, head_t}
-use Rattle.queue.specs.layout.HeadAs.{front_len, tip_of, tip_size, front_bytes}
+use Rattle.queue.specs.layout.HeadAs.{front_len, tip_in, tip_size, TipLong, front_bytes}
 use Rattle.queue.specs.theorems.Arguments.{Small}
 use Rattle.queue.specs.check.RulesAs.{sum}
 use Rattle.queue.specs.read.ReadingAs.{Here}
@@ -34,16 +36,16 @@ use Rattle.queue.specs.declared.change.finish.Change.TheVariants.{Named, Due}
 use Rattle.queue.specs.declared.layout.frame.Height.{Height}
 use Rattle.queue.specs.declared.layout.frame.Seen.{Seen}
 use Rattle.queue.specs.declared.layout.head.Marks.{Marks}
-use Rattle.queue.specs.declared.change.plan.Row.{Row}
+use Rattle.queue.specs.change.PlanAs.{RowNumbers}
 use Rattle.queue.specs.declared.check.rules.Query.TheVariants.{Tombstones}
-use Rattle.queue.specs.declared.change.touch.Verdict.{Verdict}
-use Rattle.queue.proofs.layout.TurnLaws.{SeenIn, ReadsRec, encs_append}
+use Rattle.queue.specs.change.TouchAs.{VerdictNumbers}
+use Rattle.queue.proofs.layout.TurnLaws.{SeenIn, FoundRec, encs_append}
 use Rattle.queue.proofs.bytes.PutLaws as puts
 use Rattle.queue.proofs.bytes.PutLaws.{recast, kept, Left, begun, onward}
 use Rattle.queue.proofs.bytes.PutByteLaws.{between}
 use Rattle.queue.proofs.layout.HeadLaws.{area_done}
 use Rattle.queue.proofs.change.FinishLaws.{picked_is, Picks, forget_floor, floors}
-use Rattle.queue.proofs.read.ReadingLaws.{one_here, met}
+use Rattle.queue.proofs.read.ReadingLaws.{one_here, met, stands_here}
 use Rattle.queue.proofs.change.WriteLaws.{the_limits, shares_sixteen, queue_long, same_queue, one_queue, tip_of_law}
 use Rattle.queue.proofs.change.WriteNextLaws.{step_is}
 use Rattle.queue.proofs.change.PlanLaws.{row, made_same, made_out, made_cancelled, made_expired, number_1, number_some, number_small, rec_some, Reached, reach, no_rows, no_rows_at, visit_turn, PlanLoop, plan_loop, plan_next, plan_close}
@@ -164,8 +166,8 @@ module _ {s : Bytes} {a : Area} {t : Bytes} {vs rows : List ℕ} {to : ℕ} {d�
     pub edit_room : to + length (encs rec_c (planned_in s a t vs rows)) ≤ length d₀ → o + (row_place - from) ≤ length dst
     edit_room h = omega (arith, g.rest.pos, g.long, long_cut)
 
-    module _ {ok : Bool} {x : Seen} (r : ReadsRec false s row_place ok x.size x) where
-      pub edit_seen : SeenIn false s row_place ok x.size x R.r
+    module _ {x : Seen} (r : FoundRec false s row_place x.size x) where
+      pub edit_seen : SeenIn false s row_place x.size x R.r
       edit_seen = met stands r
 
       module _ (S : Small t) where
@@ -196,7 +198,7 @@ module _ {s : Bytes} {a : Area} {t : Bytes} {vs rows : List ℕ} {to : ℕ} {d�
               })
 
     -- the same of what the code has: the row's place, verdict and number
-    pub row_fit : {W : Row} → W ≡ row_of (get_or rows k 0) → RowFit t vs a.open.head.counter.0 W
+    pub row_fit : {W : RowNumbers} → W ≡ row_of (get_or rows k 0) → RowFit t vs a.open.head.counter.0 W
     row_fit e = rw (← e) at edit_fit
 
     module _ {at' : ℕ} (ea : at' ≡ row_place) where
@@ -206,15 +208,18 @@ module _ {s : Bytes} {a : Area} {t : Bytes} {vs rows : List ℕ} {to : ℕ} {d�
       pub row_copy : to + length (encs rec_c (planned_in s a t vs rows)) ≤ length d₀ → o + (at' - from) ≤ length dst
       row_copy h = rw ea (edit_room h)
 
-      module _ {ok : Bool} {x : Seen} (r : ReadsRec false s at' ok x.size x) where
-        pub row_seen : SeenIn false s at' ok x.size x R.r
+      pub row_stands : reads? rec_c (view false s at') 0 ≡ true
+      row_stands = rw ea (stands_here s row_place stands)
+
+      module _ {x : Seen} (r : FoundRec false s at' x.size x) where
+        pub row_seen : SeenIn false s at' x.size x R.r
         row_seen = rw ea (edit_seen (rw ea at r))
 
-        module _ (S : Small t) {v : Verdict} (ev : v ≡ verdict_in_value vs (row_of (get_or rows k 0))) {n : ℕ} (en : n ≡ number_n a.open.head.counter.0 (row_of (get_or rows k 0)).rank) {d₁ : Bytes} {e : ℕ} (P1 : Put dst o (take (at' - from) (drop from s)) (at' - from) e d₁) where
+        module _ (S : Small t) {v : VerdictNumbers} (ev : v ≡ verdict_in_value vs (row_of (get_or rows k 0))) {n : ℕ} (en : n ≡ number_n a.open.head.counter.0 (row_of (get_or rows k 0)).rank) {d₁ : Bytes} {e : ℕ} (P1 : Put dst o (take (at' - from) (drop from s)) (at' - from) e d₁) where
           step_as : step_n s at' x t v n ≡ step_n s row_place x t (verdict_in_value vs (row_of (get_or rows k 0))) (number_n a.open.head.counter.0 (row_of (get_or rows k 0)).rank)
           step_as = three ea ev en
             where
-              three : {i i' n n' : ℕ} {v v' : Verdict} → i ≡ i' → v ≡ v' → n ≡ n' → step_n s i x t v n ≡ step_n s i' x t v' n'
+              three : {i i' n n' : ℕ} {v v' : VerdictNumbers} → i ≡ i' → v ≡ v' → n ≡ n' → step_n s i x t v n ≡ step_n s i' x t v' n'
               three e f g = cc
 
           pub row_fits : to + length (encs rec_c (planned_in s a t vs rows)) ≤ length d₀ → e + length (step_n s at' x t v n) ≤ length d₁
@@ -237,35 +242,35 @@ module _ {s : Bytes} {a : Area} {t : Bytes} {vs rows : List ℕ} {to : ℕ} {d�
   edit_done h P = puts.done (onward (rw (no_more h, ← append-nil (encs rec_c g.l)) at g.rest) (recast P (edit_end h).0 refl refl))
 
 -- ---- the whole area
-module _ {s : Bytes} {a : Area} {m : Marks} {tip : Id} {t : Bytes} {vs rows : List ℕ} (w : PlanFor s a m tip t vs rows) where
+module _ {s : Bytes} {a : Area} {m : Marks} {t : Bytes} {vs rows : List ℕ} (w : PlanFor s a m t vs rows) where
   abbrev Limit : Limits
   Limit = limits_in a.open.head.limits
 
   need_is : a.need ≡ need Limit
   need_is = w.area.read.need ∙ ap need (the_limits w.area.read)
 
-  pub planned_room : front_len + tip_size m.tip + length (encs rec_c (planned_in s a t vs rows)) ≤ a.need
-  planned_room = let q = queue_long Limit m tip (planned_in s a t vs rows) (shares_sixteen w.area.read) w.count w.long in omega (arith, w.fits)
+  pub planned_room : TipLong m.tip → front_len + tip_size m.tip + length (encs rec_c (planned_in s a t vs rows)) ≤ a.need
+  planned_room h = let q = queue_long Limit m (planned_in s a t vs rows) (shares_sixteen w.area.read) w.count h in omega (arith, w.fits)
 
   pub planned_done : {d d₁ d₂ d₃ : Bytes} {o y y' to : ℕ} → a.need ≤ length d → to ≡ front_len + tip_size m.tip
-      → Put d to (encs rec_c (planned_in s a t vs rows)) (length (encs rec_c (planned_in s a t vs rows))) o d₁ → Put d₁ 0 (front_bytes Limit m tip) (front_len + tip_size m.tip) y d₂ → Put d₂ o (replicate (a.need - o) 0) (a.need - o) y' d₃
-      → d₃ ≡ over (area_bytes (planned_q s a m tip t vs rows)) d
-  planned_done g h p1 p2 p3 = area_done Limit m tip (planned_in s a t vs rows) w.count (let f = w.fits in omega (arith, need_is)) need_is g p1 (recast p2 refl (sym h) refl) p3
+      → Put d to (encs rec_c (planned_in s a t vs rows)) (length (encs rec_c (planned_in s a t vs rows))) o d₁ → Put d₁ 0 (front_bytes Limit m) (front_len + tip_size m.tip) y d₂ → Put d₂ o (replicate (a.need - o) 0) (a.need - o) y' d₃
+      → d₃ ≡ over (area_bytes (planned_q s a m t vs rows)) d
+  planned_done g h p1 p2 p3 = area_done Limit m (planned_in s a t vs rows) w.count (let f = w.fits in omega (arith, need_is)) need_is g p1 (recast p2 refl (sym h) refl) p3
 
 -- ---- another cursor
-module _ {s : Bytes} {a : Area} {persisted cursor : Height} {has : Bool} {tip : Id} (w : MovedFrom s a persisted cursor has tip) where
+module _ {s : Bytes} {a : Area} {persisted cursor : Height} {tip : code.Option Id} (w : MovedFrom s a persisted cursor tip) where
   abbrev pub marks_for : Marks
-  marks_for = record { persisted = persisted; revision = a.open.head.revision; cursor = cursor; tip = has; counter = a.open.head.counter; count = a.open.head.count }
+  marks_for = record { persisted = persisted; revision = a.open.head.revision; cursor = cursor; tip = tip; counter = a.open.head.counter; count = a.open.head.count }
 
   area_moved : AreaIn s a
   area_moved = record { q = w.q; is = w.is; read = w.read }
 
-  moved_is : planned_q s a marks_for tip [] [] [] ≡ moved persisted.0 cursor.0 (tip_of has tip) w.q
+  moved_is : planned_q s a marks_for [] [] [] ≡ moved persisted.0 cursor.0 (tip_in tip) w.q
   unfolding moved
   moved_is = same_queue refl (sym (the_limits w.read)) (sym w.read.store.head.revision) refl refl (sym w.read.store.head.counter) (no_rows (row_made a.open.head.counter.0 [] []) a.open.start (recs_in s a) ∙ w.read.store.list)
 
-  pub moved_plan : length tip ≡ 32 → PlanFor s a marks_for tip [] [] []
-  moved_plan l =
+  pub moved_plan : PlanFor s a marks_for [] [] []
+  moved_plan =
       let st = w.read.store in
       record {
         area = area_moved;
@@ -273,18 +278,17 @@ module _ {s : Bytes} {a : Area} {persisted cursor : Height} {has : Bool} {tip : 
         fit = no_rows_at (RowFits a.open.head.counter.0 [] []) a.open.start (recs_in s a);
         count = sym (ap length (no_rows (row_made a.open.head.counter.0 [] []) a.open.start (recs_in s a) ∙ st.list) ∙ st.count);
         small = record { persisted = w.small; revision = st.head.revision_small; cursor = w.small_cursor; counter = st.head.counter_small; count = st.head.count_small };
-        long = l;
         fits = let u = ap (λ v. length (queue_c.enc v)) moved_is in omega (arith, w.fits, w.read.need);
       }
 
-  pub moved_done : (d : Bytes) {d' : Bytes} {q' : Queue} → read_area s ≡ some q' → d' ≡ over (area_bytes (planned_q s a marks_for tip [] [] [])) d → d' ≡ over (area_bytes (moved persisted.0 cursor.0 (tip_of has tip) q')) d
-  moved_done d e f = f ∙ ap (λ v. over (area_bytes v) d) (moved_is ∙ ap (moved persisted.0 cursor.0 (tip_of has tip)) (one_queue s w.is e))
+  pub moved_done : (d : Bytes) {d' : Bytes} {q' : Queue} → read_area s ≡ some q' → d' ≡ over (area_bytes (planned_q s a marks_for [] [] [])) d → d' ≡ over (area_bytes (moved persisted.0 cursor.0 (tip_in tip) q')) d
+  moved_done d e f = f ∙ ap (λ v. over (area_bytes v) d) (moved_is ∙ ap (moved persisted.0 cursor.0 (tip_in tip)) (one_queue s w.is e))
 
 -- ---- those picked finished, the lowest numbers forgotten
 abbrev pub ended_from : ℕ → Change → Id → ℕ → ℕ → List Rec → List Rec
 ended_from floor c id n given l = filter (stay_r floor) (finish_those (picked c id) (end_state c) (end_reason c) (n + given) l)
 
-abbrev pub end_row : ℕ → Change → ℕ → ℕ → ℕ → Bool → Rec → ℕ → Row
+abbrev pub end_row : ℕ → Change → ℕ → ℕ → ℕ → Bool → Rec → ℕ → RowNumbers
 end_row floor c n given i hit r rank = row i 0 rank (cond (stay_f (number_n n rank) floor (facts_of r)) (cond hit (end_what c) 0) 7)
 
 ended_hit : (floor n given i : ℕ) (c : Change) (id : Id) (r : Rec) (l : List Rec) → picked c id r ≡ true
@@ -325,7 +329,7 @@ end_plan {s} {a} num c id floor d w l =
     start e g = rw (← e) g
 
 module _ {s : Bytes} {at n num : ℕ} {c : Change} {id : Id} {floor : ℕ} {d : List ℕ} {i left k many given : ℕ} (g : EndPlan s at n num c id floor d i left k many given) where
-  module _ {ok hit : Bool} {x : Seen} (p : 0 < left) (r : ReadsRec false s i ok x.size x) (e : hit ≡ picked_s c id x) where
+  module _ {hit : Bool} {x : Seen} (p : 0 < left) (r : FoundRec false s i x.size x) (e : hit ≡ picked_s c id x) where
     hit_is : hit ≡ picked c id (visit_turn g.loop.visit p r).item
     hit_is = e ∙ picked_is c id (visit_turn g.loop.visit p r).is.0
 
@@ -435,16 +439,16 @@ module _ {s : Bytes} {a : Area} {c : Change} {id : Id} {m : ℕ} (w : EndedFrom 
       rw (t, n, ← st.list) (forget_floor a.open.head.limits.t f (finish_those (picked c id) (end_state c) (end_reason c) a.open.head.counter.0 (recs_in s a))
       (floors (picked c id) (end_state c) (end_reason c) a.open.head.counter.0 a.open.head.limits.t f (recs_in s a) k (rw w.hits at x)))
 
-  module _ (tip : Id) {f kept : ℕ} {rows : List ℕ} (x : FloorIs f) (t : TipIs s a.open.head tip) (P : Planned s a [] [] rows (ended_l s a c id f) kept) where
-    ended_is : planned_q s a (marks_after a.open.head m kept) tip [] [] rows ≡ ended (picked c id) (end_state c) (end_reason c) w.q
+  module _ (tip : code.Option Id) {f kept : ℕ} {rows : List ℕ} (x : FloorIs f) (t : TipIs s a.open.head tip) (P : Planned s a [] [] rows (ended_l s a c id f) kept) where
+    ended_is : planned_q s a (marks_after a.open.head tip m kept) [] [] rows ≡ ended (picked c id) (end_state c) (end_reason c) w.q
     unfolding ended committed
     ended_is =
         let st = w.read.store in
         same_queue (sym st.head.cursor) (sym (the_limits w.read)) (ap (λ v. (v + 1) % 2 ^ 64) (sym st.head.revision)) (sym st.head.cursor) (tip_of_law w.read tip t)
         (ap (λ v. v + m) (sym st.head.counter) ∙ ap (λ v. w.q.counter + v) (w.hits ∙ ap (count (picked c id)) st.list)) (P.are ∙ sym (ended_list x))
 
-    pub ended_plan : length tip ≡ 32 → PlanFor s a (marks_after a.open.head m kept) tip [] [] rows
-    ended_plan l =
+    pub ended_plan : PlanFor s a (marks_after a.open.head tip m kept) [] [] rows
+    ended_plan =
         let h = w.read.store.head in
         record {
           area = area_ended;
@@ -452,9 +456,8 @@ module _ {s : Bytes} {a : Area} {c : Change} {id : Id} {m : ℕ} (w : EndedFrom 
           fit = P.fit;
           count = P.count ∙ sym (ap length P.are);
           small = record { persisted = h.cursor_small; revision = mod-lt _ (omega arith); cursor = h.cursor_small; counter = w.room; count = omega (arith, P.few, h.count_small) };
-          long = l;
           fits = let u = ap (λ v. length (queue_c.enc v)) ended_is in omega (arith, w.fits, w.read.need);
         }
 
-    pub ended_done : (d : Bytes) {d' : Bytes} {q' : Queue} → read_area s ≡ some q' → d' ≡ over (area_bytes (planned_q s a (marks_after a.open.head m kept) tip [] [] rows)) d → d' ≡ over (area_bytes (ended (picked c id) (end_state c) (end_reason c) q')) d
+    pub ended_done : (d : Bytes) {d' : Bytes} {q' : Queue} → read_area s ≡ some q' → d' ≡ over (area_bytes (planned_q s a (marks_after a.open.head tip m kept) [] [] rows)) d → d' ≡ over (area_bytes (ended (picked c id) (end_state c) (end_reason c) q')) d
     ended_done d e h = h ∙ ap (λ v. over (area_bytes v) d) (ended_is ∙ ap (ended (picked c id) (end_state c) (end_reason c)) (one_queue s w.is e))

@@ -6,29 +6,28 @@ use Rattle.std.proofs.lemmas.Bool.{lt-leb}
 use Rattle.queue.proofs.bytes.PutByteLaws.{between}
 use Rattle.queue.specs.theorems.SoundParts.{Fit, fit_of}
 use Rattle.queue.specs.Basics.{and_same}
-use Rattle.queue.specs.Codec.{Got, fail, got, Codec, cases, be_c, be_length, pair_c, pair_dec, map_c, decs, vec_bwd, encs}
+use Rattle.queue.specs.Codec.{Got, fail, got, Codec, cases, be_c, be_length, decs, vec_bwd, encs}
 use Rattle.queue.specs.Lists.{and_true}
 use Rattle.queue.specs.layout.FrameCodec.{head_k, rec_c}
-use Rattle.queue.specs.bytes.ReaderAs.{Reads, whole, list_at, is_got, val_of}
+use Rattle.queue.specs.bytes.ReaderAs.{Fails, Found, whole, list_at, is_got, val_of}
 use Rattle.queue.specs.bytes.ReaderLaws.{false_true, weaken, values}
 use Rattle.queue.specs.bytes.ViewAs.{view}
-use Rattle.queue.specs.layout.FormsCodec.{form_c, after_in_value, ends_line_value, Framed, framed, frame_bad, taken, Many, Store, rec_in_value, store_in, area_form, store_read, queue_c, store_of, queue_read, form_raw}
-use Rattle.queue.specs.layout.RecordsAs.{RecordsIn}
+use Rattle.queue.specs.layout.FormsCodec.{form_c, after_in_value, ends_line_value, Framed, framed, frame_bad, frame_open, taken, Many, NotMany, Store, head_in, rec_in_value, store_in, area_form, store_fail, store_cut, store_read, queue_c, store_of, queue_fail, queue_cut, queue_read, form_raw}
+use Rattle.queue.specs.layout.RecordsAs.{RecordsIn, records}
 use Rattle.queue.specs.Areas.{read_area, zero?, reads_stands, area_found, area_none}
 use Rattle.queue.specs.layout.FrameAs.{facts_of, limits_in, HeadUnder}
 use Rattle.queue.specs.check.RulesAs.{weight, sum}
-use Rattle.queue.specs.check.ScanAs.{SumsAs, counts_n}
-use Rattle.queue.specs.check.AreaAs.{StoreAs, sound_l, sound_list, filled_by, FilledAs, AreaIs, records_of, AreaAs}
+use Rattle.queue.specs.check.ScanAs.{SumsAs, CheckedAs, counts_n}
+use Rattle.queue.specs.check.AreaAs.{StoreAs, sound_l, sound_list, filled_by, filled_in, FilledTo, Unfilled, AreaIn, records_of, AreaAs}
 use Rattle.queue.specs.paper.Ids.{rise?}
 use Rattle.queue.specs.paper.Records.{Bytes, Limits, Rec, Queue}
 use Rattle.queue.specs.paper.Lists.{all?, map}
 use Rattle.queue.specs.paper.Sound.{in_range, need, holder?, holders, holder_bytes, mined_holders, mined_bytes, tombstones, right?, counts?, distinct?, apart?, read_apart?, sound?, shares_right?, limits_right?}
-use Rattle.queue.specs.declared.layout.frame.HeadR.{HeadR}
+use Rattle.queue.specs.declared.layout.frame.Head.{Head}
 use Rattle.queue.specs.declared.layout.frame.Form.{Form}
 use Rattle.queue.specs.declared.layout.frame.Finish.{Finish}
 use Rattle.queue.specs.declared.check.area.Open.{Open}
 use Rattle.queue.specs.declared.check.area.Area.{Area}
-use Rattle.queue.specs.declared.check.scan.Span.{Span}
 use Rattle.queue.specs.declared.check.scan.Sums.{Sums}
 use Rattle.queue.specs.declared.check.rules.Query.TheVariants.{Holders, HeldBytes, MinedHolders, MinedBytes}
 use Rattle.queue.specs.layout.LimitsAs.{need_most}
@@ -146,95 +145,84 @@ unfolding sound_l
 sound_range m c l e = (and_true (in_range m) (shares_right? m) (and_true (limits_right? m) _ e).0).0
 
 -- ---- a store
-module _ (form : Form) (s : Bytes) {base : ℕ} {h : HeadR} (b : base ≤ length s) (r : Reads (head_k form.kind) (view form.hex s base) 0 h.ok h.size (HeadUnder form.kind (view form.hex s base) h)) where
-  pub head_within : h.ok ≡ true → h.size ≤ length (view form.hex s base)
-  head_within t = (r.good (omega arith) t).3
+module _ (form : Form) (s : Bytes) {base : ℕ} where
+  pub store_short : Fails (head_k form.kind) (view form.hex s base) 0 → Fails (store_in form) s base
+  store_short f = store_fail form (frame_bad form.hex f)
 
-  pub head_start : {e : Bool} {j : ℕ} → h.ok ≡ true → e ≡ ends_line_value form.hex s base h.size → e ≡ true → j ≡ after_in_value form.hex s base h.size → j ≤ length s
-  head_start t e f g = let u = (framed form.hex b r).good b (rw (t, ← e, f)) in rw g u.4.1.after
+  module _ {h : Head} (r : Found (head_k form.kind) (view form.hex s base) 0 h.size (HeadUnder form.kind (view form.hex s base) h)) {e : Bool} (q : e ≡ ends_line_value form.hex s base h.size) where
+    pub store_line : e ≡ false → Fails (store_in form) s base
+    store_line f = store_fail form (frame_open form.hex r (sym q ∙ f))
 
-  store_fail : (h.ok && ends_line_value form.hex s base h.size) ≡ false → (W : Store → Type 0) → Reads (store_in form) s base false 0 W
-  store_fail e W =
-      let v = store_read form {n₂ = 0} {count = 0} {ok₂ = false} {W = λ h. Unit {0}} (frame_bad form.hex b r e 0 (λ h. (h.count ≡ 0) × Unit {0})) (λ t. false_true t) in
-      record { good = λ _ t. false_true t; bad = λ k _. v.bad k refl }
+    module _ (b : base ≤ length s) (f : e ≡ true) {j : ℕ} (g : j ≡ after_in_value form.hex s base h.size) where
+      -- the header, with its count
+      header : Found (head_in form) s base (after_in_value form.hex s base h.size) (λ a. (a.count ≡ h.count) × (HeadUnder form.kind (view form.hex s base) h a × Framed (head_k form.kind) form.hex s base h.size a))
+      header = weaken (λ a. (a.count ≡ h.count) × (HeadUnder form.kind (view form.hex s base) h a × Framed (head_k form.kind) form.hex s base h.size a)) (framed form.hex b r (sym q ∙ f)) (λ y. (y.0.count, y))
 
-  pub store_short : h.ok ≡ false → (W : Store → Type 0) → Reads (store_in form) s base false 0 W
-  store_short t W = store_fail (rw t) W
+      pub head_start : j ≤ length s
+      head_start = rw g header.within
 
-  pub store_line : {e : Bool} → h.ok ≡ true → e ≡ ends_line_value form.hex s base h.size → e ≡ false → (W : Store → Type 0) → Reads (store_in form) s base false 0 W
-  store_line t e f W = store_fail (rw (t, ← e, f)) W
+      pub store_few : NotMany (rec_in_value form) s j h.count → Fails (store_in form) s base
+      store_few m = store_cut form header (rw g at m)
 
-  pub head_count : h.ok ≡ true → h.count < 4294967296
-  head_count t = (r.good (omega arith) t).4.count_small
-
-  pub store_good : {e o : Bool} {j n : ℕ} {a : Sums} → h.ok ≡ true → e ≡ ends_line_value form.hex s base h.size → e ≡ true → j ≡ after_in_value form.hex s base h.size
-      → Many (rec_in_value form) s j h.count o n → (o ≡ true → SumsAs h.limits.k h.counter a (list_at (rec_in_value form) h.count s j)) → Reads (store_in form) s base o n (StoreAs form s base (record { ok = o; head = h; start = j; next = n; sums = a }))
-  store_good {e} {o} {j} {n} t e' f g m k' =
-      let k : (h.ok && ends_line_value form.hex s base h.size) ≡ true = rw (t, ← e', f) in
-      let u = framed form.hex b r in
-      let w = weaken (λ a. (a.count ≡ h.count) × (HeadUnder form.kind (view form.hex s base) h a × Framed (head_k form.kind) form.hex s base h.ok h.size a)) u (λ a _ _ _ y. (y.0.count, y)) in
-      let m' : Many (rec_in_value form) s (after_in_value form.hex s base h.size) h.count o n = rw g at m in
-      let v = store_read form w (λ _. m') in
-      record {
-        good = λ l y. let z = v.good l (rw k y) in let x = m.end y in (
-          z.0,
-          z.1,
-          z.2,
-          z.3,
-          record {
-            head = z.4.0.0;
-            frame = z.4.0.1;
+      pub store_good : {n : ℕ} {a : Sums} → CheckedAs form s (records j h.count) h.limits.k h.counter a n → Found (store_in form) s base n (StoreAs form s base (record { head = h; start = j; next = n; sums = a }))
+      store_good {n} {a} m =
+          let m' : Many (rec_in_value form) s (after_in_value form.hex s base h.size) h.count n = rw g at m.many in
+          weaken (StoreAs form s base (record { head = h; start = j; next = n; sums = a })) (store_read form header m')
+          (λ z. record {
+            head = z.0.0;
+            frame = z.0.1;
             start = g;
-            all = rw g z.4.1.1.0;
-            list = rw g (sym z.4.1.0);
-            count = z.4.1.1.1;
-            end = x.0;
-            up = x.1;
-            ends = x.2;
-            sums = k' y;
-          },
-        );
-        bad = λ l y. v.bad l (rw k y);
-      }
+            all = m.many.is;
+            list = ap (λ (i : ℕ). list_at (rec_in_value form) h.count s i) g ∙ sym z.1.0;
+            count = z.1.1.1;
+            end = m.many.end;
+            up = m.many.up;
+            ends = m.many.within;
+            sums = m.sums;
+          })
 
 -- its records stand there
 pub recs_stand : {form : Form} {s : Bytes} {base : ℕ} {x : Open} {st : Store} → StoreAs form s base x st → RecordsIn (rec_in_value form) s (records_of x)
 recs_stand w = (omega (arith, w.up, w.ends), w.all)
 
 -- ---- an area
-pub filled_unsound : {s : Bytes} {x : Open} {b : Bool} → b ≡ sound_l (limits_in x.head.limits) x.head.counter.0 (list_at (form_c false rec_c) x.head.count s x.start) → b ≡ false → FilledAs s x (record { ok = false; next = 0 })
+pub filled_unsound : {s : Bytes} {x : Open} {b : Bool} → b ≡ sound_l (limits_in x.head.limits) x.head.counter.0 (list_at (form_c false rec_c) x.head.count s x.start) → b ≡ false → Unfilled s x
 unfolding filled_by
-filled_unsound e f = record { is = rw (← e, f); next = λ t. false_true t }
+filled_unsound e f = record { is = rw (← e, f) }
 
 module _ {s : Bytes} {x : Open} {b : Bool} {m : ℕ} (e : b ≡ sound_l (limits_in x.head.limits) x.head.counter.0 (list_at (form_c false rec_c) x.head.count s x.start)) (t : b ≡ true) (n : m ≡ need (limits_in x.head.limits)) where
-  pub filled_short : length s < m → FilledAs s x (record { ok = false; next = 0 })
+  pub filled_short : length s < m → Unfilled s x
   unfolding filled_by
-  filled_short h = record { is = rw (← e, t, ← n, lt-leb m (length s) h); next = λ t. false_true t }
+  filled_short h = record { is = rw (← e, t, ← n, lt-leb m (length s) h) }
 
-  pub filled_over : m ≤ length s → m < x.next → FilledAs s x (record { ok = false; next = 0 })
+  pub filled_over : m ≤ length s → m < x.next → Unfilled s x
   unfolding filled_by
-  filled_over h k = record { is = rw (← e, t, ← n, le-leb m (length s) h, lt-leb x.next m k); next = λ t. false_true t }
+  filled_over h k = record { is = rw (← e, t, ← n, le-leb m (length s) h, lt-leb x.next m k) }
 
-  pub filled_all : {z : Bool} → m ≤ length s → x.next ≤ m → z ≡ zero? (take (m - x.next) (drop x.next s)) → m ≤ need_most → FilledAs s x (record { ok = z; next = m })
-  unfolding filled_by
-  filled_all h k z l = record { is = z ∙ rw (← e, t, ← n, le-leb m (length s) h, le-leb x.next m k); next = λ _. (n, l) }
+  module _ {z : Bool} (h : m ≤ length s) (k : x.next ≤ m) (f : z ≡ zero? (take (m - x.next) (drop x.next s))) where
+    pub filled_dirty : z ≡ false → Unfilled s x
+    unfolding filled_by
+    filled_dirty g = record { is = rw (← e, t, ← n, le-leb m (length s) h, le-leb x.next m k, ← f, g) }
+
+    pub filled_all : z ≡ true → m ≤ need_most → FilledTo s x m
+    unfolding filled_by
+    filled_all g l = record { is = rw (← e, t, ← n, le-leb m (length s) h, le-leb x.next m k, ← f, g); need = n; small = l }
 
 four_bytes : (a : ℕ) → length ((be_c 4).enc a) ≡ 4
 unfolding be_c
 four_bytes a = be_length 4 a
 
 -- the persisted height stands in the first four bytes
-pub four : {s : Bytes} {v next : ℕ} {ok : Bool} → Reads (be_c 4) (view false s 0) 0 ok next (λ x. x ≡ v) → ok ≡ true → Reads (be_c 4) s 0 true 4 (λ x. x ≡ v) × (4 ≤ length s)
+pub four : {s : Bytes} {v next : ℕ} → Found (be_c 4) (view false s 0) 0 next (λ x. x ≡ v) → Found (be_c 4) s 0 4 (λ x. x ≡ v) × (4 ≤ length s)
 unfolding view
-four {s} {v} {next} r t =
-    let u = r.good (omega arith) t in
-    let z = taken (be_c 4) s next u.0 u.1 u.3 in
-    let l : next ≡ 4 = sym z.0 ∙ four_bytes u.0 in
-    (record { good = λ h _. (u.0, u.1 ∙ rw l, omega arith, rw (← l) u.3, u.4); bad = λ h y. false_true (sym y) }, rw (← l) u.3)
+four {s} {v} {next} r =
+    let z = taken (be_c 4) s next r.value r.is r.within in
+    let l : next ≡ 4 = sym z.0 ∙ four_bytes r.value in
+    (record { value = r.value; is = r.is ∙ rw l refl; up = omega arith; within = rw (← l) r.within; fact = r.fact }, rw (← l) r.within)
 
-pub area_short : {s : Bytes} {x : Area} {v next : ℕ} {ok : Bool} → Reads (be_c 4) (view false s 0) 0 ok next (λ x. x ≡ v) → ok ≡ false → x.ok ≡ false → AreaIs s x
-unfolding read_area queue_c map_c pair_c pair_dec view
-area_short {s} r t e = record { good = λ y. false_true (sym e ∙ y); bad = λ y. let f : (be_c 4).dec s ≡ fail = r.bad (omega arith) t in rw f }
+pub area_short : (s : Bytes) → Fails (be_c 4) (view false s 0) 0 → read_area s ≡ none
+unfolding view
+area_short s f = area_none (queue_fail (record { is = λ h. f.is h }))
 
 filled_parts : (s : Bytes) (from : ℕ) (m : Limits) (c : ℕ) (l : List Rec) → filled_by s from m c l ≡ true → (need m ≤ length s) × (from ≤ need m)
 unfolding filled_by
@@ -244,52 +232,56 @@ filled_parts s from m c l e =
     let d = and_true (leb from (need m)) _ b.1 in
     (leb-true _ _ b.0, leb-true _ _ d.0)
 
-module _ {s : Bytes} {v next : ℕ} {ok : Bool} {y : Open} (a : Reads (be_c 4) (view false s 0) 0 ok next (λ x. x ≡ v)) (t : ok ≡ true) (r : Reads (store_in area_form) s 4 y.ok y.next (StoreAs area_form s 4 y)) where
-  queue : Reads queue_c s 0 y.ok y.next (λ q. (q.persisted ≡ v) × StoreAs area_form s 4 y (store_of q))
-  queue = queue_read (four a t).0 r
+module _ {s : Bytes} {v next : ℕ} (a : Found (be_c 4) (view false s 0) 0 next (λ x. x ≡ v)) where
+  pub area_bad : Fails (store_in area_form) s 4 → read_area s ≡ none
+  area_bad f = area_none (queue_cut (four a).0 f)
 
-  pub area_bad : {x : Area} → y.ok ≡ false → x.ok ≡ false → AreaIs s x
-  area_bad f e = record { good = λ z. false_true (sym e ∙ z); bad = λ z. area_none queue f }
-
-  pub store_facts : y.ok ≡ true → (st : Store) × StoreAs area_form s 4 y st
-  store_facts f = let u = r.good (four a t).1 f in (u.0, u.4)
+module _ {s : Bytes} {v next : ℕ} {y : Open} (a : Found (be_c 4) (view false s 0) 0 next (λ x. x ≡ v)) (r : Found (store_in area_form) s 4 y.next (StoreAs area_form s 4 y)) where
+  queue : Found queue_c s 0 y.next (λ q. (q.persisted ≡ v) × StoreAs area_form s 4 y (store_of q))
+  queue = queue_read (four a).0 r
 
   the_limits : (q : Queue) → StoreAs area_form s 4 y (store_of q) → q.limits ≡ limits_in y.head.limits
   the_limits q w = sym w.head.lim
 
-  pub area_good : {x : Area} {f : Span} → y.ok ≡ true → FilledAs s y f → x.ok ≡ f.ok → x.persisted.0 ≡ v → x.open ≡ y → x.need ≡ f.next → AreaIs s x
+  stands : StoreAs area_form s 4 y (store_of (area_found queue).0)
+  stands = (area_found queue).1.1
+
+  reads : read_area s ≡ cond (filled_in s y) (some (area_found queue).0) none
   unfolding filled_by
-  area_good {x} {f} o w e1 e2 e3 e4 =
-      let u = area_found queue o in
+  reads =
+      let u = area_found queue in
       let q = u.0 in
       let st = u.1.1 in
       let m : q.limits ≡ limits_in y.head.limits = the_limits q st in
       let c : q.counter ≡ y.head.counter.0 = st.head.counter in
       let l : list_at (form_c false rec_c) y.head.count s y.start ≡ q.recs = st.list in
       let k : sound? q ≡ sound_l (limits_in y.head.limits) y.head.counter.0 (list_at (form_c false rec_c) y.head.count s y.start) = sound_list q ∙ rw (m, c, l) in
-      let B : read_area s ≡ cond f.ok (some q) none = u.2 ∙ rw (k, m) (rw w.is) in
+      u.2 ∙ rw (k, m)
+
+  pub area_unfilled : Unfilled s y → read_area s ≡ none
+  area_unfilled w = reads ∙ rw w.is
+
+  pub area_good : {x : Area} {n : ℕ} → FilledTo s y n → x.persisted.0 ≡ v → x.open ≡ y → x.need ≡ n → AreaIn s x
+  area_good {x} w e2 e3 e4 =
+      let u = area_found queue in
+      let q = u.0 in
+      let m : q.limits ≡ limits_in y.head.limits = the_limits q stands in
+      let rd : read_area s ≡ some q = reads ∙ rw w.is in
+      let sd = reads_stands s q rd in
+      let z = filled_parts s y.next (limits_in y.head.limits) y.head.counter.0 (list_at (form_c false rec_c) y.head.count s y.start) w.is in
       record {
-        good = λ g.
-            let t₁ : f.ok ≡ true = sym e1 ∙ g in
-            let rd : read_area s ≡ some q = B ∙ rw t₁ in
-            let sd = reads_stands s q rd in
-            let n = w.next t₁ in
-            let z = filled_parts s y.next (limits_in y.head.limits) y.head.counter.0 (list_at (form_c false rec_c) y.head.count s y.start) (sym w.is ∙ t₁) in
-            let need_is : x.need ≡ need q.limits = e4 ∙ n.0 ∙ ap need (sym m) in (
-              q,
-              rd,
-              record {
-                persisted = u.1.0 ∙ sym e2;
-                store = rw e3 st;
-                need = need_is;
-                small = rw e4 n.1;
-                fits = rw (e3, e4, n.0) z.1;
-                long = rw (e4, n.0) z.0;
-                sound = sd.sound;
-                range = sd.range;
-              },
-            );
-        bad = λ g. B ∙ rw (sym e1 ∙ g);
+        q = q;
+        is = rd;
+        read = record {
+          persisted = u.1.0 ∙ sym e2;
+          store = rw e3 stands;
+          need = e4 ∙ w.need ∙ ap need (sym m);
+          small = rw e4 w.small;
+          fits = rw (e3, e4, w.need) z.1;
+          long = rw (e4, w.need) z.0;
+          sound = sd.sound;
+          range = sd.range;
+        };
       }
 
 -- ---- the queue that an area holds

@@ -1,18 +1,20 @@
 -- The filter's laws, and the pass that uses it: inputs in one record only. Finish numbers by counts. Assumes nothing.
-use Rattle.std.specs.Prelude.{◌≡◌, refl, Bool, true, false, cond, not, ◌&&◌, ◌||◌, List, [], ◌∷◌, ℕ, ◌+◌, ◌-◌, ◌*◌, ◌/◌, ◌%◌, ◌≤◌, ◌<◌, max, eqb, ltb, length, get_or}
+use Rattle.std.specs.Prelude.{◌≡◌, refl, Bool, true, false, not, ◌&&◌, ◌||◌, List, [], ◌∷◌, ℕ, ◌+◌, ◌-◌, ◌*◌, ◌/◌, ◌%◌, ◌≤◌, ◌<◌, max, eqb, ltb, length, get_or}
 use Rattle.std.proofs.Common.{ap, ap₂, sym, ◌∙◌, subst, arith, mod-lt, le_antisymm, le_trans, length-set, get_or-set_same, get_or-set_other, eqb-true, eq-eqb, ne_eqb, ltb-true, ltb-false}
 use Rattle.std.proofs.Math.Nat.{max-le, le-max_left, le-max_right}
 use Rattle.std.proofs.Math.Arith.{bin_ind, digits_div, digits_mod}
 use Rattle.std.specs.Int.Bits.{bit_or, or_step, or_self}
 use Rattle.std.proofs.lemmas.Nat.{or_comm}
 use Rattle.std.proofs.lemmas.Bool.{eqb-false}
+use Rattle.std.specs.Int.{from_bool}
+use Rattle.queue.specs.Basics.{one_of}
 use Rattle.queue.specs.Codec.{cases}
 use Rattle.queue.specs.Lists.{and_true}
 use Rattle.queue.specs.bytes.OrderLaws.{same_is, same_self, same_sym}
 use Rattle.queue.specs.layout.FrameCodec.{id_c}
 use Rattle.queue.specs.layout.FormsCodec.{rec_in_value, after_in_value}
 use Rattle.queue.specs.bytes.ViewAs.{view}
-use Rattle.queue.specs.bytes.ReaderAs.{Reads, whole, list_at}
+use Rattle.queue.specs.bytes.ReaderAs.{Found, whole, list_at}
 use Rattle.queue.specs.bytes.ReaderLaws.{turn, none_left, false_true}
 use Rattle.queue.specs.check.FilterAs.{slot_l, mask_l, hash_l, hash_n, marked, mark_l, has_in, held_by_value, Passed, New, NewSeen}
 use Rattle.queue.specs.paper.Records.{Bytes, Id, Rec}
@@ -21,7 +23,7 @@ use Rattle.queue.specs.paper.Ids.{same?}
 use Rattle.queue.specs.paper.Sound.{holder?, inputs, stamped?, distinct?, among?, used?, clash?, apart?}
 use Rattle.queue.specs.declared.layout.frame.Form.{Form}
 use Rattle.queue.specs.declared.layout.frame.Seen.{Seen}
-use Rattle.queue.proofs.layout.TurnLaws.{Scan, on, end, ReadsForm, see_in}
+use Rattle.queue.proofs.layout.TurnLaws.{Scan, on, end, FoundForm, see_in}
 use Rattle.queue.proofs.check.ScanLaws.{nothing_f}
 
 -- ---- bits
@@ -150,18 +152,18 @@ pub passing : (H : Id → ℕ) (v : Bytes) (m at : ℕ) (t : List ℕ) → at �
 passing H v m at t h w = record { within = h; whole = w; size = refl; old = λ _ m. m; one = λ z a n _. false_true (sym n ∙ a); new = λ z a n. false_true (sym n ∙ a) }
 
 module _ {H : Id → ℕ} {v : Bytes} {all : List Id} {t₀ : List ℕ} {i left : ℕ} {t : List ℕ} (x : Passing H v all t₀ i left t) where
-  module _ {next : ℕ} {ok b : Bool} {y : Id} {t' : List ℕ} (p : 0 < left) (r : Reads id_c v i ok next (λ w. w ≡ y)) (g : Passed (same? y) hash_l H t b t') where
+  module _ {next : ℕ} {b : Bool} {y : Id} {t' : List ℕ} (p : 0 < left) (r : Found id_c v i next (λ w. w ≡ y)) (g : Passed (same? y) hash_l H t b t') where
     -- an id passed before, or this one
     split : {X : Type 0} (z : Id) → among? z (list_at id_c (left - 1) v next) ≡ false → (same? y z ≡ true → X) → (among? z (list_at id_c left v i) ≡ false → X) → X
     split z n f k =
-        let u = turn left x.within x.whole p r in
+        let u = turn left x.whole p r in
         cases (same? y z)
         (λ q. f q)
         (λ q. k (rw (u.list, u.is, same_sym z y, q) n))
 
     pub passing_go : b ≡ false → Passing H v all t₀ next (left - 1) t'
     passing_go f =
-        let u = turn left x.within x.whole p r in
+        let u = turn left x.whole p r in
         record {
           within = u.within;
           whole = u.rest;
@@ -299,12 +301,12 @@ unfoldable pub held_f : Id → ℕ → List Rec → ℕ
 held_f x acc l = acc + held_by_value l x
 
 module _ (form : Form) (z : Id) {s : Bytes} {n at i left acc : ℕ} (x : Scan (rec_in_value form) (held_f z) s n at 0 i left acc) where
-  pub held_go : {m w j : ℕ} {ok b : Bool} {y : Seen} → 0 < left → ReadsForm form s i ok m y → j ≡ after_in_value form.hex s i m → b ≡ among? z (list_at id_c y.facts.ins (view form.hex s i) y.at) → w ≡ cond b 1 0
+  pub held_go : {m w j : ℕ} {b : Bool} {y : Seen} → 0 < left → FoundForm form s i m y → j ≡ after_in_value form.hex s i m → b ≡ among? z (list_at id_c y.facts.ins (view form.hex s i) y.at) → w ≡ from_bool b
       → Scan (rec_in_value form) (held_f z) s n at 0 j (left - 1) (acc + w)
   unfolding held_f held_by_value
-  held_go {m} {w} p r g e f =
+  held_go {m} {w} {b = b} p r g e f =
       let t = see_in form x p r g in
-      let k : w ≡ one (has_in z t.item) = f ∙ ap one (e ∙ ap (among? z) t.is.0.ins_list) in
+      let k : w ≡ one (has_in z t.item) = f ∙ one_of b ∙ ap one (e ∙ ap (among? z) t.is.0.ins_list) in
       on x (acc + w) p t (omega arith)
 
   pub held_end : left ≡ 0 → acc ≡ held_by_value (list_at (rec_in_value form) n s at) z
@@ -313,7 +315,7 @@ module _ (form : Form) (z : Id) {s : Bytes} {n at i left acc : ℕ} (x : Scan (r
 
 -- ---- the loops over records
 module _ (form : Form) {s : Bytes} {n at i left : ℕ} {t : List ℕ} (x : Scan (rec_in_value form) nothing_f s n at tt i left tt) (w : Walk has_in hash_l (list_at (rec_in_value form) n s at) (list_at (rec_in_value form) left s i) t) where
-  module _ {m : ℕ} {ok b : Bool} {y : Seen} {t' : List ℕ} (p : 0 < left) (r : ReadsForm form s i ok m y)
+  module _ {m : ℕ} {b : Bool} {y : Seen} {t' : List ℕ} (p : 0 < left) (r : FoundForm form s i m y)
       (g : Passed (λ z. among? z (list_at id_c y.facts.ins (view form.hex s i) y.at)) hash_l (held_by_value (list_at (rec_in_value form) n s at)) t b t') where
     pub apart_go : {j : ℕ} → j ≡ after_in_value form.hex s i m → b ≡ false → Scan (rec_in_value form) nothing_f s n at tt j (left - 1) tt × Walk has_in hash_l (list_at (rec_in_value form) n s at) (list_at (rec_in_value form) (left - 1) s j) t'
     unfolding nothing_f held_by_value
@@ -327,8 +329,3 @@ module _ (form : Form) {s : Bytes} {n at i left : ℕ} {t : List ℕ} (x : Scan 
 
   pub apart_end : left ≡ 0 → true ≡ apart? (list_at (rec_in_value form) n s at)
   apart_end e = apart_yes (list_at (rec_in_value form) n s at) (walk_end (rw (none_left (rec_in_value form) s left i e).0 at w))
-
--- ---- an id's bytes
-pub id_room : (x : Id) (at : ℕ) → length x ≡ 32 → at ≤ 24 → (8 ≤ 8) × (at + 8 ≤ length (view false x 0))
-unfolding view
-id_room x at e h = (omega arith, omega arith)

@@ -1,6 +1,9 @@
 -- The laws of a table of finish numbers: counting in it, equal neighbours, the search for the floor. Assumes nothing.
-use Rattle.std.specs.Prelude.{◌≡◌, refl, Bool, true, false, cond, ◌⊎◌, List, [], ◌∷◌, ◌++◌, ℕ, zero, suc, ◌+◌, ◌-◌, ◌≤◌, ◌<◌, ltb, leb, eqb, length, take, drop, get_or, set}
+use Rattle.std.specs.Prelude.{◌≡◌, refl, Bool, true, false, ◌⊎◌, List, [], ◌∷◌, ◌++◌, ℕ, zero, suc, ◌+◌, ◌-◌, ◌≤◌, ◌<◌, ltb, leb, eqb, length, take, drop, get_or, set}
 use Rattle.std.proofs.Common.{ap, sym, ◌∙◌, inl, inr, append_assoc, append-nil, arith, add-one, length-append, drop_of_length-le, drop-cons, take-suc-set, length-take-le, eqb-true, eq-eqb, ltb-true, ltb-false, lt-ltb, le-ltb, leb-true, leb-false}
+use Rattle.std.specs.Int.{from_bool}
+use Rattle.std.specs.Ordering.{is_lt, nat_cmp}
+use Rattle.queue.specs.Basics.{one_of}
 use Rattle.queue.specs.Codec.{cases, All}
 use Rattle.queue.specs.layout.FormsCodec.{rec_in_value, after_in_value}
 use Rattle.queue.specs.bytes.ReaderAs.{list_at}
@@ -8,7 +11,7 @@ use Rattle.queue.specs.bytes.ReaderLaws.{false_true}
 use Rattle.queue.specs.layout.FrameAs.{facts_of}
 use Rattle.queue.specs.check.RulesAs.{weight, sum, above_f}
 use Rattle.queue.specs.check.FilterAs.{marked, mark_l}
-use Rattle.queue.specs.check.NumbersAs.{number_f, numbers_of, times_in, over_in, Differ, Steps, new_above_value, above}
+use Rattle.queue.specs.check.NumbersAs.{number_f, numbers_of, times_in, over_in, Ordered, Differ, new_above_value, above}
 use Rattle.queue.specs.check.SuspectsAs.{Shuffled}
 use Rattle.queue.specs.paper.Records.{Bytes, Rec}
 use Rattle.queue.specs.paper.Lists.{one, count}
@@ -17,7 +20,7 @@ use Rattle.queue.specs.declared.layout.frame.Facts.{Facts}
 use Rattle.queue.specs.declared.layout.frame.Form.{Form}
 use Rattle.queue.specs.declared.layout.frame.Seen.{Seen}
 use Rattle.queue.specs.declared.check.rules.Query.TheVariants.{Tombstones}
-use Rattle.queue.proofs.layout.TurnLaws.{Scan, on, end, ReadsForm, seen_in, see_in}
+use Rattle.queue.proofs.layout.TurnLaws.{Scan, on, end, FoundForm, seen_in, see_in}
 use Rattle.queue.proofs.check.FilterLaws.{mark_here, mark_old, distinct_yes, distinct_no}
 
 -- ---- what the numbers say of the records
@@ -63,7 +66,7 @@ unfoldable pub numbers_from : List ℕ → List Rec → List ℕ
 numbers_from z l = z ++ numbers_of l
 
 module _ (form : Form) {s : Bytes} {n at i left : ℕ} {z : List ℕ} (x : Scan (rec_in_value form) numbers_from s n at [] i left z) where
-  module _ {m : ℕ} {ok : Bool} {y : Seen} (p : 0 < left) (r : ReadsForm form s i ok m y) where
+  module _ {m : ℕ} {y : Seen} (p : 0 < left) (r : FoundForm form s i m y) where
     pub gather_go : {j : ℕ} {z' : List ℕ} → j ≡ after_in_value form.hex s i m → z' ≡ z ++ number_f y.facts → Scan (rec_in_value form) numbers_from s n at [] j (left - 1) z'
     unfolding numbers_from numbers_of facts_of
     gather_go {j} {z'} g e =
@@ -97,10 +100,10 @@ filled_count {k} v l h e = sym (length-take-le k v h) ∙ ap length e ∙ number
 
 -- ---- counting in a table
 module _ (p : ℕ → Bool) (v : List ℕ) where
-  pub count_go : (i c : ℕ) {w : ℕ} {b : Bool} → i < length v → c + count p (drop i v) ≡ count p v → b ≡ p (get_or v i 0) → w ≡ cond b 1 0 → c + w + count p (drop (i + 1) v) ≡ count p v
+  pub count_go : (i c : ℕ) {w : ℕ} {b : Bool} → i < length v → c + count p (drop i v) ≡ count p v → b ≡ p (get_or v i 0) → w ≡ from_bool b → c + w + count p (drop (i + 1) v) ≡ count p v
   count_go i c {w} {b} h e f g =
       let k : count p (drop i v) ≡ one (p (get_or v i 0)) + count p (drop (i + 1) v) = rw (drop-cons v i 0 h, add-one) in
-      let z : w ≡ one (p (get_or v i 0)) = g ∙ ap one f in
+      let z : w ≡ one (p (get_or v i 0)) = g ∙ one_of b ∙ ap one f in
       omega arith
 
   pub count_end : (i c : ℕ) → length v ≤ i → c + count p (drop i v) ≡ count p v → c ≡ count p v
@@ -138,6 +141,16 @@ rises_one (x ∷ v) k m = cases (eqb x m)
     (λ t. let e = eqb-true x m t in let i = below_none m v (rises_rest x v k) (λ g. let b : x < get_or v 0 0 = k 0 (omega arith) in omega arith) in rw t (omega arith))
     (λ t. let i = rises_one v (rises_rest x v k) m in rw t (omega arith))
 
+below_cmp : (a b : ℕ) → is_lt (nat_cmp a b) ≡ false → b ≤ a
+below_cmp a b h = cases (ltb a b) (λ t. false_true (sym (rw t at h))) (λ t. ltb-false a b t)
+
+-- what the library's sort ensures
+pub sorted_ordered : (v : List ℕ) → ((k d : ℕ) → 0 ≤ k → k + 1 < length v → is_lt (nat_cmp (get_or v (k + 1) d) (get_or v k d)) ≡ false) → Ordered v
+sorted_ordered v h i k = below_cmp (get_or v (i + 1) 0) (get_or v i 0) (h i 0 (omega arith) k)
+
+pub ordered_at : (v : List ℕ) {i : ℕ} → Ordered v → 0 < i → i < length v → get_or v (i - 1) 0 ≤ get_or v i 0
+ordered_at v {i} o p h = let q : i - 1 + 1 ≡ i = omega arith in rw q at (o (i - 1) (omega arith))
+
 pub steps_go : (v : List ℕ) {i : ℕ} → ((j : ℕ) → j + 1 < i → get_or v j 0 < get_or v (j + 1) 0) → 0 < i → (get_or v (i - 1) 0 ≡ get_or v i 0 → ⊥) → get_or v (i - 1) 0 ≤ get_or v i 0 → (j : ℕ) → j + 1 < i + 1 → get_or v j 0 < get_or v (j + 1) 0
 steps_go v {i} k p n l j h = cases (ltb (j + 1) i)
     (λ u. k j (ltb-true (j + 1) i u))
@@ -147,22 +160,13 @@ steps_go v {i} k p n l j h = cases (ltb (j + 1) i)
     apart : (a b : ℕ) → a ≤ b → (a ≡ b → ⊥) → a < b
     apart a b h n = cases (ltb a b) (λ t. ltb-true a b t) (λ t. let g = ltb-false a b t in absurd (n (omega arith)))
 
-pub steps_same : (v : List ℕ) {i : ℕ} → 0 < i → i < length v → get_or v (i - 1) 0 ≡ get_or v i 0 → Steps v 0
+pub steps_same : (v : List ℕ) {i : ℕ} → 0 < i → i < length v → get_or v (i - 1) 0 ≡ get_or v i 0 → Differ v false
 steps_same v {i} p h e =
     let q : i - 1 + 1 ≡ i = omega arith in
-    record {
-      up = λ z. absurd (let y : ⊥ = omega arith in y);
-      same = λ _. record { yes = λ f. false_true f; no = λ _. (get_or v (i - 1) 0, pair_times v (i - 1) (omega arith) (rw q e)) };
-    }
+    record { yes = λ f. false_true f; no = λ _. (get_or v (i - 1) 0, pair_times v (i - 1) (omega arith) (rw q e)) }
 
-pub steps_out : (v : List ℕ) → Steps v 2
-steps_out v = record { up = λ z. absurd (let y : ⊥ = omega arith in y); same = λ z. absurd (let y : ⊥ = omega arith in y) }
-
-pub steps_up : (v : List ℕ) {i : ℕ} → ((j : ℕ) → j + 1 < i → get_or v j 0 < get_or v (j + 1) 0) → length v ≤ i → Steps v 1
-steps_up v k h = record {
-  up = λ _. record { yes = λ _. rises_one v (λ j l. k j (omega arith)); no = λ f. false_true (sym f) };
-  same = λ z. absurd (let y : ⊥ = omega arith in y);
-}
+pub steps_up : (v : List ℕ) {i : ℕ} → ((j : ℕ) → j + 1 < i → get_or v j 0 < get_or v (j + 1) 0) → length v ≤ i → Differ v true
+steps_up v k h = record { yes = λ _. rises_one v (λ j l. k j (omega arith)); no = λ f. false_true (sym f) }
 
 -- ---- new to a filter: those before i are marked
 pub record Fresh (v t : List ℕ) (i : ℕ) : Type 0 where
@@ -194,29 +198,6 @@ pub fresh_end : (v t : List ℕ) {i : ℕ} → Fresh v t i → length v ≤ i �
 fresh_end v t {i} f h = record {
   yes = λ _ m. let y = f.few m in let k : times_in m (drop i v) ≡ 0 = ap (times_in m) (drop_of_length-le v h) in omega arith;
   no = λ z. false_true (sym z);
-}
-
--- ---- each compared with all
-times_at : {X : Type 0} (m : ℕ) (v : List ℕ) → 0 < times_in m v → ((i : ℕ) → i < length v → get_or v i 0 ≡ m → X) → X
-times_at m [] h f = absurd (let z : ⊥ = omega arith in z)
-times_at m (x ∷ v) h f = cases (eqb x m)
-    (λ t. f 0 (omega arith) (eqb-true x m t))
-    (λ t. let g = rw t at h in times_at m v (omega arith) (λ i l. f (suc i) (omega arith)))
-
-pub differ_go : (v : List ℕ) {i c : ℕ} → ((j : ℕ) → j < i → times_in (get_or v j 0) v ≤ 1) → c ≡ times_in (get_or v i 0) v → c ≤ 1 → (j : ℕ) → j < i + 1 → times_in (get_or v j 0) v ≤ 1
-differ_go v {i} k e h j l = cases (ltb j i)
-    (λ u. k j (ltb-true j i u))
-    (λ u. let g = ltb-false j i u in let q : j ≡ i = omega arith in rw q (omega arith))
-
-pub differ_stop : (v : List ℕ) (i : ℕ) {c : ℕ} → c ≡ times_in (get_or v i 0) v → 1 < c → Differ v false
-differ_stop v i e h = record { yes = λ f. false_true f; no = λ _. (get_or v i 0, omega arith) }
-
-pub differ_end : (v : List ℕ) {i : ℕ} → ((j : ℕ) → j < i → times_in (get_or v j 0) v ≤ 1) → length v ≤ i → Differ v true
-differ_end v k h = record {
-  yes = λ _ m. cases (ltb 1 (times_in m v))
-      (λ t. let g = ltb-true 1 (times_in m v) t in times_at m v (omega arith) (λ i l e. rw e at (k i (omega arith))))
-      (λ t. ltb-false 1 (times_in m v) t);
-  no = λ f. false_true (sym f);
 }
 
 -- the same of the table before it was put in order

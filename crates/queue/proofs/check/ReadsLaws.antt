@@ -11,19 +11,19 @@ use Rattle.queue.specs.bytes.OrderLaws.{same_is, same_self, or_true, or_false}
 use Rattle.queue.specs.layout.FrameCodec.{id_c}
 use Rattle.queue.specs.layout.FormsCodec.{rec_in_value, after_in_value}
 use Rattle.queue.specs.bytes.ViewAs.{view}
-use Rattle.queue.specs.bytes.ReaderAs.{Reads, whole, list_at}
+use Rattle.queue.specs.bytes.ReaderAs.{Found, whole, list_at}
 use Rattle.queue.specs.bytes.ReaderLaws.{Turn, turn, none_left, false_true}
 use Rattle.queue.specs.check.FilterAs.{hash_l, marked, has_in, held_by_value}
 use Rattle.queue.specs.check.ScanAs.{unread?}
-use Rattle.queue.specs.check.SuspectsAs.{id_r, no_r, meets, crosses, first?, Grown, AllMarked}
-use Rattle.queue.specs.check.ReadsAs.{foreign?, strange?, idle?, Foreign, Asked}
+use Rattle.queue.specs.check.SuspectsAs.{id_r, no_r, meets, crosses, first?, Grown, AllMarked, Full}
+use Rattle.queue.specs.check.ReadsAs.{foreign?, strange?, idle?, Foreign, Asked, Spent, Passes}
 use Rattle.queue.specs.paper.Records.{Bytes, Id, Rec}
 use Rattle.queue.specs.paper.Ids.{same?}
 use Rattle.queue.specs.paper.Lists.{any?, all?, count}
 use Rattle.queue.specs.paper.Sound.{inputs, reads, among?, used?, clash?, apart?, read?, crossed?, read_apart?}
 use Rattle.queue.specs.declared.layout.frame.Form.{Form}
 use Rattle.queue.specs.declared.layout.frame.Seen.{Seen}
-use Rattle.queue.proofs.layout.TurnLaws.{Scan, on, ReadsForm, seen_in, see_in}
+use Rattle.queue.proofs.layout.TurnLaws.{Scan, on, FoundForm, seen_in, see_in}
 use Rattle.queue.proofs.check.ScanLaws.{nothing_f}
 use Rattle.queue.proofs.check.FilterLaws.{among_more, used_none, used_some, clash_some}
 use Rattle.queue.proofs.check.SuspectsLaws.{all_at, all_each, meets_yes, all_first, grown_all, grown_back}
@@ -190,45 +190,57 @@ module _ (t : List ℕ) {h : ℕ} {b : Bool} (y : Id) (ins : List Id) (e : h ≡
   pub suspect_new : b ≡ false → false ≡ (marked t (hash_l y) && not (among? y ins))
   suspect_new f = let m : marked t (hash_l y) ≡ false = ap (marked t) (sym e) ∙ sym q ∙ f in rw m
 
+pub full_spent : {last hex : Bool} {s : Bytes} {all : List Rec} {z : List ℕ} → all? (strange? hex s all) z ≡ true → Full last hex s all z → Spent last all
+full_spent {hex = hex} {s} {all} {z} a g = record { bad = λ e. strange_crosses hex s all z a (g.bad e) }
+
 only : (x y : Id) → among? x (y ∷ []) ≡ true → y ≡ x
 only x y e = or_true (same? x y) false e (λ t. sym (same_is x y t)) (λ _ t. false_true t)
 
-module _ {last hex : Bool} {s : Bytes} {all : List Rec} {ins : List Id} (y : Id) {z : List ℕ} (a : all? (strange? hex s all) z ≡ true) where
-  asked_free : used? y all ≡ false → Asked last hex s all (y ∷ []) ins z true z
-  asked_free u = record { bad = λ e _. false_true (sym e); odd = λ _. a; back = λ _ i. i; one = λ _ _ x e _. subst (λ (d : Id). used? d all ≡ false) (only x y e) u }
+-- nobody spends one of these ids that is not one of ins
+record Idle (all : List Rec) (ids ins : List Id) : Type 0 where
+  each : (x : Id) → among? x ids ≡ true → among? x ins ≡ false → used? x all ≡ false
 
-  pub asked_own : {b : Bool} → b ≡ among? y ins → b ≡ true → Asked last hex s all (y ∷ []) ins z true z
-  asked_own q t = record { bad = λ e _. false_true (sym e); odd = λ _. a; back = λ _ i. i; one = λ _ _ x e n. false_true (sym n ∙ subst (λ (d : Id). among? d ins ≡ true) (only x y e) (sym q ∙ t)) }
+module _ {all : List Rec} {ins : List Id} (y : Id) where
+  free : used? y all ≡ false → Idle all (y ∷ []) ins
+  free u = record { each = λ x e _. subst (λ (d : Id). used? d all ≡ false) (only x y e) u }
+
+  own : among? y ins ≡ true → Idle all (y ∷ []) ins
+  own t = record { each = λ x e n. false_true (sym n ∙ subst (λ (d : Id). among? d ins ≡ true) (only x y e) t) }
 
   module _ (t : List ℕ) {b : Bool} (q : b ≡ (marked t (hash_l y) && not (among? y ins))) where
-    pub asked_skip : b ≡ false → AllMarked all t → Asked last hex s all (y ∷ []) ins z true z
-    asked_skip f m = cases (among? y ins)
-        (λ i. asked_own refl i)
-        (λ i. cases (used? y all) (λ u. false_true (sym f ∙ q ∙ rw (m.each y u, i))) (λ u. asked_free u))
+    idle : b ≡ false → AllMarked all t → Idle all (y ∷ []) ins
+    idle f m = cases (among? y ins)
+        (λ i. own i)
+        (λ i. cases (used? y all) (λ u. false_true (sym f ∙ q ∙ rw (m.each y u, i))) (λ u. free u))
 
-    pub asked_row : {w : ℕ} {ok : Bool} {z' : List ℕ} → b ≡ true → id_r hex s w ≡ y → no_r w ≡ 4294967295 → Foreign all (y ∷ []) ins → length all < 4294967296 → Grown last hex s all z w ok z' → Asked last hex s all (y ∷ []) ins z ok z'
-    unfolding idle?
-    asked_row {w} {ok} {z'} f i n o l g =
-        let u = and_true (marked t (hash_l y)) (not (among? y ins)) (sym q ∙ f) in
-        let c = strange_is hex s all w y i n (o y (rw (same_self y)) (not_true_is (among? y ins) u.1)) in
-        let back : ok ≡ true → all? (idle? hex s all) z' ≡ true → (all? (idle? hex s all) z ≡ true) × (idle? hex s all w ≡ true) = λ e d. grown_back g e (idle? hex s all) (strange_idle hex s all z l a) d in
-        record {
-          bad = λ e t. strange_crosses hex s all z a (g.bad e t);
-          odd = λ e. grown_all g e (strange? hex s all) a c;
-          back = λ e d. (back e d).0;
-          one = λ e d x h _. subst (λ (j : Id). used? j all ≡ false) (only x y h) (not_true_is (used? y all) (rw i at (back e d).1));
-        }
+    module _ {hex : Bool} {s : Bytes} {z : List ℕ} (a : all? (strange? hex s all) z ≡ true) where
+      pub asked_skip : b ≡ false → AllMarked all t → Asked hex s all (y ∷ []) ins z z
+      asked_skip f m = record { odd = a; back = λ i. i; one = λ _. (idle f m).each }
+
+      module _ {w : ℕ} (f : b ≡ true) (i : id_r hex s w ≡ y) (n : no_r w ≡ 4294967295) (o : Foreign all (y ∷ []) ins) (l : length all < 4294967296) where
+        pub row_asked : {z' : List ℕ} → Grown hex s all z w z' → Asked hex s all (y ∷ []) ins z z'
+        unfolding idle?
+        row_asked {z'} g =
+            let u = and_true (marked t (hash_l y)) (not (among? y ins)) (sym q ∙ f) in
+            let c = strange_is hex s all w y i n (o y (rw (same_self y)) (not_true_is (among? y ins) u.1)) in
+            let back : all? (idle? hex s all) z' ≡ true → (all? (idle? hex s all) z ≡ true) × (idle? hex s all w ≡ true) = λ d. grown_back g (idle? hex s all) (strange_idle hex s all z l a) d in
+            record {
+              odd = grown_all g (strange? hex s all) a c;
+              back = λ d. (back d).0;
+              one = λ d x h _. subst (λ (j : Id). used? j all ≡ false) (only x y h) (not_true_is (used? y all) (rw i at (back d).1));
+            }
 
   -- without rows
-  pub asked_held : {b : Bool} {c : ℕ} → Foreign all (y ∷ []) ins → b ≡ among? y ins → b ≡ false → c ≡ held_by_value all y → Asked last hex s all (y ∷ []) ins z (eqb c 0) z
+  pub passes_own : {b : Bool} → b ≡ among? y ins → b ≡ true → Passes all (y ∷ []) ins true
+  passes_own q t = record { yes = λ _. (own (sym q ∙ t)).each; no = λ e. false_true (sym e) }
+
+  pub passes_held : {b : Bool} {c : ℕ} → Foreign all (y ∷ []) ins → b ≡ among? y ins → b ≡ false → c ≡ held_by_value all y → Passes all (y ∷ []) ins (eqb c 0)
   unfolding held_by_value
-  asked_held {b} {c} o e f k = cases (eqb c 0)
-      (λ t. let h = eqb-true c 0 t in rw t (asked_free (used_none y all (omega arith))))
+  passes_held {b} {c} o e f k = cases (eqb c 0)
+      (λ t. let h = eqb-true c 0 t in rw t (record { yes = λ _. (free (used_none y all (omega arith))).each; no = λ u. false_true (sym u) }))
       (λ t. let h = eqb-false c 0 t in rw t (record {
-        bad = λ _ _. read_no y all (used_some y all (above (count (has_in y) all) (λ g. h (k ∙ g)))) (o y (rw (same_self y)) (sym e ∙ f));
-        odd = λ u. false_true u;
-        back = λ u. false_true u;
-        one = λ u. false_true u;
+        yes = λ u. false_true u;
+        no = λ _. read_no y all (used_some y all (above (count (has_in y) all) (λ g. h (k ∙ g)))) (o y (rw (same_self y)) (sym e ∙ f));
       }))
     where
       above : (m : ℕ) → (m ≡ 0 → ⊥) → 0 < m
@@ -248,9 +260,9 @@ pub asking : (hex : Bool) (s : Bytes) (all : List Rec) (v : Bytes) (ins : List I
 asking hex s all v ins m at z h w a = record { within = h; whole = w; part = λ x p. p; odd = a; back = λ f. f; one = λ _ x a n _. false_true (sym n ∙ a) }
 
 module _ {hex : Bool} {s : Bytes} {all : List Rec} {v : Bytes} {own ins : List Id} {z₀ : List ℕ} {i left : ℕ} {z : List ℕ} (x : Asking hex s all v own ins z₀ i left z) where
-  module _ {next : ℕ} {ok : Bool} {y : Id} (p : 0 < left) (r : Reads id_c v i ok next (λ w. w ≡ y)) where
+  module _ {next : ℕ} {y : Id} (p : 0 < left) (r : Found id_c v i next (λ w. w ≡ y)) where
     pub asking_turn : Turn id_c v left i next (λ w. w ≡ y)
-    asking_turn = turn left x.within x.whole p r
+    asking_turn = turn left x.whole p r
 
     rest_is : (d : Id) → among? d (list_at id_c left v i) ≡ (same? d y || among? d (list_at id_c (left - 1) v next))
     rest_is d = let u = asking_turn in rw (u.list, u.is)
@@ -258,26 +270,30 @@ module _ {hex : Bool} {s : Bytes} {all : List Rec} {v : Bytes} {own ins : List I
     pub asking_odd : Foreign all own ins → Foreign all (y ∷ []) ins
     asking_odd o d e n = o d (x.part d (rest_is d ∙ or_true (same? d y) false e (λ q. rw q) (λ _ q. false_true q))) n
 
-    pub asking_go : {last b : Bool} {z' : List ℕ} → Asked last hex s all (y ∷ []) ins z b z' → b ≡ true → Asking hex s all v own ins z₀ next (left - 1) z'
-    asking_go g f =
+    pub asking_go : {z' : List ℕ} → Asked hex s all (y ∷ []) ins z z' → Asking hex s all v own ins z₀ next (left - 1) z'
+    asking_go g =
         let u = asking_turn in
         record {
           within = u.within;
           whole = u.rest;
           part = λ d q. x.part d (rest_is d ∙ or_right (same? d y) q);
-          odd = g.odd f;
-          back = λ a. x.back (g.back f a);
-          one = λ a d o n j. cases (same? d y) (λ q. g.one f a d (rw q) j) (λ q. x.one (g.back f a) d o (rest_is d ∙ rw q n) j);
+          odd = g.odd;
+          back = λ a. x.back (g.back a);
+          one = λ a d o n j. cases (same? d y) (λ q. g.one a d (rw q) j) (λ q. x.one (g.back a) d o (rest_is d ∙ rw q n) j);
         }
 
-    pub asking_out : {last b : Bool} {z' : List ℕ} → Asked last hex s all (y ∷ []) ins z b z' → b ≡ false → Asked last hex s all own ins z₀ false z'
-    asking_out g f = record { bad = λ _. g.bad f; odd = λ u. false_true u; back = λ u. false_true u; one = λ u. false_true u }
+  pub asking_end : left ≡ 0 → Asked hex s all own ins z₀ z
+  asking_end e = record { odd = x.odd; back = x.back; one = λ a d o n. x.one a d o (ap (among? d) (none_left id_c v left i e).0) n }
 
-    pub asking_stop : {last b : Bool} {z' : List ℕ} → Asked last hex s all (y ∷ []) ins z b z' → b ≡ false → Asked last hex s all own ins z₀ b z'
-    asking_stop g f = record { bad = g.bad; odd = λ u. false_true (sym f ∙ u); back = λ u. false_true (sym f ∙ u); one = λ u. false_true (sym f ∙ u) }
+-- a read id that passed without rows
+pub asked_passed : {hex : Bool} {s : Bytes} {all : List Rec} {ids ins : List Id} {b : Bool} → Passes all ids ins b → b ≡ true → Asked hex s all ids ins [] []
+asked_passed g f = record { odd = refl; back = λ i. i; one = λ _. g.yes f }
 
-  pub asking_end : {last : Bool} → left ≡ 0 → Asked last hex s all own ins z₀ true z
-  asking_end e = record { bad = λ u _. false_true (sym u); odd = λ _. x.odd; back = λ _. x.back; one = λ _ a d o n. x.one a d o (ap (among? d) (none_left id_c v left i e).0) n }
+pub passes_no : {all : List Rec} {ids ids' ins : List Id} {b : Bool} → Passes all ids ins b → b ≡ false → Passes all ids' ins false
+passes_no g f = record { yes = λ u. false_true u; no = λ _. g.no f }
+
+pub passes_yes : {hex : Bool} {s : Bytes} {all : List Rec} {ids ins : List Id} → Asked hex s all ids ins [] [] → Passes all ids ins true
+passes_yes g = record { yes = λ _. g.one refl; no = λ u. false_true (sym u) }
 
 -- ---- the records: those before rest are passed, if the rows are
 pub record Over (hex : Bool) (s : Bytes) (all rest : List Rec) (z : List ℕ) : Type 0 where
@@ -288,13 +304,13 @@ pub record Over (hex : Bool) (s : Bytes) (all rest : List Rec) (z : List ℕ) : 
 pub over_start : (hex : Bool) (s : Bytes) (all : List Rec) → Over hex s all all []
 over_start hex s all = record { part = λ _ e. e; odd = refl; none = λ _ x a n. false_true (sym n ∙ a) }
 
-over_go : {last hex : Bool} {s : Bytes} {all : List Rec} (r : Rec) (l : List Rec) {z z' : List ℕ} {b : Bool} → Over hex s all (r ∷ l) z → Asked last hex s all (reads r.body) (inputs r.body) z b z' → b ≡ true → Over hex s all l z'
-over_go r l w g f = record {
+over_go : {hex : Bool} {s : Bytes} {all : List Rec} (r : Rec) (l : List Rec) {z z' : List ℕ} → Over hex s all (r ∷ l) z → Asked hex s all (reads r.body) (inputs r.body) z z' → Over hex s all l z'
+over_go r l w g = record {
   part = λ x e. w.part x (or_right (foreign? x r) e);
-  odd = g.odd f;
+  odd = g.odd;
   none = λ i x a n. cases (foreign? x r)
-      (λ t. let p = foreign_parts x r t in g.one f i x p.0 p.1)
-      (λ t. w.none (g.back f i) x a (rw t n));
+      (λ t. let p = foreign_parts x r t in g.one i x p.0 p.1)
+      (λ t. w.none (g.back i) x a (rw t n));
 }
 
 over_end : {hex : Bool} {s : Bytes} {all : List Rec} {z : List ℕ} {b : Bool} → Over hex s all [] z → apart? all ≡ true → length all < 4294967296 → b ≡ crosses hex s z 0 all → not b ≡ read_apart? all
@@ -302,20 +318,20 @@ over_end {hex} {s} {all} {z} {b = true} w a l e = sym (strange_crosses hex s all
 over_end {hex} {s} {all} {z} {b = false} w a l e = sym (read_yes all a (λ x f. w.none (strange_idle hex s all z l w.odd (sym e)) x f refl))
 
 module _ (form : Form) {s : Bytes} {n at i left : ℕ} {z : List ℕ} (x : Scan (rec_in_value form) nothing_f s n at tt i left tt) (w : Over form.hex s (list_at (rec_in_value form) n s at) (list_at (rec_in_value form) left s i) z) where
-  module _ {m : ℕ} {ok : Bool} {y : Seen} (p : 0 < left) (r : ReadsForm form s i ok m y) where
+  module _ {m : ℕ} {y : Seen} (p : 0 < left) (r : FoundForm form s i m y) where
     pub over_odd : Foreign (list_at (rec_in_value form) n s at) (list_at id_c y.facts.reads (view form.hex s i) y.reads) (list_at id_c y.facts.ins (view form.hex s i) y.at)
     over_odd d e o =
         let u = seen_in form x p r in
         let f = foreign_is d u.item (ap (among? d) (sym u.is.0.reads_list) ∙ e) (ap (among? d) (sym u.is.0.ins_list) ∙ o) in
         w.part d (rw (u.list, f))
 
-    pub over_on : {last b : Bool} {z' : List ℕ} {j : ℕ}
-        → Asked last form.hex s (list_at (rec_in_value form) n s at) (list_at id_c y.facts.reads (view form.hex s i) y.reads) (list_at id_c y.facts.ins (view form.hex s i) y.at) z b z'
-        → b ≡ true → j ≡ after_in_value form.hex s i m → Scan (rec_in_value form) nothing_f s n at tt j (left - 1) tt × Over form.hex s (list_at (rec_in_value form) n s at) (list_at (rec_in_value form) (left - 1) s j) z'
+    pub over_on : {z' : List ℕ} {j : ℕ}
+        → Asked form.hex s (list_at (rec_in_value form) n s at) (list_at id_c y.facts.reads (view form.hex s i) y.reads) (list_at id_c y.facts.ins (view form.hex s i) y.at) z z'
+        → j ≡ after_in_value form.hex s i m → Scan (rec_in_value form) nothing_f s n at tt j (left - 1) tt × Over form.hex s (list_at (rec_in_value form) n s at) (list_at (rec_in_value form) (left - 1) s j) z'
     unfolding nothing_f
-    over_on {j = j} g f e =
+    over_on {j = j} g e =
         let u = see_in form x p r e in
-        (on x tt p u refl, over_go u.item (list_at (rec_in_value form) (left - 1) s j) (rw u.list at w) (rw (u.is.0.reads_list, u.is.0.ins_list) at g) f)
+        (on x tt p u refl, over_go u.item (list_at (rec_in_value form) (left - 1) s j) (rw u.list at w) (rw (u.is.0.reads_list, u.is.0.ins_list) at g))
 
   module _ (a : apart? (list_at (rec_in_value form) n s at) ≡ true) (e : left ≡ 0) where
     pub over_last : {b : Bool} → length (list_at (rec_in_value form) n s at) < 4294967296 → b ≡ crosses form.hex s z 0 (list_at (rec_in_value form) n s at) → not b ≡ read_apart? (list_at (rec_in_value form) n s at)

@@ -5,10 +5,10 @@ use Rattle.std.specs.Int.Bits.{bit_or, or_add_and}
 use Rattle.std.proofs.lemmas.Nat.{and_le_l, and_le_r}
 use Rattle.std.proofs.lemmas.Bool.{eqb-false}
 use Rattle.queue.specs.Codec.{cases}
-use Rattle.queue.specs.layout.FrameCodec.{rec_c, id_c}
-use Rattle.queue.specs.layout.FormsCodec.{form_c, after_in_value, ends_line_value, framed, rec_in_value}
+use Rattle.queue.specs.layout.FrameCodec.{rec_k, rec_c, id_c}
+use Rattle.queue.specs.layout.FormsCodec.{form_c, after_in_value, ends_line_value, framed, frame_bad, frame_open, Many, rec_in_value}
 use Rattle.queue.specs.bytes.ViewAs.{view}
-use Rattle.queue.specs.bytes.ReaderAs.{Reads, whole, list_at, behind}
+use Rattle.queue.specs.bytes.ReaderAs.{Fails, Found, whole, list_at, behind}
 use Rattle.queue.specs.bytes.ReaderLaws.{none_left, whole_step, whole_bad}
 use Rattle.queue.specs.check.RulesAs.{weight, sum}
 use Rattle.queue.specs.Areas.{zero?, zero_in}
@@ -18,14 +18,14 @@ use Rattle.queue.specs.paper.Sound.{among?}
 use Rattle.queue.specs.declared.layout.frame.Form.{Form}
 use Rattle.queue.specs.declared.layout.frame.Seen.{Seen}
 use Rattle.queue.specs.declared.check.rules.Query.{Query}
-use Rattle.queue.proofs.layout.TurnLaws.{Scan, here, on, stop, end, ReadsForm, ReadsRec, see}
+use Rattle.queue.proofs.layout.TurnLaws.{Scan, here, on, stop, end, FoundForm, FoundRec, see}
 
 -- ---- counts
 unfoldable pub sum_from : Query → ℕ → List Rec → ℕ
 sum_from q acc l = acc + sum q l
 
 module _ (hex : Bool) (q : Query) {s : Bytes} {n at i left acc : ℕ} (x : Scan (form_c hex rec_c) (sum_from q) s n at 0 i left acc) where
-  pub tally_go : {m w j : ℕ} {ok : Bool} {y : Seen} → 0 < left → ReadsRec hex s i ok m y → j ≡ after_in_value hex s i m → w ≡ weight q y.facts
+  pub tally_go : {m w j : ℕ} {y : Seen} → 0 < left → FoundRec hex s i m y → j ≡ after_in_value hex s i m → w ≡ weight q y.facts
       → Scan (form_c hex rec_c) (sum_from q) s n at 0 j (left - 1) (acc + w)
   unfolding sum_from sum
   tally_go {m} {w} p r g e = let t = see hex x p r g in let f = e ∙ ap (weight q) t.is.0.facts in on x (acc + w) p t (omega arith)
@@ -41,26 +41,23 @@ pub record Framing (form : Form) (s : Bytes) (n at i left : ℕ) : Type 0 where
   pub all : whole (rec_in_value form) left s i ≡ whole (rec_in_value form) n s at
   pub rest : behind (rec_in_value form) left s i ≡ behind (rec_in_value form) n s at
 
-module _ {form : Form} {s : Bytes} {n at i left m : ℕ} {ok : Bool} {y : Seen} (x : Framing form s n at i left) (p : 0 < left) (r : ReadsForm form s i ok m y) where
-  pub frames_in : ok ≡ true → m ≤ length (view form.hex s i)
-  frames_in t = (r.good (omega arith) t).3
+module _ {form : Form} {s : Bytes} {n at i left : ℕ} (x : Framing form s n at i left) (p : 0 < left) where
+  -- no record stands there
+  pub frames_short : Fails (rec_k form.kind) (view form.hex s i) 0 → whole (rec_in_value form) n s at ≡ false
+  frames_short f = sym x.all ∙ whole_bad left x.within p (frame_bad form.hex f)
 
-  frames_ok_law : {b : Bool} → ok ≡ true → b ≡ ends_line_value form.hex s i m → (ok && ends_line_value form.hex s i m) ≡ b
-  frames_ok_law t e = rw t (sym e)
+  module _ {m : ℕ} {y : Seen} (r : FoundForm form s i m y) {b : Bool} (e : b ≡ ends_line_value form.hex s i m) where
+    pub frames_line : b ≡ false → whole (rec_in_value form) n s at ≡ false
+    frames_line f = sym x.all ∙ whole_bad left x.within p (frame_open form.hex r (sym e ∙ f))
 
-  pub frames_go : {j : ℕ} {b : Bool} → ok ≡ true → b ≡ ends_line_value form.hex s i m → b ≡ true → j ≡ after_in_value form.hex s i m → Framing form s n at j (left - 1)
-  frames_go {j} t e f g =
-      let u = whole_step left x.within p (framed form.hex x.within r) (frames_ok_law t e ∙ f) in
-      rw g (record { up = omega (arith, x.up, u.2); within = u.3; all = sym u.0 ∙ x.all; rest = sym u.1 ∙ x.rest })
+    pub frames_go : {j : ℕ} → b ≡ true → j ≡ after_in_value form.hex s i m → Framing form s n at j (left - 1)
+    frames_go {j} f g =
+        let u = framed form.hex x.within r (sym e ∙ f) in
+        let st = whole_step left p u in
+        rw g (record { up = omega (arith, x.up, u.up); within = u.within; all = sym st.0 ∙ x.all; rest = sym st.1 ∙ x.rest })
 
-  pub frames_short : ok ≡ false → false ≡ whole (rec_in_value form) n s at
-  frames_short t = sym (whole_bad left x.within p (framed form.hex x.within r) (rw t)) ∙ x.all
-
-  pub frames_line : {b : Bool} → ok ≡ true → b ≡ ends_line_value form.hex s i m → b ≡ false → false ≡ whole (rec_in_value form) n s at
-  frames_line t e f = sym (whole_bad left x.within p (framed form.hex x.within r) (frames_ok_law t e ∙ f)) ∙ x.all
-
-pub frames_end : {form : Form} {s : Bytes} {n at i left : ℕ} → Framing form s n at i left → left ≡ 0 → (true ≡ whole (rec_in_value form) n s at) × (drop i s ≡ behind (rec_in_value form) n s at)
-frames_end {form} {s} {n} {at} {i} {left} x z = let u = none_left (rec_in_value form) s left i z in (sym u.1 ∙ x.all, sym u.2 ∙ x.rest)
+pub frames_end : {form : Form} {s : Bytes} {n at i left : ℕ} → Framing form s n at i left → left ≡ 0 → Many (rec_in_value form) s at n i
+frames_end {form} {s} {n} {at} {i} {left} x z = let u = none_left (rec_in_value form) s left i z in record { is = sym x.all ∙ u.1; end = sym u.2 ∙ x.rest; up = x.up; within = x.within }
 
 -- ---- searches: no state
 unfoldable pub nothing_f : Unit {0} → List Rec → Unit {0}
@@ -70,11 +67,11 @@ unfoldable pub among_f : Id → Unit {0} → List Id → Bool
 among_f x u l = among? x l
 
 module _ (z : Id) {v : Bytes} {n at i left : ℕ} (x : Scan id_c (among_f z) v n at tt i left tt) where
-  pub among_go : {next : ℕ} {ok : Bool} {y : Id} → 0 < left → Reads id_c v i ok next (λ w. w ≡ y) → (cmp_l z y ≡ 1 → ⊥) → Scan id_c (among_f z) v n at tt next (left - 1) tt
+  pub among_go : {next : ℕ} {y : Id} → 0 < left → Found id_c v i next (λ w. w ≡ y) → (cmp_l z y ≡ 1 → ⊥) → Scan id_c (among_f z) v n at tt next (left - 1) tt
   unfolding among_f
   among_go h r e = let t = here x h r in on x tt h t (rw (t.is, ne_eqb _ _ e))
 
-  pub among_stop : {next : ℕ} {ok : Bool} {y : Id} → 0 < left → Reads id_c v i ok next (λ w. w ≡ y) → cmp_l z y ≡ 1 → true ≡ among? z (list_at id_c n v at)
+  pub among_stop : {next : ℕ} {y : Id} → 0 < left → Found id_c v i next (λ w. w ≡ y) → cmp_l z y ≡ 1 → true ≡ among? z (list_at id_c n v at)
   unfolding among_f
   among_stop h r e = let t = here x h r in stop x t (rw (t.is, eq-eqb _ _ e))
 

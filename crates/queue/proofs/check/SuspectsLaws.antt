@@ -1,7 +1,6 @@
 -- The laws of the suspects: what a look through the rows says of the records, the loops that gather rows. Assumes nothing.
-use Rattle.std.specs.Prelude.{◌≡◌, refl, Bool, true, false, not, ◌&&◌, ◌||◌, List, [], ◌∷◌, ◌++◌, ℕ, zero, suc, ◌+◌, ◌-◌, ◌≤◌, ◌<◌, ltb, eqb, length, take, drop, get_or, set}
-use Rattle.std.proofs.Common.{ap, sym, ◌∙◌, subst, inl, inr, ⊎_elim, arith, add-one, length-drop, length-append, drop-drop, take_all, take_at, take-suc-set, length-take-le, eqb-true, ne_eqb, ltb-true, ltb-false, lt-ltb, leb-true, le-leb}
-use Rattle.std.proofs.lemmas.Bool.{eqb-false}
+use Rattle.std.specs.Prelude.{◌≡◌, refl, Bool, true, false, not, ◌&&◌, ◌||◌, List, [], ◌∷◌, ◌++◌, ℕ, zero, suc, ◌+◌, ◌-◌, ◌≤◌, ◌<◌, ltb, eqb, length, take, drop, get_or, set, Option, Some, None, IsSome}
+use Rattle.std.proofs.Common.{ap, sym, ◌∙◌, subst, inl, inr, ⊎_elim, arith, add-one, length-drop, length-append, drop-drop, take_all, take_at, take-suc-set, length-take-le, ne_eqb, ltb-true, ltb-false, lt-ltb, leb-true, le-leb}
 use Rattle.queue.specs.Basics.{or_right, any_count}
 use Rattle.queue.specs.Codec.{cases, encs, byte_c, vec_c}
 use Rattle.queue.specs.bytes.Parts.{part}
@@ -10,18 +9,18 @@ use Rattle.queue.specs.bytes.OrderLaws.{same_is, same_self, same_sym, or_true, o
 use Rattle.queue.specs.layout.FrameCodec.{id_c, spans_id}
 use Rattle.queue.specs.layout.FormsCodec.{rec_in_value, after_in_value}
 use Rattle.queue.specs.bytes.ViewAs.{view}
-use Rattle.queue.specs.bytes.ReaderAs.{Reads, whole, list_at}
+use Rattle.queue.specs.bytes.ReaderAs.{Found, whole, list_at}
 use Rattle.queue.specs.bytes.ReaderLaws.{Turn, turn, none_left, false_true}
 use Rattle.queue.specs.check.FilterAs.{hash_l, marked, mark_l, has_in}
-use Rattle.queue.specs.check.SuspectsAs.{id_r, no_r, later, meets, crosses, held?, first?, Shuffled, Grown, Noted, Said, AllMarked, Owned}
+use Rattle.queue.specs.check.SuspectsAs.{id_r, no_r, later, meets, crosses, held?, first?, Shuffled, Full, Grown, Twice, Noted, Said, AllMarked, Owned}
 use Rattle.queue.specs.paper.Records.{Bytes, Id, Rec}
 use Rattle.queue.specs.paper.Ids.{same?}
 use Rattle.queue.specs.paper.Lists.{one, any?, all?, count}
 use Rattle.queue.specs.paper.Sound.{inputs, among?, used?, apart?}
 use Rattle.queue.specs.declared.layout.frame.Form.{Form}
 use Rattle.queue.specs.declared.layout.frame.Seen.{Seen}
-use Rattle.queue.proofs.layout.FrameLaws.{bytes_enc}
-use Rattle.queue.proofs.layout.TurnLaws.{Scan, here, on, stop, end, ReadsForm, seen_in, see_in}
+use Rattle.queue.proofs.bytes.ReadLaws.{bytes_enc}
+use Rattle.queue.proofs.layout.TurnLaws.{Scan, here, on, stop, end, FoundForm, seen_in, see_in}
 use Rattle.queue.proofs.check.ScanLaws.{nothing_f}
 use Rattle.queue.proofs.check.FilterLaws.{mark_size, mark_here, mark_old, used_none, apart_yes, apart_no}
 
@@ -175,7 +174,7 @@ unfoldable pub meets_f : Bool → Bytes → List ℕ → ℕ → Unit {0} → Li
 meets_f hex s v k u l = meets hex s v k l
 
 module _ (hex : Bool) (s : Bytes) (w : List ℕ) (k : ℕ) {v : Bytes} {n at i left : ℕ} (x : Scan id_c (meets_f hex s w k) v n at tt i left tt) where
-  module _ {next : ℕ} {ok b : Bool} {y : Id} (z : ℕ) (h : 0 < left) (r : Reads id_c v i ok next (λ a. a ≡ y)) (p : id_r hex s z ≡ part 32 v i) (q : no_r z ≡ k) (e : b ≡ any? (later hex s (id_r hex s z) (no_r z)) w) where
+  module _ {next : ℕ} {b : Bool} {y : Id} (z : ℕ) (h : 0 < left) (r : Found id_c v i next (λ a. a ≡ y)) (p : id_r hex s z ≡ part 32 v i) (q : no_r z ≡ k) (e : b ≡ any? (later hex s (id_r hex s z) (no_r z)) w) where
     its : b ≡ any? (later hex s y k) w
     its = e ∙ rw (q, p, (id_bytes (here x h r)).0)
 
@@ -192,7 +191,7 @@ module _ (hex : Bool) (s : Bytes) (w : List ℕ) (k : ℕ) {v : Bytes} {n at i l
   meets_end e = end x e
 
 module _ (form : Form) (w : List ℕ) {s : Bytes} {n at i left k : ℕ} (x : Scan (rec_in_value form) (crosses form.hex s w) s n at 0 i left k) where
-  module _ {m : ℕ} {ok b : Bool} {y : Seen} (h : 0 < left) (r : ReadsForm form s i ok m y) (e : b ≡ meets form.hex s w k (list_at id_c y.facts.ins (view form.hex s i) y.at)) where
+  module _ {m : ℕ} {b : Bool} {y : Seen} (h : 0 < left) (r : FoundForm form s i m y) (e : b ≡ meets form.hex s w k (list_at id_c y.facts.ins (view form.hex s i) y.at)) where
     pub crosses_go : {j : ℕ} → j ≡ after_in_value form.hex s i m → b ≡ false → Scan (rec_in_value form) (crosses form.hex s w) s n at 0 j (left - 1) (k + 1)
     unfolding crosses
     crosses_go g f = let t = see_in form x h r g in on x (k + 1) h t (rw (← t.is.0.ins_list, ← e, f))
@@ -206,62 +205,63 @@ module _ (form : Form) (w : List ℕ) {s : Bytes} {n at i left k : ℕ} (x : Sca
   crosses_end e = end x e
 
 -- ---- a row more
-module _ {last hex : Bool} {s : Bytes} {all : List Rec} {w : ℕ} where
-  pub grown_room : (v : List ℕ) {v' : List ℕ} (m : ℕ) → m < length v → v' ≡ set v m w → Grown last hex s all (take m v) w true (take (m + 1) v')
-  grown_room v m h e = record { bad = λ z _. false_true (sym z); good = λ _. inl (ap (take (m + 1)) e ∙ rw add-one (take-suc-set v m w h)) }
+module _ {hex : Bool} {s : Bytes} {all : List Rec} {w : ℕ} where
+  pub grown_room : (v : List ℕ) {v' : List ℕ} (m : ℕ) → m < length v → v' ≡ set v m w → Grown hex s all (take m v) w (take (m + 1) v')
+  grown_room v m h e = record { good = inl (ap (take (m + 1)) e ∙ rw add-one (take-suc-set v m w h)) }
 
-  pub grown_out : {z z' : List ℕ} → last ≡ false → Grown last hex s all z w false z'
-  grown_out e = record { bad = λ _ t. false_true (sym e ∙ t); good = λ z. false_true z }
-
-  module _ (v : List ℕ) {b : Bool} (l : b ≡ crosses hex s v 0 all) (m : ℕ) (h : length v ≤ m) where
-    pub grown_bad : {z' : List ℕ} → b ≡ true → Grown last hex s all (take m v) w false z'
-    grown_bad t = record { bad = λ _ _. rw (take_all m v h) (sym l ∙ t); good = λ z. false_true z }
-
-    pub grown_new : {v' v'' : List ℕ} → Shuffled v v' → b ≡ false → 0 < length v' → v'' ≡ set v' 0 w → Grown last hex s all (take m v) w true (take 1 v'')
-    grown_new {v'} _ t p e = record { bad = λ z _. false_true (sym z); good = λ _. inr (ap (take 1) e ∙ take-suc-set v' 0 w p, rw (take_all m v h) (sym l ∙ t)) }
+  pub grown_new : (v : List ℕ) {b : Bool} → b ≡ crosses hex s v 0 all → (m : ℕ) → length v ≤ m → {v' v'' : List ℕ} → Shuffled v v' → b ≡ false → 0 < length v' → v'' ≡ set v' 0 w → Grown hex s all (take m v) w (take 1 v'')
+  grown_new v l m h {v'} _ t p e = record { good = inr (ap (take 1) e ∙ take-suc-set v' 0 w p, rw (take_all m v h) (sym l ∙ t)) }
 
   -- what holds of each row; and what holds of each once the rows are looked through
-  module _ {z z' : List ℕ} {ok : Bool} (g : Grown last hex s all z w ok z') (f : ok ≡ true) where
+  module _ {z z' : List ℕ} (g : Grown hex s all z w z') where
     pub grown_all : (p : ℕ → Bool) → all? p z ≡ true → p w ≡ true → all? p z' ≡ true
     grown_all p a b =
         let o : all? p (w ∷ []) ≡ true = rw b in
-        ⊎_elim (λ e. ap (all? p) e ∙ all_append p z (w ∷ []) ∙ and_both (all? p z) (all? p (w ∷ [])) a o) (λ e. ap (all? p) e.0 ∙ o) (g.good f)
+        ⊎_elim (λ e. ap (all? p) e ∙ all_append p z (w ∷ []) ∙ and_both (all? p z) (all? p (w ∷ [])) a o) (λ e. ap (all? p) e.0 ∙ o) g.good
 
     pub grown_back : (q : ℕ → Bool) → (crosses hex s z 0 all ≡ false → all? q z ≡ true) → all? q z' ≡ true → (all? q z ≡ true) × (q w ≡ true)
     grown_back q k a = ⊎_elim
         (λ e. let u = and_true (all? q z) (all? q (w ∷ [])) (sym (ap (all? q) e ∙ all_append q z (w ∷ [])) ∙ a) in (u.0, (and_true (q w) true u.1).0))
         (λ e. (k e.1, (and_true (q w) true (sym (ap (all? q) e.0) ∙ a)).0))
-        (g.good f)
+        g.good
+
+pub grown_bad : {last hex : Bool} {s : Bytes} {all : List Rec} (v : List ℕ) {b : Bool} → b ≡ crosses hex s v 0 all → (m : ℕ) → length v ≤ m → b ≡ true → Full last hex s all (take m v)
+grown_bad v l m h t = record { bad = λ _. rw (take_all m v h) (sym l ∙ t) }
+
+pub grown_out : {last hex : Bool} {s : Bytes} {all : List Rec} {z : List ℕ} → last ≡ false → Full last hex s all z
+grown_out e = record { bad = λ t. false_true (sym e ∙ t) }
 
 -- ---- one id
+pub full_twice : {last hex : Bool} {s : Bytes} {all : List Rec} {z : List ℕ} → all? (held? hex s all) z ≡ true → Full last hex s all z → Twice last all
+full_twice {hex = hex} {s} {all} {z} a g = record { bad = λ l. crosses_yes hex s z all a 0 all refl (g.bad l) }
+
 pub held_row : (hex : Bool) (s : Bytes) (all : List Rec) (k w : ℕ) (y : Id) → id_r hex s w ≡ y → no_r w ≡ k → Owned all k (same? y) → held? hex s all w ≡ true
 unfolding held?
 held_row hex s all k w y e f o = rw (e, f) (lt-ltb 0 (count (has_in y) (drop k all)) (o y (same_self y)))
 
-module _ {last hex : Bool} {s : Bytes} {all : List Rec} {k : ℕ} (y : Id) {t z : List ℕ} {h : ℕ} (e : h ≡ hash_l y) {b : Bool} (q : b ≡ marked t h) where
-  pub note_seen : {w : ℕ} {ok : Bool} {z' : List ℕ} → b ≡ true → id_r hex s w ≡ y → no_r w ≡ k → all? (held? hex s all) z ≡ true → held? hex s all w ≡ true → Grown last hex s all z w ok z' → Noted last hex s all k (same? y) t z ok t z'
-  unfolding first?
-  note_seen {w} {ok} {z'} f i n a d g =
-      let back : ok ≡ true → all? (first? hex s all) z' ≡ true → (all? (first? hex s all) z ≡ true) × (first? hex s all w ≡ true) = λ o c. grown_back g o (first? hex s all) (all_first hex s z all) c in
-      record {
-        size = refl;
-        old = λ _ m. m;
-        bad = λ o l. crosses_yes hex s z all a 0 all refl (g.bad o l);
-        held = λ o. grown_all g o (held? hex s all) a d;
-        back = λ o c. (back o c).0;
-        one = λ o c x u _. subst (λ (d : Id). count (has_in d) all ≤ count (has_in d) (drop k all)) (same_is y x u) (leb-true (count (has_in y) all) (count (has_in y) (drop k all)) (rw (i, n) at (back o c).1));
-        new = λ o x u. subst (λ (d : Id). marked t (hash_l d) ≡ true) (same_is y x u) (sym (q ∙ ap (marked t) e) ∙ f);
-      }
+module _ {hex : Bool} {s : Bytes} {all : List Rec} {k : ℕ} (y : Id) {t z : List ℕ} {h : ℕ} (e : h ≡ hash_l y) {b : Bool} (q : b ≡ marked t h) where
+  module _ {w : ℕ} (f : b ≡ true) (i : id_r hex s w ≡ y) (n : no_r w ≡ k) (a : all? (held? hex s all) z ≡ true) (d : held? hex s all w ≡ true) where
+    pub row_noted : {z' : List ℕ} → Grown hex s all z w z' → Noted hex s all k (same? y) t z t z'
+    unfolding first?
+    row_noted {z'} g =
+        let back : all? (first? hex s all) z' ≡ true → (all? (first? hex s all) z ≡ true) × (first? hex s all w ≡ true) = λ c. grown_back g (first? hex s all) (all_first hex s z all) c in
+        record {
+          size = refl;
+          old = λ _ m. m;
+          held = grown_all g (held? hex s all) a d;
+          back = λ c. (back c).0;
+          one = λ c x u _. subst (λ (d : Id). count (has_in d) all ≤ count (has_in d) (drop k all)) (same_is y x u) (leb-true (count (has_in y) all) (count (has_in y) (drop k all)) (rw (i, n) at (back c).1));
+          new = λ x u. subst (λ (d : Id). marked t (hash_l d) ≡ true) (same_is y x u) (sym (q ∙ ap (marked t) e) ∙ f);
+        }
 
-  pub note_new : {t' : List ℕ} → b ≡ false → 0 < length t → t' ≡ mark_l t h → all? (held? hex s all) z ≡ true → Noted last hex s all k (same? y) t z true t' z
+  pub note_new : {t' : List ℕ} → b ≡ false → 0 < length t → t' ≡ mark_l t h → all? (held? hex s all) z ≡ true → Noted hex s all k (same? y) t z t' z
   note_new {t'} f p g a = record {
     size = ap length g ∙ mark_size t h;
     old = λ d m. ap (λ (v : List ℕ). marked v d) g ∙ mark_old t h p d m;
-    bad = λ u _. false_true (sym u);
-    held = λ _. a;
-    back = λ _ d. d;
-    one = λ _ _ x u m. false_true (sym f ∙ q ∙ ap (marked t) e ∙ ap (λ (d : Id). marked t (hash_l d)) (same_is y x u) ∙ m);
-    new = λ _ x u. subst (λ (d : Id). marked t' (hash_l d) ≡ true) (same_is y x u) (ap (λ (v : List ℕ). marked v (hash_l y)) g ∙ ap (marked (mark_l t h)) (sym e) ∙ mark_here t h p);
+    held = a;
+    back = λ d. d;
+    one = λ _ x u m. false_true (sym f ∙ q ∙ ap (marked t) e ∙ ap (λ (d : Id). marked t (hash_l d)) (same_is y x u) ∙ m);
+    new = λ x u. subst (λ (d : Id). marked t' (hash_l d) ≡ true) (same_is y x u) (ap (λ (v : List ℕ). marked v (hash_l y)) g ∙ ap (marked (mark_l t h)) (sym e) ∙ mark_here t h p);
   }
 
 -- ---- the ids of a record: those before i are passed
@@ -281,9 +281,9 @@ noting hex s all k v m at t z h w a =
     record { within = h; whole = w; part = λ x p. p; size = refl; old = λ _ m. m; held = a; back = λ f. f; one = λ _ x a n _. false_true (sym n ∙ a); new = λ x a n. false_true (sym n ∙ a) }
 
 module _ {hex : Bool} {s : Bytes} {all : List Rec} {k : ℕ} {v : Bytes} {own : List Id} {t₀ z₀ : List ℕ} {i left : ℕ} {t z : List ℕ} (x : Noting hex s all k v own t₀ z₀ i left t z) where
-  module _ {next : ℕ} {ok : Bool} {y : Id} (p : 0 < left) (r : Reads id_c v i ok next (λ w. w ≡ y)) where
+  module _ {next : ℕ} {y : Id} (p : 0 < left) (r : Found id_c v i next (λ w. w ≡ y)) where
     pub noting_turn : Turn id_c v left i next (λ w. w ≡ y)
-    noting_turn = turn left x.within x.whole p r
+    noting_turn = turn left x.whole p r
 
     rest_is : (d : Id) → among? d (list_at id_c left v i) ≡ (same? y d || among? d (list_at id_c (left - 1) v next))
     rest_is d = let u = noting_turn in rw (u.list, u.is, same_sym d y)
@@ -291,12 +291,12 @@ module _ {hex : Bool} {s : Bytes} {all : List Rec} {k : ℕ} {v : Bytes} {own : 
     pub noting_own : Owned all k (λ d. among? d own) → Owned all k (same? y)
     noting_own o d e = o d (x.part d (rw (rest_is d, e)))
 
-    module _ {last b : Bool} {t' z' : List ℕ} (g : Noted last hex s all k (same? y) t z b t' z') where
+    module _ {t' z' : List ℕ} (g : Noted hex s all k (same? y) t z t' z') where
       split : {X : Type 0} (d : Id) → among? d (list_at id_c (left - 1) v next) ≡ false → (same? y d ≡ true → X) → (among? d (list_at id_c left v i) ≡ false → X) → X
       split d n f j = cases (same? y d) (λ q. f q) (λ q. j (rw (rest_is d, q) n))
 
-      pub noting_go : b ≡ true → Noting hex s all k v own t₀ z₀ next (left - 1) t' z'
-      noting_go f =
+      pub noting_go : Noting hex s all k v own t₀ z₀ next (left - 1) t' z'
+      noting_go =
           let u = noting_turn in
           record {
             within = u.within;
@@ -304,27 +304,16 @@ module _ {hex : Bool} {s : Bytes} {all : List Rec} {k : ℕ} {v : Bytes} {own : 
             part = λ d q. x.part d (rest_is d ∙ or_right (same? y d) q);
             size = g.size ∙ x.size;
             old = λ h m. g.old h (x.old h m);
-            held = g.held f;
-            back = λ a. x.back (g.back f a);
-            one = λ a d o n m. split d n (λ q. g.one f a d q (x.old (hash_l d) m)) (λ q. x.one (g.back f a) d o q m);
-            new = λ d o n. split d n (λ q. g.new f d q) (λ q. g.old (hash_l d) (x.new d o q));
+            held = g.held;
+            back = λ a. x.back (g.back a);
+            one = λ a d o n m. split d n (λ q. g.one a d q (x.old (hash_l d) m)) (λ q. x.one (g.back a) d o q m);
+            new = λ d o n. split d n (λ q. g.new d q) (λ q. g.old (hash_l d) (x.new d o q));
           }
 
-      pub noting_stop : {own' : Id → Bool} → b ≡ false → Noted last hex s all k own' t₀ z₀ b t' z'
-      noting_stop f = record {
-        size = g.size ∙ x.size;
-        old = λ h m. g.old h (x.old h m);
-        bad = g.bad;
-        held = λ u. false_true (sym f ∙ u);
-        back = λ u. false_true (sym f ∙ u);
-        one = λ u. false_true (sym f ∙ u);
-        new = λ u. false_true (sym f ∙ u);
-      }
-
-  pub noting_end : {last : Bool} → left ≡ 0 → Noted last hex s all k (λ d. among? d own) t₀ z₀ true t z
-  noting_end {last} e =
+  pub noting_end : left ≡ 0 → Noted hex s all k (λ d. among? d own) t₀ z₀ t z
+  noting_end e =
       let n : (d : Id) → among? d (list_at id_c left v i) ≡ false = λ d. ap (among? d) (none_left id_c v left i e).0 in
-      record { size = x.size; old = x.old; bad = λ u _. false_true (sym u); held = λ _. x.held; back = λ _. x.back; one = λ _ a d o m. x.one a d o (n d) m; new = λ _ d o. x.new d o (n d) }
+      record { size = x.size; old = x.old; held = x.held; back = x.back; one = λ a d o m. x.one a d o (n d) m; new = λ d o. x.new d o (n d) }
 
 -- ---- the records: those before rest are passed, if the rows are
 pub record Gone (hex : Bool) (s : Bytes) (all rest : List Rec) (t z : List ℕ) : Type 0 where
@@ -335,20 +324,20 @@ pub record Gone (hex : Bool) (s : Bytes) (all rest : List Rec) (t z : List ℕ) 
 pub gone_start : (hex : Bool) (s : Bytes) (all : List Rec) (t : List ℕ) → Gone hex s all all t []
 gone_start hex s all t = record { met = λ x q. absurd (let z : ⊥ = omega arith in z); few = λ _ x. omega arith; held = refl }
 
-module _ {last hex : Bool} {s : Bytes} {all : List Rec} (r : Rec) (l : List Rec) {k : ℕ} {t z t' z' : List ℕ} {b : Bool} (d : drop k all ≡ r ∷ l) (w : Gone hex s all (r ∷ l) t z) (g : Noted last hex s all k (λ x. has_in x r) t z b t' z') where
-  gone_go : b ≡ true → Gone hex s all l t' z'
-  gone_go f = record {
+module _ {hex : Bool} {s : Bytes} {all : List Rec} (r : Rec) (l : List Rec) {k : ℕ} {t z t' z' : List ℕ} (d : drop k all ≡ r ∷ l) (w : Gone hex s all (r ∷ l) t z) (g : Noted hex s all k (λ x. has_in x r) t z t' z') where
+  gone_go : Gone hex s all l t' z'
+  gone_go = record {
     met = λ x q. cases (has_in x r)
-        (λ a. g.new f x a)
+        (λ a. g.new x a)
         (λ a. g.old (hash_l x) (w.met x (rw a (omega arith))));
     few = λ u x. cases (has_in x r)
         (λ a. cases (marked t (hash_l x))
-        (λ m. let h = rw (d, a) at (g.one f u x a m) in omega arith)
+        (λ m. let h = rw (d, a) at (g.one u x a m) in omega arith)
         (λ m. cases (ltb (1 + count (has_in x) l) (count (has_in x) all))
         (λ c. let h = ltb-true (1 + count (has_in x) l) (count (has_in x) all) c in false_true (sym m ∙ w.met x (rw a h)))
         (λ c. ltb-false (1 + count (has_in x) l) (count (has_in x) all) c)))
-        (λ a. let h = rw a at (w.few (g.back f u) x) in omega arith);
-    held = g.held f;
+        (λ a. let h = rw a at (w.few (g.back u) x) in omega arith);
+    held = g.held;
   }
 
 gone_end : {hex : Bool} {s : Bytes} {all : List Rec} {t z : List ℕ} {b : Bool} → Gone hex s all [] t z → b ≡ crosses hex s z 0 all → not b ≡ apart? all
@@ -364,26 +353,26 @@ gone_all : {hex : Bool} {s : Bytes} {all : List Rec} {t z : List ℕ} → Gone h
 gone_all {all = all} w = record { each = λ x u. w.met x (used_count x all u) }
 
 -- ---- the loop over the records
-noted_own : {last hex : Bool} {s : Bytes} {all : List Rec} {k : ℕ} {own : Id → Bool} (own' : Id → Bool) {t z t' z' : List ℕ} {b : Bool} → ((x : Id) → own x ≡ own' x) → Noted last hex s all k own t z b t' z' → Noted last hex s all k own' t z b t' z'
-noted_own own' e g = record { size = g.size; old = g.old; bad = g.bad; held = g.held; back = g.back; one = λ f a x o. g.one f a x (e x ∙ o); new = λ f x o. g.new f x (e x ∙ o) }
+noted_own : {hex : Bool} {s : Bytes} {all : List Rec} {k : ℕ} {own : Id → Bool} (own' : Id → Bool) {t z t' z' : List ℕ} → ((x : Id) → own x ≡ own' x) → Noted hex s all k own t z t' z' → Noted hex s all k own' t z t' z'
+noted_own own' e g = record { size = g.size; old = g.old; held = g.held; back = g.back; one = λ a x o. g.one a x (e x ∙ o); new = λ x o. g.new x (e x ∙ o) }
 
 module _ (form : Form) {s : Bytes} {n at i left : ℕ} (k : ℕ) (x : Scan (rec_in_value form) nothing_f s n at tt i left tt) (d : drop k (list_at (rec_in_value form) n s at) ≡ list_at (rec_in_value form) left s i) where
-  module _ {m : ℕ} {ok : Bool} {y : Seen} (p : 0 < left) (r : ReadsForm form s i ok m y) where
+  module _ {m : ℕ} {y : Seen} (p : 0 < left) (r : FoundForm form s i m y) where
     pub gone_own : Owned (list_at (rec_in_value form) n s at) k (λ z. among? z (list_at id_c y.facts.ins (view form.hex s i) y.at))
     gone_own z e =
         let u = seen_in form x p r in
         let a : has_in z u.item ≡ true = ap (among? z) (sym u.is.0.ins_list) ∙ e in
         rw (d, u.list, a) (omega arith)
 
-    module _ {last b : Bool} {t z t' z' : List ℕ} (w : Gone form.hex s (list_at (rec_in_value form) n s at) (list_at (rec_in_value form) left s i) t z)
-        (g : Noted last form.hex s (list_at (rec_in_value form) n s at) k (λ c. among? c (list_at id_c y.facts.ins (view form.hex s i) y.at)) t z b t' z') (f : b ≡ true) where
+    module _ {t z t' z' : List ℕ} (w : Gone form.hex s (list_at (rec_in_value form) n s at) (list_at (rec_in_value form) left s i) t z)
+        (g : Noted form.hex s (list_at (rec_in_value form) n s at) k (λ c. among? c (list_at id_c y.facts.ins (view form.hex s i) y.at)) t z t' z') where
       pub gone_on : {j : ℕ} → j ≡ after_in_value form.hex s i m → Scan (rec_in_value form) nothing_f s n at tt j (left - 1) tt × (drop (k + 1) (list_at (rec_in_value form) n s at) ≡ list_at (rec_in_value form) (left - 1) s j) × Gone form.hex s (list_at (rec_in_value form) n s at) (list_at (rec_in_value form) (left - 1) s j) t' z'
       unfolding nothing_f
       gone_on {j} e =
           let u = see_in form x p r e in (
             on x tt p u refl,
             drop_next k (list_at (rec_in_value form) n s at) (d ∙ u.list),
-            gone_go u.item (list_at (rec_in_value form) (left - 1) s j) (d ∙ u.list) (rw u.list at w) (noted_own (λ c. has_in c u.item) (λ c. ap (among? c) u.is.0.ins_list) g) f,
+            gone_go u.item (list_at (rec_in_value form) (left - 1) s j) (d ∙ u.list) (rw u.list at w) (noted_own (λ c. has_in c u.item) (λ c. ap (among? c) u.is.0.ins_list) g),
           )
 
   module _ {t z : List ℕ} (e : left ≡ 0) (w : Gone form.hex s (list_at (rec_in_value form) n s at) (list_at (rec_in_value form) left s i) t z) where
@@ -395,44 +384,23 @@ module _ (form : Form) {s : Bytes} {n at i left : ℕ} (k : ℕ) (x : Scan (rec_
 
 -- ---- what is said in the end
 module _ {last c : Bool} where
-  pub said_no : c ≡ false → Said last c 0
-  said_no e = record { yes = λ z. absurd (let y : ⊥ = omega arith in y); no = λ _. sym e; sure = λ _. omega arith }
+  pub said : {b : Bool} → b ≡ c → Said last c (Some b)
+  said e = record { is = e }
 
-  pub said_out : last ≡ false → Said last c 2
-  said_out e = record { yes = λ z. absurd (let y : ⊥ = omega arith in y); no = λ z. absurd (let y : ⊥ = omega arith in y); sure = λ t. false_true (sym e ∙ t) }
+  pub said_out : last ≡ false → Said last c None
+  said_out e = record { is = e }
 
-  pub said_yes : c ≡ true → Said last c 1
-  said_yes e = record { yes = λ _. sym e; no = λ z. absurd (let y : ⊥ = omega arith in y); sure = λ _. omega arith }
+  pub said_any : {r : Option Bool} → Said last c r → Said false c r
+  said_any {r = None} s = record { is = refl }
+  said_any {r = Some b} s = record { is = s.is }
 
-  pub said_any : {r : ℕ} → Said last c r → Said false c r
-  said_any s = record { yes = s.yes; no = s.no; sure = λ t. false_true t }
+-- the last table says it
+pub said_sure : {c : Bool} {r : Option Bool} → Said true c r → IsSome r
+said_sure {r = None} s = false_true (sym s.is)
+said_sure {r = Some b} s = refl
 
-  module _ {b : Bool} (e : not b ≡ c) where
-    pub said_crossed : b ≡ true → Said last c 0
-    said_crossed t = said_no (sym e ∙ ap not t)
-
-    pub said_clear : b ≡ false → Said last c 1
-    said_clear t = said_yes (sym e ∙ ap not t)
-
-  -- one test, then another
-  pub said_then : (d : Bool) {r : ℕ} → c ≡ true → Said last d r → Said last (c && d) r
-  said_then d e s = rw e s
-
-  pub said_first : (d : Bool) {r : ℕ} → (r ≡ 1 → ⊥) → Said last c r → Said last (c && d) r
-  said_first d {r} n s = record { yes = λ e. absurd (n e); no = λ e. rw (← (s.no e)); sure = s.sure }
-
-pub no_marks : {all : List Rec} {t : List ℕ} (r : ℕ) → eqb r 1 ≡ false → r ≡ 1 → AllMarked all t
-no_marks r n e = absurd (eqb-false r 1 n e)
-
-pub said_is : {c : Bool} {r : ℕ} → Said true c r → eqb r 1 ≡ c
-said_is {c} {r} s = cases (eqb r 1)
-    (λ t. t ∙ s.yes (eqb-true r 1 t))
-    (λ t. let h = s.sure refl in let n = eqb-false r 1 t in t ∙ s.no (zero_only r h n))
-  where
-    zero_only : (r : ℕ) → r < 2 → (r ≡ 1 → ⊥) → r ≡ 0
-    zero_only zero h n = refl
-    zero_only (suc zero) h n = absurd (n refl)
-    zero_only (suc (suc r)) h n = absurd (let y : ⊥ = omega arith in y)
+pub said_is : {c b : Bool} {r : Option Bool} → Said true c r → r ≡ Some b → b ≡ c
+said_is s e = (rw e at s).is
 
 -- a part of the table
 pub part_long : {n m : ℕ} (v : List ℕ) → length v ≡ m → n ≤ m → length (take n v) ≡ n

@@ -1,15 +1,27 @@
 -- The laws of the suspects' rows: their ids, their order, the sort's swaps, the bisection. Assumes nothing.
-use Rattle.std.specs.Prelude.{◌≡◌, refl, Bool, true, false, ◌&&◌, ◌||◌, List, [], ◌∷◌, ℕ, zero, suc, ◌+◌, ◌-◌, ◌*◌, ◌/◌, ◌%◌, ◌≤◌, ◌<◌, ltb, leb, eqb, length, take, drop, get_or, set}
-use Rattle.std.proofs.Common.{ap, sym, ◌∙◌, arith, add-one, length-drop, length-set, drop_of_length-le, drop-drop, drop-cons, get_or-set_same, get_or-set_other, eqb-true, eq-eqb, ne_eqb, ltb-true, ltb-false, le-ltb, leb-true, le-leb}
+use Rattle.std.specs.Prelude.{◌≡◌, refl, Bool, true, false, not, ◌&&◌, ◌||◌, List, [], ◌∷◌, ℕ, zero, suc, ◌+◌, ◌-◌, ◌*◌, ◌/◌, ◌%◌, ◌≤◌, ◌<◌, ltb, leb, eqb, length, take, drop, get_or}
+use Rattle.std.proofs.Common.{ap, sym, ◌∙◌, arith, add-one, length-drop, drop_of_length-le, drop-drop, drop-cons, eqb-true, eq-eqb, ne_eqb, ltb-true, ltb-false, le-ltb, leb-true, le-leb}
+use Rattle.std.proofs.Common.{sum_by, IsPermutation, leb-false, Bor, Ordering}
+use Rattle.std.specs.Ordering.{is_lt, nat_cmp}
+use Rattle.std.specs.Cmp.{IsStrictWeakOrder}
+use Rattle.std.specs.Fn.{Mut, Called, ComparesAs}
+use Rattle.std.specs.List.Sorted.{IsSortedBy, IsPartitionedBy, IsPartitionPoint}
+use Rattle.std.proofs.lemmas.Fn.{always_returns_same}
+use Rattle.std.proofs.lemmas.List.Sums.{sum_by-cons}
+use Rattle.std.proofs.lemmas.List.Sorted.{sum_by-IsPermutation}
 use Rattle.std.proofs.Math.Arith.{digits_div, digits_mod}
 use Rattle.std.proofs.Math.Seq.{drop-nil}
 use Rattle.std.proofs.lemmas.Bool.{eqb-false, lt-leb}
+use Rattle.std.proofs.lemmas.List.{get_or_default}
 use Rattle.queue.specs.Codec.{cases}
 use Rattle.queue.specs.bytes.Parts.{part}
 use Rattle.queue.specs.Lists.{and_true}
 use Rattle.queue.specs.bytes.OrderLaws.{cmp_self, cmp_flip, same_is, below_trans, or_true}
 use Rattle.queue.specs.bytes.ReaderLaws.{false_true}
 use Rattle.queue.specs.bytes.ViewAs.{view, pairs}
+use Rattle.std.specs.Ordering.{is_eq}
+use Rattle.std.specs.declared.cmp.Ordering.{Ordering}
+use Rattle.queue.specs.bytes.OrderAs.{order_number, order_eq}
 use Rattle.queue.specs.check.SuspectsAs.{id_r, no_r, up_to, later, Shuffled, InOrder, Cut}
 use Rattle.queue.specs.paper.Records.{Bytes, Id}
 use Rattle.queue.specs.paper.Ids.{cmp_l, same?}
@@ -50,6 +62,10 @@ module _ (hex : Bool) (s : Bytes) (x : ℕ) where
   pub id_long : 32 ≤ length (view hex s (x / 4294967296)) → id_r hex s x ≡ part 32 (view hex s (x / 4294967296)) 0
   unfolding id_r
   id_long h = rw (le-leb 32 _ h)
+
+-- equal in the order, and as the paper counts it
+pub same_row : (o : Ordering) {t : Bool} {c : ℕ} → t ≡ is_eq o → order_number o ≡ c → t ≡ eqb c 1
+same_row o f e = f ∙ order_eq o ∙ ap (λ (n : ℕ). eqb n 1) e
 
 long_some : (v : List ℕ) → 32 ≤ length v → (b : ℕ) × ((l : List ℕ) × (part 32 v 0 ≡ b ∷ l))
 unfolding part
@@ -118,10 +134,6 @@ module _ (hex : Bool) (s : Bytes) where
       (λ _ k. le-ltb (no_r y) (no_r x) k)))
       (λ t. rw t)
 
-  pub later_is : (y x : ℕ) {c : ℕ} {b : Bool} → c ≡ cmp_l (id_r hex s y) (id_r hex s x) → b ≡ (eqb c 1 && ltb (y % 4294967296) (x % 4294967296)) → b ≡ later hex s (id_r hex s y) (no_r y) x
-  unfolding later no_r
-  later_is y x e f = f ∙ rw e
-
   later_other : (y x : ℕ) → (cmp_l (id_r hex s y) (id_r hex s x) ≡ 1 → ⊥) → later hex s (id_r hex s y) (no_r y) x ≡ false
   unfolding later
   later_other y x h = rw (ne_eqb (cmp_l (id_r hex s y) (id_r hex s x)) 1 h)
@@ -159,29 +171,71 @@ module _ (p : ℕ → Bool) where
     pub any_end : length v ≤ i → false ≡ r
     any_end h = sym (ap (any? p) (drop_of_length-le v h)) ∙ e
 
--- ---- a swap
-total_set : (f : ℕ → ℕ) (v : List ℕ) (i x : ℕ) → i < length v → total f (set v i x) + f (get_or v i 0) ≡ total f v + f x
-total_set f [] i x h = absurd (let z : ⊥ = omega arith in z)
-total_set f (a ∷ v) zero x h = omega arith
-total_set f (a ∷ v) (suc i) x h = let k = total_set f v i x (omega arith) in omega arith
+-- ---- what the library's sort leaves
+total_sum : (f : ℕ → ℕ) (v : List ℕ) → total f v ≡ sum_by f v
+total_sum f [] = refl
+total_sum f (x ∷ v) = ap (λ n. f x + n) (total_sum f v) ∙ sym (sum_by-cons f x v)
 
-pub swapped : (v : List ℕ) (i j : ℕ) → i < length v → j < length v → Shuffled v (set (set v i (get_or v j 0)) j (get_or v i 0))
-swapped v i j h k = record {
-  same = λ f.
-      let w = set v i (get_or v j 0) in
-      let g : get_or w j 0 ≡ get_or v j 0 = cases (eqb j i)
-      (λ t. let e = eqb-true j i t in rw e (get_or-set_same v i (get_or v i 0) 0 h))
-      (λ t. get_or-set_other v i j (get_or v j 0) 0 (eqb-false j i t)) in
-      let a = total_set f v i (get_or v j 0) h in
-      let b : total f (set w j (get_or v i 0)) + f (get_or v j 0) ≡ total f w + f (get_or v i 0) = rw g at (total_set f w j (get_or v i 0) (omega (arith, length-set v i (get_or v j 0)))) in
-      omega arith;
-}
+pub shuffled_by : {v w : List ℕ} → IsPermutation v w → Shuffled v w
+shuffled_by {v} {w} p = record { same = λ f. total_sum f w ∙ sum_by-IsPermutation f v w p ∙ sym (total_sum f v) }
 
 pub shuffled_self : (v : List ℕ) → Shuffled v v
 shuffled_self v = record { same = λ f. refl }
 
-pub shuffled_on : {u v w : List ℕ} → Shuffled u v → Shuffled v w → Shuffled u w
-shuffled_on a b = record { same = λ f. b.same f ∙ a.same f }
+-- ---- rows put in order
+module _ (hex : Bool) (s : Bytes) where
+  up_or : (x y : ℕ) → up_to hex s x y ≡ false → up_to hex s y x ≡ true
+  up_or x y h = cases (ltb (cmp_l (id_r hex s y) (id_r hex s x)) 1)
+      (λ t. let k = ltb-true (cmp_l (id_r hex s y) (id_r hex s x)) 1 t in up_lower hex s y x (omega arith))
+      (λ t.
+      let k = ltb-false (cmp_l (id_r hex s y) (id_r hex s x)) 1 t in
+      let f = cmp_flip (id_r hex s x) (id_r hex s y) in
+      cases (eqb (cmp_l (id_r hex s x) (id_r hex s y)) 0)
+      (λ q. let e = eqb-true (cmp_l (id_r hex s x) (id_r hex s y)) 0 q in false_true (sym h ∙ up_lower hex s x y e))
+      (λ q.
+      let n = eqb-false (cmp_l (id_r hex s x) (id_r hex s y)) 0 q in
+      let e = f.1 (let g = f.0 in omega arith) in
+      cases (leb (no_r x) (no_r y))
+      (λ w. false_true (sym h ∙ up_same hex s x y e (leb-true (no_r x) (no_r y) w)))
+      (λ w. up_same hex s y x (sym e) (let g = leb-false (no_r x) (no_r y) w in omega arith))))
+
+  module _ (x y : ℕ) {c : ℕ} (e : c ≡ cmp_l (id_r hex s x) (id_r hex s y)) where
+    pub goes_lower : c ≡ 0 → true ≡ not (up_to hex s y x)
+    unfolding up_to
+    goes_lower h = let f = cmp_flip (id_r hex s x) (id_r hex s y) in let k : cmp_l (id_r hex s y) (id_r hex s x) ≡ 2 = let g = f.0 in omega arith in rw k refl
+
+    pub goes_same : {r : Ordering} → c ≡ 1 → r ≡ nat_cmp (x % 4294967296) (y % 4294967296) → is_lt r ≡ not (up_to hex s y x)
+    unfolding up_to no_r
+    goes_same h g =
+        let f = cmp_flip (id_r hex s x) (id_r hex s y) in
+        let k : cmp_l (id_r hex s y) (id_r hex s x) ≡ 1 = let m = f.0 in omega arith in
+        rw (g, k) (cases (ltb (x % 4294967296) (y % 4294967296))
+        (λ t. let w = lt-leb (y % 4294967296) (x % 4294967296) (ltb-true (x % 4294967296) (y % 4294967296) t) in rw (t, w) refl)
+        (λ t. let w = le-leb (y % 4294967296) (x % 4294967296) (ltb-false (x % 4294967296) (y % 4294967296) t) in rw (t, w) (cases (eqb (x % 4294967296) (y % 4294967296)) (λ q. rw q refl) (λ q. rw q refl))))
+
+    pub goes_higher : (c ≡ 0 → ⊥) → (c ≡ 1 → ⊥) → false ≡ not (up_to hex s y x)
+    goes_higher h k =
+        let f = cmp_flip (id_r hex s x) (id_r hex s y) in
+        let g : cmp_l (id_r hex s y) (id_r hex s x) ≡ 0 = let m = f.0 in omega (arith, h, k) in
+        ap not (sym (up_lower hex s y x g))
+
+  abbrev goes : ℕ → ℕ → Bool
+  goes x y = not (up_to hex s y x)
+
+  yes_from : (b : Bool) → not b ≡ false → b ≡ true
+  yes_from true h = refl
+  yes_from false h = sym h
+
+  goes_ranks : IsStrictWeakOrder goes
+  goes_ranks = record {
+    one_way = λ x y h. cases (up_to hex s y x) (λ t. false_true (ap not (sym t) ∙ h)) (λ t. ap not (up_or y x t));
+    chain = λ x y z h k. ap not (up_trans hex s z y x (yes_from _ k) (yes_from _ h));
+  }
+
+  pub sorted_rows : {F : Type 0} {g : Mut F (Bor ℕ × (Bor ℕ × Unit {0})) Ordering} {f : F} (v : List ℕ) → ((lt : ℕ → ℕ → Bool) → IsStrictWeakOrder lt → ComparesAs g lt f → IsSortedBy lt v) → ((a : Bor ℕ × (Bor ℕ × Unit {0})) (r : Ordering) (f' : F) → Called g f a r f' → (is_lt r ≡ not (up_to hex s a.1.0.now a.0.now)) × (f' ≡ f)) → InOrder hex s v
+  sorted_rows {g = g} {f = f} v up h =
+      let u = up goes goes_ranks (always_returns_same g (λ a r. is_lt r ≡ goes a.0.now a.1.0.now) f h) in
+      record { next = λ i k. yes_from _ (u i 0 (omega arith) k) }
 
 -- ---- rows in order
 module _ (hex : Bool) (s : Bytes) (v : List ℕ) where
@@ -194,41 +248,26 @@ module _ (hex : Bool) (s : Bytes) (v : List ℕ) where
   pub rising : InOrder hex s v → (i j : ℕ) → i ≤ j → j < length v → up_to hex s (get_or v i 0) (get_or v j 0) ≡ true
   rising o i j h l = let e : i + (j - i) ≡ j = omega arith in rw e at (apart_by o (j - i) i (omega arith))
 
-  pub cut_start : (y : ℕ) → Cut hex s v y 0 (length v)
-  cut_start y = record { up = omega arith; within = omega arith; low = λ i h. absurd (let z : ⊥ = omega arith in z); high = λ i h k. absurd (let z : ⊥ = omega arith in z) }
+  -- those not behind y come before the others
+  pub parted : InOrder hex s v → (y : ℕ) → IsPartitionedBy (λ x. up_to hex s x y) v
+  parted o y i j d h l t =
+      let a = get_or_default v i d 0 (omega arith) in
+      let b = get_or_default v j d 0 l in
+      rw a (up_trans hex s (get_or v i 0) (get_or v j 0) y (rising o i j h l) (rw b at t))
 
-  module _ {y lo hi : ℕ} (o : InOrder hex s v) (c : Cut hex s v y lo hi) {m : ℕ} (a : lo ≤ m) (b : m < hi) {r : Bool} (e : r ≡ up_to hex s (get_or v m 0) y) where
-    pub cut_low : r ≡ true → Cut hex s v y (m + 1) hi
-    cut_low t = record {
-      up = omega arith;
-      within = c.within;
-      low = λ i h. up_trans hex s (get_or v i 0) (get_or v m 0) y (rising o i m (omega arith) (omega (arith, c.within))) (sym e ∙ t);
-      high = c.high;
-    }
+  pub cut_at : {y n : ℕ} → n ≤ length v → IsPartitionPoint (λ x. up_to hex s x y ≡ true) (λ x. up_to hex s x y ≡ false) v n → Cut hex s v y n n
+  cut_at h p = record { up = omega arith; within = h; low = λ i k. p.0 i 0 (omega arith) k; high = λ i k l. p.1 i 0 k l }
 
-    pub cut_high : r ≡ false → Cut hex s v y lo m
-    cut_high t = record {
-      up = a;
-      within = omega (arith, c.within);
-      low = c.low;
-      high = λ i h k. cases (up_to hex s (get_or v i 0) y)
-          (λ u. false_true (sym (sym e ∙ t) ∙ up_trans hex s (get_or v m 0) (get_or v i 0) y (rising o m i h k) u))
-          (λ u. u);
-    }
-
-  pub cut_end : {y lo hi : ℕ} → Cut hex s v y lo hi → hi ≤ lo → Cut hex s v y lo lo
-  cut_end {y} {lo} {hi} c h = let k = c.up in let e : hi ≡ lo = omega arith in rw e at c
-
-  module _ {y b : ℕ} (o : InOrder hex s v) (c : Cut hex s v y b b) where
+  module _ {y b : ℕ} (ord : InOrder hex s v) (c : Cut hex s v y b b) where
     pub look_none : length v ≤ b → false ≡ any? (later hex s (id_r hex s y) (no_r y)) v
     look_none h = sym (any_none (later hex s (id_r hex s y) (no_r y)) v (λ i k. later_no hex s y (get_or v i 0) (c.low i (omega arith))))
 
-    pub look_here : {r : ℕ} → b < length v → r ≡ cmp_l (id_r hex s y) (id_r hex s (get_or v b 0)) → eqb r 1 ≡ any? (later hex s (id_r hex s y) (no_r y)) v
-    look_here {r} h e = cases (eqb r 1)
-        (λ t. t ∙ sym (any_some (later hex s (id_r hex s y) (no_r y)) v b h (later_yes hex s y (get_or v b 0) (c.high b (omega arith) h) (sym e ∙ eqb-true r 1 t))))
+    pub look_here : (o : Ordering) {t : Bool} → b < length v → t ≡ is_eq o → order_number o ≡ cmp_l (id_r hex s y) (id_r hex s (get_or v b 0)) → t ≡ any? (later hex s (id_r hex s y) (no_r y)) v
+    look_here o h f e = same_row o f e ∙ cases (eqb (cmp_l (id_r hex s y) (id_r hex s (get_or v b 0))) 1)
+        (λ t. t ∙ sym (any_some (later hex s (id_r hex s y) (no_r y)) v b h (later_yes hex s y (get_or v b 0) (c.high b (omega arith) h) (eqb-true (cmp_l (id_r hex s y) (id_r hex s (get_or v b 0))) 1 t))))
         (λ t. t ∙ sym (any_none (later hex s (id_r hex s y) (no_r y)) v (λ i k. cases (ltb i b)
         (λ u. later_no hex s y (get_or v i 0) (c.low i (ltb-true i b u)))
-        (λ u. later_behind hex s y (get_or v b 0) (get_or v i 0) (c.high b (omega arith) h) (λ z. eqb-false r 1 t (e ∙ z)) (rising o b i (ltb-false i b u) k)))))
+        (λ u. later_behind hex s y (get_or v b 0) (get_or v i 0) (c.high b (omega arith) h) (λ z. eqb-false (cmp_l (id_r hex s y) (id_r hex s (get_or v b 0))) 1 t z) (rising ord b i (ltb-false i b u) k)))))
 
 -- ---- the pass that looks at neighbours
 pub order_go : (hex : Bool) (s : Bytes) (v : List ℕ) {i : ℕ} {r : Bool} → ((j : ℕ) → j + 1 < i → j + 1 < length v → up_to hex s (get_or v j 0) (get_or v (j + 1) 0) ≡ true) → 0 < i → r ≡ up_to hex s (get_or v (i - 1) 0) (get_or v i 0) → r ≡ true

@@ -7,11 +7,11 @@ use Rattle.queue.specs.Codec.{got, All, all_append, be_c, decs, encs, vec_c, vec
 use Rattle.queue.specs.layout.Choice.{fix_c}
 use Rattle.queue.specs.bytes.PutAs.{Put, be_last}
 use Rattle.queue.specs.bytes.ViewAs.{view}
-use Rattle.queue.specs.layout.FrameCodec.{sixteen_c}
-use Rattle.queue.specs.bytes.ReaderAs.{Span}
-use Rattle.queue.specs.bytes.ReaderLaws.{false_true, SmallAt, be_at, be_here, short, spans_be, spans_vec}
+use Rattle.queue.specs.layout.FrameCodec.{sixteen_c, shares_c}
+use Rattle.queue.specs.bytes.ReaderAs.{Fails, Found, Stands}
+use Rattle.queue.specs.bytes.ReaderLaws.{SmallAt, be_at, be_here, not_spanned, spans_be, spans_vec}
 use Rattle.queue.specs.theorems.Plain.{numbers_plain}
-use Rattle.queue.specs.layout.FrameAs.{SharesAt}
+use Rattle.queue.specs.layout.FrameAs.{SharesAs}
 use Rattle.queue.specs.layout.LimitsAs.{LentShares, val_be}
 use Rattle.queue.specs.paper.Records.{Bytes}
 use Rattle.queue.specs.paper.Lists.{all?, map}
@@ -55,31 +55,29 @@ unfolding fours
 fours_next zero s at h = absurd (omega arith)
 fours_next (suc n) s at h = ap (λ (k : ℕ). be_at 4 s at ∷ fours k s (at + 4)) (let e : n ≡ suc n - 1 = omega arith in e)
 
--- n shares from i on are left to compare; those before them are at most p
-pub record Fitting (s : Bytes) (p i n : ℕ) : Type 0 where
-  pub place : i + 4 * n ≡ 64
-  pub rest : all? (λ k. leb k p) (fours 16 s 0) ≡ all? (λ k. leb k p) (fours n s i)
+-- those before the i-th are at most p
+pub record Fitting (s : Bytes) (p i : ℕ) : Type 0 where
+  pub rest : all? (λ k. leb k p) (fours 16 s 0) ≡ all? (λ k. leb k p) (fours (16 - i) s (4 * i))
 
-pub fitting_first : (s : Bytes) (p : ℕ) → Fitting s p 0 16
-fitting_first s p = record { place = refl; rest = refl }
+pub fitting_first : (s : Bytes) (p : ℕ) → Fitting s p 0
+fitting_first s p = record { rest = refl }
 
-module _ {s : Bytes} {p i n v : ℕ} (w : Fitting s p i n) (h : 0 < n) (e : v ≡ be_at 4 (view false s 0) i) where
-  fitting_turn : all? (λ k. leb k p) (fours 16 s 0) ≡ (leb v p && all? (λ k. leb k p) (fours (n - 1) s (i + 4)))
-  unfolding view
-  fitting_turn = w.rest ∙ ap (all? (λ k. leb k p)) (fours_next n s i h) ∙ ap (λ (k : ℕ). leb k p && all? (λ k. leb k p) (fours (n - 1) s (i + 4))) (sym e)
+module _ {s : Bytes} {p i v : ℕ} (w : Fitting s p i) (h : i < 16) (e : v ≡ be_at 4 s (4 * i)) where
+  fitting_turn : all? (λ k. leb k p) (fours 16 s 0) ≡ (leb v p && all? (λ k. leb k p) (fours (16 - (i + 1)) s (4 * (i + 1))))
+  fitting_turn =
+      let a : 16 - i - 1 ≡ 16 - (i + 1) = omega arith in
+      let b : 4 * i + 4 ≡ 4 * (i + 1) = omega arith in
+      w.rest ∙ ap (all? (λ k. leb k p)) (fours_next (16 - i) s (4 * i) (omega arith)) ∙ rw (a, b, e) refl
 
   pub fitting_out : length s ≡ 64 → p < v → false ≡ all? (λ k. leb k p) (numbers s)
-  fitting_out l k = sym (ap (all? (λ k. leb k p)) (numbers_are s l) ∙ fitting_turn ∙ ap (λ (b : Bool). b && all? (λ k. leb k p) (fours (n - 1) s (i + 4))) (lt-leb v p k))
+  fitting_out l k = sym (ap (all? (λ k. leb k p)) (numbers_are s l) ∙ fitting_turn ∙ ap (λ (b : Bool). b && all? (λ k. leb k p) (fours (16 - (i + 1)) s (4 * (i + 1)))) (lt-leb v p k))
 
-  pub fitting_next : v ≤ p → Fitting s p (i + 4) (n - 1)
-  fitting_next k = record {
-    place = omega (arith, w.place);
-    rest = fitting_turn ∙ ap (λ (b : Bool). b && all? (λ k. leb k p) (fours (n - 1) s (i + 4))) (le-leb v p k);
-  }
+  pub fitting_next : v ≤ p → Fitting s p (i + 1)
+  fitting_next k = record { rest = fitting_turn ∙ ap (λ (b : Bool). b && all? (λ k. leb k p) (fours (16 - (i + 1)) s (4 * (i + 1)))) (le-leb v p k) }
 
-pub fitting_end : {s : Bytes} {p i n : ℕ} → Fitting s p i n → length s ≡ 64 → n ≤ 0 → true ≡ all? (λ k. leb k p) (numbers s)
+pub fitting_end : {s : Bytes} {p i : ℕ} → Fitting s p i → length s ≡ 64 → 16 ≤ i → true ≡ all? (λ k. leb k p) (numbers s)
 unfolding fours
-fitting_end {s} {p} {i} {n} w l h = sym (ap (all? (λ k. leb k p)) (numbers_are s l) ∙ w.rest ∙ ap (λ (k : ℕ). all? (λ k. leb k p) (fours k s i)) (let e : n ≡ 0 = omega arith in e))
+fitting_end {s} {p} {i} w l h = sym (ap (all? (λ k. leb k p)) (numbers_are s l) ∙ w.rest ∙ ap (λ (k : ℕ). all? (λ k. leb k p) (fours k s (4 * i))) (let e : 16 - i ≡ 0 = omega arith in e))
 
 -- ---- one of them
 fours_one : (n c : ℕ) (s : Bytes) (at : ℕ) → c < n → get_or (fours n s at) c 0 ≡ be_at 4 s (at + 4 * c)
@@ -88,8 +86,7 @@ fours_one zero c s at h = absurd (omega arith)
 fours_one (suc n) zero s at h = ap (be_at 4 s) (let e : at ≡ at + 4 * 0 = omega arith in e)
 fours_one (suc n) (suc c) s at h = fours_one n c s (at + 4) (omega arith) ∙ ap (be_at 4 s) (let e : at + 4 + 4 * c ≡ at + 4 * suc c = omega arith in e)
 
-pub share_is : (s : Bytes) (c : ℕ) {v : ℕ} → length s ≡ 64 → c ≤ 15 → v ≡ be_at 4 (view false s 0) (4 * c) → v ≡ get_or (numbers s) c 0
-unfolding view
+pub share_is : (s : Bytes) (c : ℕ) {v : ℕ} → length s ≡ 64 → c ≤ 15 → v ≡ be_at 4 s (4 * c) → v ≡ get_or (numbers s) c 0
 share_is s c l h e = e ∙ sym (ap (λ (k : List ℕ). get_or k c 0) (numbers_are s l) ∙ fours_one 16 c s 0 (omega arith) ∙ ap (be_at 4 s) (let z : 0 + 4 * c ≡ 4 * c = omega arith in z))
 
 -- ---- read
@@ -117,25 +114,26 @@ part_small a n l h j k =
     let hi : a + j < length l = omega arith in
     rw (get_or-take n (drop a l) j 0 lo, get_or-drop a l j 0) (h (a + j) hi)
 
-pub shares_yes : (k : ℕ) {p : ℕ} {v : Bytes} {at next : ℕ} {ok : Bool} {d d' : Bytes} {o : ℕ} → has_callers k ≡ true → Span v at 64 ok next → ok ≡ true → length d ≡ 64 → Put d 0 (take 64 (drop at v)) 64 o d'
-    → SharesAt k p v at (record { ok = true; bytes = d'; next = next })
+pub shares_is : (k : ℕ) (p : ℕ) {v : Bytes} {at next : ℕ} {d d' : Bytes} {o : ℕ} → has_callers k ≡ true → Stands v at 64 next → length d ≡ 64 → Put d 0 (take 64 (drop at v)) 64 o d' → Found (shares_c k p) v at next (SharesAs d')
 unfolding sixteen_c vec_c over
-shares_yes k {p} {v} {at} {next} {ok} {d} {d'} t x o l y _ =
-    let u = x.good o in
+shares_is k p {v} {at} {next} {d} {d'} t u l y =
     let z : drop (length (take 64 (drop at v))) d ≡ [] = drop_of_length-le d {i = length (take 64 (drop at v))} (omega (arith, y.size)) in
     let e : d' ≡ take 64 (drop at v) = sym (put_over y (omega arith)) ∙ ap (λ (z : Bytes). take 64 (drop at v) ++ z) z ∙ append-nil (take 64 (drop at v)) in
     let l' : length d' ≡ 64 = ap length e ∙ y.size in
-    let is : numbers d' ≡ fours 16 v at = numbers_64 d' l' ∙ ap (λ (b : Bytes). map be_val (pieces 4 16 b)) e ∙ ap (map be_val) (pieces_take 16 0 (drop at v)) ∙ fours_pieces 16 v at (omega (arith, u.1)) in
-    let small : SmallAt d' = rw e (part_small at 64 v u.2) in
-    let ends : at + 4 * 16 ≡ next = omega (arith, u.0) in
+    let is : numbers d' ≡ fours 16 v at = numbers_64 d' l' ∙ ap (λ (b : Bytes). map be_val (pieces 4 16 b)) e ∙ ap (map be_val) (pieces_take 16 0 (drop at v)) ∙ fours_pieces 16 v at (omega (arith, u.within)) in
+    let small : SmallAt d' = rw e (part_small at 64 v u.small) in
+    let ends : at + 4 * 16 ≡ next = omega (arith, u.is) in
     rw t (record {
-      good = λ h _. (fours 16 v at, decs_fours 16 v at (omega (arith, u.1)) u.2 ∙ ap (λ (j : ℕ). got (fours 16 v at) (drop j v)) ends, omega (arith, u.0), omega (arith, u.0, u.1), record { is = is; long = l'; small = small });
-      bad = λ h z. false_true (sym z);
+      value = fours 16 v at;
+      is = decs_fours 16 v at (omega (arith, u.within)) u.small ∙ ap (λ (j : ℕ). got (fours 16 v at) (drop j v)) ends;
+      up = omega (arith, u.is);
+      within = omega (arith, u.is, u.within);
+      fact = record { is = is; long = l'; small = small };
     })
 
-pub shares_bad : (k : ℕ) {p : ℕ} {v : Bytes} {at next : ℕ} {ok : Bool} (d : Bytes) → has_callers k ≡ true → Span v at 64 ok next → ok ≡ false → SharesAt k p v at (record { ok = false; bytes = d; next = 0 })
+pub shares_fail : (k p : ℕ) {v : Bytes} {at : ℕ} → has_callers k ≡ true → length v < at + 64 → Fails (shares_c k p) v at
 unfolding sixteen_c
-shares_bad k {v = v} {at} d t x o _ = rw t (record { good = λ h z. false_true z; bad = λ h z. short (vec_c (be_c 4) 16) 64 v at (spans_vec (spans_be 4) 16) h (x.bad o) })
+shares_fail k p t h = rw t (not_spanned (spans_vec (spans_be 4) 16) h)
 
 all_small : (l : Bytes) → All (λ b. b < 256) l → SmallAt l
 all_small [] h j k = absurd (let y : ⊥ = omega arith in y)
@@ -174,11 +172,11 @@ shares_first {p} {d'} h y =
     let small : SmallAt d' = rw e (all_small (b ++ replicate 60 0) (all_append (λ b. b < 256) b (replicate 60 0) (four_all p h) (all_zeros 60))) in
     (is, l', small)
 
-pub shares_no : (k : ℕ) {p : ℕ} {v : Bytes} {at : ℕ} {d' : Bytes} {o : ℕ} → has_callers k ≡ false → Put (replicate 64 0) 0 (be_last 4 p) 4 o d' → SharesAt k p v at (record { ok = true; bytes = d'; next = at })
+pub shares_no : (k : ℕ) (p : ℕ) {v : Bytes} {at : ℕ} {d' : Bytes} {o : ℕ} → has_callers k ≡ false → at ≤ length v → p < 4294967296 → Put (replicate 64 0) 0 (be_last 4 p) 4 o d' → Found (shares_c k p) v at at (SharesAs d')
 unfolding fix_c
-shares_no k {p} {v} {at} {d'} t y h =
+shares_no k p t m h y =
     let u = shares_first h y in
-    rw t (record { good = λ m _. (first_share p, refl, omega arith, m, record { is = u.0; long = u.1; small = u.2 }); bad = λ m z. false_true (sym z) })
+    rw t (record { value = first_share p; is = refl; up = omega arith; within = m; fact = record { is = u.0; long = u.1; small = u.2 } })
 
 -- ---- written
 pub shares_bytes_law : (s : Bytes) → length s ≡ 64 → SmallAt s → shares_bytes (numbers s) ≡ s
@@ -187,6 +185,11 @@ shares_bytes_law s l h =
     let e = (vec_bwd (be_c 4) 16 (drop 0 s) (fours 16 s 0) (drop (0 + 4 * 16) s) d).0 in
     let z : drop 64 s ≡ [] = drop_of_length-le s {i = 64} (omega arith) in
     ap shares_bytes (numbers_are s l) ∙ sym (numbers_plain (fours 16 s 0)) ∙ sym (e ∙ ap (λ (x : Bytes). encs (be_c 4) (fours 16 s 0) ++ x) z ∙ append-nil (encs (be_c 4) (fours 16 s 0)))
+
+-- zeros are within every P
+pub zeros_fit : (p : ℕ) → all? (λ k. leb k p) (numbers (replicate 64 0)) ≡ true
+unfolding items be_val
+zeros_fit p = rw (le-leb 0 p (omega arith))
 
 -- ---- lent
 pub shares_lent : {s d d' : Bytes} {o n : ℕ} → n ≡ length (view false s 0) → SmallAt (view false s 0) → n ≡ 64 → length d ≡ 64 → Put d 0 (take 64 (drop 0 s)) 64 o d' → LentShares s d'
@@ -200,8 +203,3 @@ shares_lent {s} {d} {d'} m h f l y =
 pub shares_none : {s : Bytes} {n : ℕ} → n ≡ length (view false s 0) → (n ≡ 64 → ⊥) → LentShares s (replicate 64 0)
 unfolding view
 shares_none {s} m h = record { long = refl; small = all_small (replicate 64 0) (all_zeros 64); whole = λ e. absurd (h (m ∙ e)); zeros = λ _. refl }
-
--- zeros are within every P
-pub zeros_fit : (p : ℕ) → all? (λ k. leb k p) (numbers (replicate 64 0)) ≡ true
-unfolding items be_val
-zeros_fit p = rw (le-leb 0 p (omega arith))

@@ -1,52 +1,12 @@
 -- The search for an id among lent ids that rise. Assumes nothing.
-use Rattle.std.specs.Prelude.{◌≡◌, refl, true, false, List, [], ◌∷◌, ◌++◌, ℕ, zero, suc, ◌+◌, ◌*◌, ◌≤◌, ◌<◌, ltb, length, take, drop, get_or}
-use Rattle.std.proofs.Common.{ap, sym, ◌∙◌, append_assoc, arith, le_of_suc-le-suc, length-append, take_at, drop_at, drop-drop, ltb-true, ltb-false, eqb-true, eq-eqb, ne_eqb}
-use Rattle.queue.specs.Codec.{Got, fail, got, All, decs, vec_bwd, vec_c, cases}
+use Rattle.std.specs.Prelude.{◌≡◌, refl, true, false, List, [], ◌∷◌, ℕ, zero, suc, ◌+◌, ◌≤◌, ◌<◌, ltb, length, get_or}
+use Rattle.std.proofs.Common.{ap, sym, ◌∙◌, arith, le_of_suc-le-suc, ltb-true, ltb-false, eqb-true, eq-eqb, ne_eqb}
+use Rattle.queue.specs.Codec.{cases}
 use Rattle.queue.specs.Lists.{and_true}
 use Rattle.queue.specs.bytes.OrderLaws.{cmp_flip, below_trans}
-use Rattle.queue.specs.layout.FrameCodec.{id_c}
-use Rattle.queue.specs.bytes.Parts.{part}
-use Rattle.queue.specs.theorems.Plain.{ids_plain}
-use Rattle.queue.specs.bytes.ReaderAs.{whole, list_at, is_got, val_of}
-use Rattle.queue.specs.bytes.ReaderLaws.{false_true}
-use Rattle.queue.specs.paper.Records.{Bytes, Id}
-use Rattle.queue.specs.paper.Lists.{concat}
+use Rattle.queue.specs.paper.Records.{Id}
 use Rattle.queue.specs.paper.Ids.{cmp_l, below?, same?, rise?}
 use Rattle.queue.specs.paper.Sound.{among?}
-
--- ---- the id at a place
-piece_at_law : (l : List Id) (r : Bytes) (m : ℕ) → All id_c.ok l → m < length l → (take 32 (drop (32 * m) (concat l ++ r)) ≡ get_or l m []) × (32 * m + 32 ≤ length (concat l ++ r))
-unfolding id_c vec_c
-piece_at_law [] r m a h = absurd (let y : ⊥ = omega arith in y)
-piece_at_law (i ∷ l) r zero a h =
-    let e = append_assoc i (concat l) r in
-    (ap (take 32) e ∙ take_at i (concat l ++ r) 32 a.0.1, omega (arith, ap length e, length-append i (concat l ++ r), a.0.1))
-piece_at_law (i ∷ l) r (suc m) a h =
-    let e = append_assoc i (concat l) r in
-    let p = piece_at_law l r m a.1 (le_of_suc-le-suc h) in
-    let n : 32 * suc m ≡ 32 + 32 * m = omega arith in
-    let d : drop (32 * suc m) (i ++ (concat l ++ r)) ≡ drop (32 * m) (concat l ++ r) = ap (λ k. drop k (i ++ (concat l ++ r))) n ∙ sym (drop-drop (32 * m) 32 (i ++ (concat l ++ r))) ∙ ap (drop (32 * m)) (drop_at i (concat l ++ r) 32 a.0.1) in
-    (ap (λ (s : Bytes). take 32 (drop (32 * suc m) s)) e ∙ ap (take 32) d ∙ p.0, omega (arith, p.1, ap length e, length-append i (concat l ++ r), a.0.1))
-
-id_there : (v : Bytes) (n m : ℕ) → whole id_c n v 0 ≡ true → m < n → (part 32 v (32 * m) ≡ get_or (list_at id_c n v 0) m []) × (32 * m + 32 ≤ length v) × (length (list_at id_c n v 0) ≡ n)
-unfolding whole list_at part
-id_there v n m w h = go (decs id_c n v) refl w
-  where
-    go : (o : Got (List Id)) → decs id_c n v ≡ o → is_got o ≡ true → (take 32 (drop (32 * m) v) ≡ get_or (val_of o) m []) × (32 * m + 32 ≤ length v) × (length (val_of o) ≡ n)
-    go fail p w = false_true w
-    go (got l r) p w =
-        let u = vec_bwd id_c n v l r p in
-        let e = u.0 ∙ ap (λ (s : Bytes). s ++ r) (ids_plain l) in
-        let k = piece_at_law l r m u.1.0 (omega (arith, u.1.1)) in
-        (ap (λ (s : Bytes). take 32 (drop (32 * m) s)) e ∙ k.0, omega (arith, ap length e, k.1), u.1.1)
-
-pub ids_many : (v : Bytes) (n : ℕ) → whole id_c n v 0 ≡ true → length (list_at id_c n v 0) ≡ n
-unfolding whole list_at
-ids_many v n w = go (decs id_c n v) refl w
-  where
-    go : (o : Got (List Id)) → decs id_c n v ≡ o → is_got o ≡ true → length (val_of o) ≡ n
-    go fail p w = false_true w
-    go (got l r) p w = (vec_bwd id_c n v l r p).1.1
 
 -- ---- rising ids by place
 first_below : (i : Id) (l : List Id) (j : ℕ) → rise? (i ∷ l) ≡ true → j < length l → below? i (get_or l j []) ≡ true
@@ -69,12 +29,12 @@ rising_at (x ∷ l) zero (suc j) r p h = first_below x l j r (le_of_suc-le-suc h
 rising_at (x ∷ l) (suc i) (suc j) r p h = rising_at l i j (rest_rises x l r) (le_of_suc-le-suc p) (le_of_suc-le-suc h)
 
 -- ---- among them
-is_among : (z : Id) (l : List Id) (m : ℕ) → m < length l → cmp_l z (get_or l m []) ≡ 1 → true ≡ among? z l
+pub is_among : (z : Id) (l : List Id) (m : ℕ) → m < length l → cmp_l z (get_or l m []) ≡ 1 → true ≡ among? z l
 is_among z [] m h e = absurd (let y : ⊥ = omega arith in y)
 is_among z (i ∷ l) zero h e = rw (eq-eqb (cmp_l z i) 1 e)
 is_among z (i ∷ l) (suc m) h e = cases (same? z i) (λ t. rw t) (λ t. rw t (is_among z l m (le_of_suc-le-suc h) e))
 
-not_among : (z : Id) (l : List Id) → ((i : ℕ) → i < length l → cmp_l z (get_or l i []) ≡ 1 → ⊥) → false ≡ among? z l
+pub not_among : (z : Id) (l : List Id) → ((i : ℕ) → i < length l → cmp_l z (get_or l i []) ≡ 1 → ⊥) → false ≡ among? z l
 not_among z [] f = refl
 not_among z (x ∷ l) f = rw (ne_eqb (cmp_l z x) 1 (f 0 (omega arith))) (not_among z l (λ i h. f (suc i) (omega arith)))
 
@@ -138,21 +98,3 @@ module _ {z : Id} {l : List Id} {lo hi : ℕ} (g : Finding z l lo hi) where
 
         above : (i : ℕ) → below? (get_or l i []) z ≡ true → cmp_l z (get_or l i []) ≡ 2
         above i t = let f = (cmp_flip z (get_or l i [])).0 in let e = eqb-true (cmp_l (get_or l i []) z) 0 t in omega arith
-
--- the same where the ids stand
-module _ (v : Bytes) (n : ℕ) (w : whole id_c n v 0 ≡ true) {z : Id} {lo hi : ℕ} (g : Finding z (list_at id_c n v 0) lo hi) (m : ℕ) (h : m < hi) where
-  the_id : (part 32 v (32 * m) ≡ get_or (list_at id_c n v 0) m []) × (32 * m + 32 ≤ length v) × (length (list_at id_c n v 0) ≡ n)
-  the_id = id_there v n m w (omega (arith, g.within, ids_many v n w))
-
-  pub find_room : 32 * m + 32 ≤ length v
-  find_room = the_id.1
-
-  module _ (r : rise? (list_at id_c n v 0) ≡ true) {y : Id} (q : y ≡ part 32 v (32 * m)) where
-    pub find_here : cmp_l z y ≡ 1 → true ≡ among? z (list_at id_c n v 0)
-    find_here = at_here g r m (q ∙ the_id.0) h
-
-    pub find_low : cmp_l z y ≡ 0 → Finding z (list_at id_c n v 0) lo m
-    find_low = at_low g r m (q ∙ the_id.0) h
-
-    pub find_high : (cmp_l z y ≡ 0 → ⊥) → (cmp_l z y ≡ 1 → ⊥) → Finding z (list_at id_c n v 0) (m + 1) hi
-    find_high = at_high g r m (q ∙ the_id.0) h

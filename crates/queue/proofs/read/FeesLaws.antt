@@ -1,7 +1,7 @@
 -- The candidates of an area, the set's ids, and each exit of the search. Assumes nothing.
 use Rattle.std.specs.Prelude.{◌≡◌, refl, Bool, true, false, cond, not, List, [], ◌∷◌, ◌++◌, ℕ, zero, suc, ◌+◌, ◌-◌, ◌*◌, ◌/◌, ◌%◌, ◌^◌, ◌≤◌, ◌<◌, ltb, leb, eqb, length, take, drop, get_or, set}
-use Rattle.std.proofs.Common.{ap, sym, ◌∙◌, append_assoc, append-nil, arith, le_of_suc-le-suc, add-one, length-append, length-set, length-take, drop-drop, drop_at, take-suc, take-suc-set, take_all, lt-ltb, le-ltb, le-leb, ltb-true, ltb-false, leb-true, leb-false}
-use Rattle.std.proofs.Math.Option.{some}
+use Rattle.std.proofs.Common.{ap, sym, ◌∙◌, append_assoc, append-nil, arith, le_of_suc-le-suc, add-one, length-append, length-set, length-take, drop-drop, get_or-drop, drop_at, take-suc, take-suc-set, take_all, take-take, lt-ltb, le-ltb, le-leb, ltb-true, ltb-false, leb-true, leb-false}
+use Rattle.std.proofs.Math.Option.{none, some}
 use Rattle.std.proofs.lemmas.Bool.{lt-leb, not-true, not-false}
 use Rattle.queue.specs.Basics.{cons_same}
 use Rattle.queue.specs.bytes.ListLaws.{sort_all}
@@ -11,21 +11,22 @@ use Rattle.queue.specs.Lists.{Pairwise, sub_all}
 use Rattle.queue.specs.bytes.PutAs.{Put, be_last}
 use Rattle.queue.specs.layout.FrameCodec.{rec_c, terms_k}
 use Rattle.queue.specs.theorems.Plain.{terms_plain}
-use Rattle.queue.specs.bytes.ReaderLaws.{Turn}
+use Rattle.queue.specs.bytes.ReaderLaws.{Turn, SmallAt, be_at, be_here}
+use Rattle.queue.specs.bytes.ReaderAs.{reads?}
 use Rattle.queue.specs.bytes.ViewAs.{view}
-use Rattle.queue.specs.layout.FormsCodec.{form_c, after_in_value, turn_in}
-use Rattle.queue.specs.layout.FrameAs.{terms_at, facts_of, NumAt}
+use Rattle.queue.specs.layout.FormsCodec.{form_c, after_in_value, turn_in, stands_in}
+use Rattle.queue.specs.layout.FrameAs.{terms_at, facts_of}
 use Rattle.queue.specs.theorems.SoundParts.{fields_of, Before}
-use Rattle.queue.specs.check.AreaAs.{AreaAs, AreaIs, records_of}
+use Rattle.queue.specs.check.AreaAs.{AreaAs, records_of}
 use Rattle.queue.specs.Areas.{read_area}
 use Rattle.queue.specs.Checked.{Written, written}
-use Rattle.queue.specs.read.SelectAs.{Row, rows, Table, ahead?, id_at, RowIs, RowsAs, chosen, Gathered, RecStands, PlaceAdded}
+use Rattle.queue.specs.read.SelectAs.{Row, ahead?, id_at, RowIs, RowsAs, chosen, Selected, RecStands, PlaceAdded}
 use Rattle.queue.specs.read.fees.Laws as laws
 use Rattle.queue.specs.read.fees.Claims.{set_sub, nodes_min}
 use Rattle.queue.specs.read.fees.Maps.{map_best}
 use Rattle.queue.specs.read.fees.Masks.{places, item, mask, unmask, said}
 use Rattle.queue.specs.read.fees.Rows.{rows_all, of_rows, unmask_set}
-use Rattle.queue.specs.read.FeesAs.{no_rec, rec_at_value, rec_of_row, Known, choice_bytes}
+use Rattle.queue.specs.read.FeesAs.{no_rec, rec_at_value, rec_of_row, Known, Candidates, sizes_of, fees_of, choice_bytes}
 use Rattle.queue.specs.paper.Records.{Bytes, Id, Terms, Rec, Queue}
 use Rattle.queue.specs.paper.Lists.{total, filter, sort, map, concat}
 use Rattle.queue.specs.paper.Area.{flagged, terms_under, terms_bytes}
@@ -34,15 +35,17 @@ use Rattle.queue.specs.paper.Reading.{first?, selected?}
 use Rattle.queue.specs.paper.Calls.{ids_bytes, told_out}
 use Rattle.queue.specs.paper.Fees.{Best, best_fees_value, size_of, fee_of, best_bytes, search_of, best_fees_of}
 use Rattle.queue.specs.declared.Kind.TheVariants.{Nothing}
-use Rattle.queue.specs.declared.Answer.TheVariants.{Refused, Done}
+use Rattle.queue.specs.paper.Answer.{Refused, Done}
 use Rattle.queue.specs.declared.layout.frame.Seen.{Seen}
 use Rattle.queue.specs.declared.check.area.Area.{Area}
 use Rattle.queue.specs.declared.read.fees.Choice.{Choice}
+use Rattle.queue.specs.declared.read.fees.Candidate.{Candidate}
+use Rattle.queue.proofs.read.FeesWalkLaws.{many_sizes, many_fees}
 use Rattle.queue.proofs.bytes.PutLaws.{then, recast}
 use Rattle.queue.proofs.bytes.PutByteLaws.{be_same, between}
-use Rattle.queue.proofs.layout.TurnLaws.{SeenIn, ReadsRec}
+use Rattle.queue.proofs.layout.TurnLaws.{SeenIn, FoundRec}
 use Rattle.queue.proofs.read.ReadingLaws.{told_4, told_100}
-use Rattle.queue.proofs.read.SelectLaws.{rows_take, rows_places, sort_rows, ids_size}
+use Rattle.queue.proofs.read.SelectLaws.{sort_rows, ids_size, selected_long}
 
 -- ---- the fee of a record that was read: the terms end with fee 8, size 4, cost 8
 abbrev front : Terms → Bytes
@@ -65,7 +68,7 @@ fee_small : (r : Rec) → rec_c.ok r → r.terms.fee < 256 ^ 8
 unfolding terms_k codec.map_c codec.pair_c be_c
 fee_small r h = (fields_of r h).terms.1.1.1.1.1.0
 
-module _ {s : Bytes} {i m : ℕ} {ok : Bool} {y : Seen} {r : Rec} (w : SeenIn false s i ok m y r) where
+module _ {s : Bytes} {i m : ℕ} {y : Seen} {r : Rec} (w : SeenIn false s i m y r) where
   abbrev v : Bytes
   v = view false s i
 
@@ -85,13 +88,19 @@ module _ {s : Bytes} {i m : ℕ} {ok : Bool} {y : Seen} {r : Rec} (w : SeenIn fa
       ∙ drop_at (front t) ((codec.be 8 t.fee ++ back t) ++ drop y.after v) (length (front t)) refl ∙ append_assoc (codec.be 8 t.fee) (back t) (drop y.after v) in
       ap (codec.be_dec 8) d ∙ be_fwd 8 t.fee (back t ++ drop y.after v) (fee_small r w.1.fine)
 
-num_is : {v rest : Bytes} {at next n x : ℕ} {ok : Bool} → NumAt 8 v at ok next n → at ≤ length v → (be_c 8).dec (drop at v) ≡ got x rest → n ≡ x
-num_is {v} {rest} {at} {next} {n} {x} {ok} u h d = cases ok
-    (λ t. let g = u.0.good h t in let e : got g.0 (drop next v) ≡ got x rest = sym g.1 ∙ d in let k : g.0 ≡ x = cc in sym g.4 ∙ k)
-    (λ t. no_got x rest (sym (u.0.bad h t) ∙ d))
+num_is : (v : Bytes) {rest : Bytes} (at : ℕ) {n x : ℕ} → SmallAt v → at + 8 ≤ length v → n ≡ be_at 8 v at → (be_c 8).dec (drop at v) ≡ got x rest → n ≡ x
+unfolding be_c
+num_is v {rest} at {n} {x} s h e d =
+    let g : got (be_at 8 v at) (drop (at + 8) v) ≡ got x rest = sym (be_here 8 v at h s) ∙ d in
+    let k : be_at 8 v at ≡ x = cc in
+    e ∙ k
 
-module _ (s : Bytes) (p : ℕ) {m : ℕ} {ok : Bool} {y : Seen} (h : RecStands s p) (rd : ReadsRec false s p ok m y) where
-  pub the_turn : Turn (form_c false rec_c) s 1 p (after_in_value false s p m) (SeenIn false s p ok m y)
+-- one that a reader may read
+pub stands_at : (s : Bytes) (p : ℕ) → RecStands s p → reads? rec_c (view false s p) 0 ≡ true
+stands_at s p h = stands_in rec_c false s 1 h.0 h.1 (omega arith)
+
+module _ (s : Bytes) (p : ℕ) {m : ℕ} {y : Seen} (h : RecStands s p) (rd : FoundRec false s p m y) where
+  pub the_turn : Turn (form_c false rec_c) s 1 p (after_in_value false s p m) (SeenIn false s p m y)
   the_turn = turn_in false 1 h.0 h.1 (omega arith) rd
 
   pub rec_is : rec_at_value s p ≡ the_turn.item
@@ -101,11 +110,18 @@ module _ (s : Bytes) (p : ℕ) {m : ℕ} {ok : Bool} {y : Seen} (h : RecStands s
   pub terms_after : 20 ≤ y.after
   terms_after = omega (arith, the_turn.is.0.up)
 
-  pub candidate_is : {next n : ℕ} {ok' : Bool} → NumAt 8 (view false s p) (y.after - 20) ok' next n → (y.facts.bytes ≡ size_of (rec_at_value s p)) × (n ≡ fee_of (rec_at_value s p))
+  pub fee_room : y.after - 20 + 8 ≤ length (view false s p)
+  fee_room = omega (arith, terms_after, fee_within the_turn.is)
+
+  bytes_small : ((j : ℕ) → get_or s j 0 < 256) → SmallAt (view false s p)
+  unfolding view
+  bytes_small f j l = rw get_or-drop (f (p + j))
+
+  pub candidate_is : {n : ℕ} → ((j : ℕ) → get_or s j 0 < 256) → n ≡ be_at 8 (view false s p) (y.after - 20) → (y.facts.bytes ≡ size_of (rec_at_value s p)) × (n ≡ fee_of (rec_at_value s p))
   unfolding facts_of
-  candidate_is u = (
+  candidate_is small u = (
     ap (λ f. f.bytes) the_turn.is.0.facts ∙ ap size_of (sym rec_is),
-    num_is u (omega (arith, fee_within the_turn.is)) (fee_here the_turn.is) ∙ ap fee_of (sym rec_is),
+    num_is (view false s p) (y.after - 20) (bytes_small small) fee_room u (fee_here the_turn.is) ∙ ap fee_of (sym rec_is),
   )
 
 -- ---- columns
@@ -132,6 +148,42 @@ module _ (f : ℕ → ℕ) {l : List ℕ} (few : length l ≤ 20) where
   filled_end {d} {j} w g h =
       let e : length l ≡ j = omega arith in
       ap (λ (n : ℕ). take n d) e ∙ w.is ∙ take_all j (map f l) (omega (arith, laws.length_map f l))
+
+set_sizes : (z : List Candidate) (j : ℕ) (c : Candidate) → sizes_of (set z j c) ≡ set (sizes_of z) j c.size
+set_sizes [] j c = refl
+set_sizes (x ∷ z) zero c = refl
+set_sizes (x ∷ z) (suc j) c = ap (λ l. x.size ∷ l) (set_sizes z j c)
+
+set_fees : (z : List Candidate) (j : ℕ) (c : Candidate) → fees_of (set z j c) ≡ set (fees_of z) j c.fee
+set_fees [] j c = refl
+set_fees (x ∷ z) zero c = refl
+set_fees (x ∷ z) (suc j) c = ap (λ l. x.fee ∷ l) (set_fees z j c)
+
+-- the first j candidates are filled
+pub record Filling (s : Bytes) (l : List ℕ) (z : List Candidate) (j : ℕ) : Type 0 where
+  pub len : length z ≡ 20
+  pub sizes : Filled (λ p. size_of (rec_at_value s p)) l (sizes_of z) j
+  pub fees : Filled (λ p. fee_of (rec_at_value s p)) l (fees_of z) j
+
+pub filling_start : (s : Bytes) (l : List ℕ) (z : List Candidate) → length z ≡ 20 → Filling s l z 0
+filling_start s l z h = record { len = h; sizes = record { len = many_sizes z ∙ h; is = refl }; fees = record { len = many_fees z ∙ h; is = refl } }
+
+module _ {s : Bytes} {l : List ℕ} (few : length l ≤ 20) where
+  pub filling_go : {z : List Candidate} {j : ℕ} {c : Candidate} → Filling s l z j → j < length l → c.size ≡ size_of (rec_at_value s (get_or l j 0)) → c.fee ≡ fee_of (rec_at_value s (get_or l j 0)) → Filling s l (set z j c) (j + 1)
+  filling_go {z} {j} {c} w h a b = record {
+    len = length-set z j c ∙ w.len;
+    sizes = rw (set_sizes z j c) (filled_go (λ p. size_of (rec_at_value s p)) few w.sizes h a);
+    fees = rw (set_fees z j c) (filled_go (λ p. fee_of (rec_at_value s p)) few w.fees h b);
+  }
+
+  pub filling_end : {z : List Candidate} {j : ℕ} → Filling s l z j → j ≤ length l → length l ≤ j → Candidates s l (take (length l) z) × (length z ≡ 20)
+  filling_end {z} {j} w g h = (
+    record {
+      sizes = sym (laws.take_map (λ (c : Candidate). c.size) (length l) z) ∙ filled_end (λ p. size_of (rec_at_value s p)) few w.sizes g h;
+      fees = sym (laws.take_map (λ (c : Candidate). c.fee) (length l) z) ∙ filled_end (λ p. fee_of (rec_at_value s p)) few w.fees g h;
+    },
+    w.len,
+  )
 
 pub known_at : (s : Bytes) (l : List ℕ) (j : ℕ) → All (Known s) l → j < length l → Known s (get_or l j 0)
 known_at s [] j h k = absurd (let y : ⊥ = omega arith in y)
@@ -339,21 +391,8 @@ first_some l n f g = cases (leb 20 (length l))
     leb_gt : leb 20 (length l) ≡ false → length l < 20
     leb_gt t = leb-false 20 (length l) t
 
-module _ (s : Bytes) {m : ℕ} (a b c : List ℕ) {a' b' c' : List ℕ} (all : All (λ w. Known s w.1.1) (rows a b c)) (t : Table m a' b' c' (sort ahead? (rows a b c))) where
-  the_places : c' ≡ map (λ (w : Row). w.1.1) (sort ahead? (rows a b c))
-  the_places = let v = t.even in sym (rows_places a' b' c' (v.times ∙ sym v.ranks) (v.places ∙ sym v.ranks)) ∙ ap (map (λ (w : Row). w.1.1)) t.is
-
-  pub first_few : (n : ℕ) → n ≤ 20 → length (take n c') ≤ 20
-  first_few n h = few_picked c' n h
-
-  pub first_known : (n : ℕ) → All (Known s) (take n c')
-  first_known n = known_take s n c' (rw the_places (places_known s (sort ahead? (rows a b c)) (sort_all ahead? (λ w. Known s w.1.1) (rows a b c) all)))
-
-  pub rows_told : {n : ℕ} (limit budget : ℕ) (out : Bytes) {w : Written} → (20 ≤ length c' → n ≡ 20) → (length c' ≤ 20 → n ≡ length c')
-      → w ≡ search_of (map (rec_at_value s) (take n c')) limit budget out → w ≡ search_of (take 20 (map (rec_of_row s) (sort ahead? (rows a b c)))) limit budget out
-  rows_told {n} limit budget out f g e =
-      e ∙ ap (λ (l : List ℕ). search_of (map (rec_at_value s) l) limit budget out) (first_some c' n f g)
-      ∙ ap (λ (l : List Rec). search_of l limit budget out) (sym (laws.take_map (rec_at_value s) 20 c') ∙ ap (take 20) (ap (map (rec_at_value s)) the_places ∙ map_recs s (sort ahead? (rows a b c))))
+pub first_few : (c : List ℕ) (n : ℕ) → n ≤ 20 → length (take n c) ≤ 20
+first_few c n h = few_picked c n h
 
 -- ---- the rows that were gathered
 row_rec : {s : Bytes} {w : Row} {r : Rec} → RowIs s w r → rec_of_row s w ≡ r
@@ -363,7 +402,7 @@ row_rec x = ap (λ (l : List Rec). get_or l 0 no_rec) x.here.2
 row_known : {s : Bytes} {w : Row} {r : Rec} → RowIs s w r → Known s w.1.1
 row_known {s} {w} {r} x = record { stands = (x.here.0, x.here.1); id = x.id ∙ ap (λ (y : Rec). y.id) (sym (row_rec x)); within = x.within }
 
-rows_known : (s : Bytes) (z : List Row) (l : List Rec) → RowsAs s z l → All (λ w. Known s w.1.1) z
+pub rows_known : (s : Bytes) (z : List Row) (l : List Rec) → RowsAs s z l → All (λ w. Known s w.1.1) z
 rows_known s [] l h = tt
 rows_known s (w ∷ z) [] h = absurd h
 rows_known s (w ∷ z) (r ∷ l) h = (row_known h.0, rows_known s z l h.1)
@@ -374,19 +413,30 @@ rows_recs s [] (r ∷ l) h = absurd h
 rows_recs s (w ∷ z) [] h = absurd h
 rows_recs s (w ∷ z) (r ∷ l) h = cons_same (row_rec h.0) (rows_recs s z l h.1)
 
-pub gathered_known : {s : Bytes} {l : List Rec} {room m : ℕ} {a b c : List ℕ} → Gathered s l room m a b c → All (λ w. Known s w.1.1) (rows (take m a) (take m b) (take m c))
-gathered_known {s} {l} {room} {m} {a} {b} {c} g = rw (rows_take m a b c) (rows_known s (take m (rows a b c)) l g.listed)
+-- the places that were selected, and the first 20 of them
+module _ {s : Bytes} {l : List Rec} {n : ℕ} {c : List ℕ} (x : Selected s l n c) where
+  pub selected_known : All (Known s) (take n c)
+  selected_known = rw x.places (places_known s (sort ahead? x.table) (sort_all ahead? (λ w. Known s w.1.1) x.table (rows_known s x.table l x.listed)))
 
-pub select_told : {s : Bytes} {l : List Rec} {room m : ℕ} {a b c : List ℕ} (limit budget : ℕ) (out : Bytes) {w : Written} → Gathered s l room m a b c → Pairwise Before l
-    → w ≡ search_of (take 20 (map (rec_of_row s) (sort ahead? (rows (take m a) (take m b) (take m c))))) limit budget out → w ≡ search_of (take 20 (sort first? l)) limit budget out
-select_told {s} {l} {room} {m} {a} {b} {c} limit budget out g h e =
-    e ∙ ap (λ (z : List Row). search_of (take 20 (map (rec_of_row s) (sort ahead? z))) limit budget out) (rows_take m a b c)
-    ∙ ap (λ (k : List Rec). search_of (take 20 k) limit budget out) (rows_recs s (sort ahead? (take m (rows a b c))) (sort first? l) (sort_rows s (take m (rows a b c)) l g.listed h))
+  pub selected_recs : Pairwise Before l → map (rec_at_value s) (take n c) ≡ sort first? l
+  selected_recs h = ap (map (rec_at_value s)) x.places ∙ map_recs s (sort ahead? x.table) ∙ rows_recs s (sort ahead? x.table) (sort first? l) (sort_rows s x.table l x.listed h)
+
+  first_of : (k : ℕ) → k ≤ n → take k c ≡ take k (take n c)
+  first_of k h = sym (take-take k n c h)
+
+  pub first_known : (k : ℕ) → k ≤ n → All (Known s) (take k c)
+  first_known k h = rw (first_of k h) (known_take s k (take n c) selected_known)
+
+  pub first_told : Pairwise Before l → (limit budget : ℕ) (out : Bytes) {k : ℕ} {w : Written} → k ≤ n → (20 ≤ n → k ≡ 20) → (n ≤ 20 → k ≡ n)
+      → w ≡ search_of (map (rec_at_value s) (take k c)) limit budget out → w ≡ search_of (take 20 (sort first? l)) limit budget out
+  first_told p limit budget out {k} h f g e =
+      e ∙ ap (λ (y : List ℕ). search_of (map (rec_at_value s) y) limit budget out) (first_of k h ∙ first_some (take n c) k (λ m. f (omega (arith, selected_long x))) (λ m. let q = g (omega (arith, selected_long x)) in omega (arith, selected_long x)))
+      ∙ ap (λ (y : List Rec). search_of y limit budget out) (sym (laws.take_map (rec_at_value s) 20 (take n c)) ∙ ap (take 20) (selected_recs p))
 
 -- ---- the call
-pub fees_3 : (s : Bytes) (limit budget now height : ℕ) (out : Bytes) {x : Area} → AreaIs s x → x.ok ≡ false → written (Refused 3) out ≡ best_fees_of s limit budget now height out
+pub fees_3 : (s : Bytes) (limit budget now height : ℕ) (out : Bytes) → read_area s ≡ none → written (Refused 3) out ≡ best_fees_of s limit budget now height out
 unfolding best_fees_of
-fees_3 s limit budget now height out a f = rw (a.bad f) refl
+fees_3 s limit budget now height out e = rw e refl
 
 module _ {s : Bytes} {x : Area} (limit budget now height : ℕ) {q : Queue} (a : AreaAs s x q) (r : read_area s ≡ some q) (out : Bytes) where
   pub fees_low : budget < 1 → written (Refused 5) out ≡ best_fees_of s limit budget now height out

@@ -1,12 +1,13 @@
 -- The steps of the walk over places, and of its loop, as laws over plain numbers. Assumes nothing.
-use Rattle.std.specs.Prelude.{◌≡◌, List, [], ◌∷◌, ℕ, zero, suc, ◌+◌, ◌-◌, ◌^◌, ◌≤◌, ◌<◌, max, length}
-use Rattle.std.proofs.Common.{ap, sym, ◌∙◌, arith, pow-suc, lt-ltb, le-ltb, le-leb}
-use Rattle.std.proofs.Math.Nat.{pow-le-pow_right}
+use Rattle.std.specs.Prelude.{◌≡◌, refl, List, [], ◌∷◌, ℕ, zero, suc, ◌+◌, ◌-◌, ◌^◌, ◌≤◌, ◌<◌, max, length, get_or}
+use Rattle.std.proofs.Common.{ap, sym, ◌∙◌, arith, le_of_suc-le-suc, pow-suc, lt-ltb, le-ltb, le-leb}
 use Rattle.std.proofs.lemmas.Bool.{lt-leb}
 use Rattle.queue.specs.paper.Lists.{total}
 use Rattle.queue.specs.read.fees.Walk.{fitting}
 use Rattle.queue.specs.read.fees.Claims.{fitting_small}
 use Rattle.queue.specs.declared.read.fees.SoFar.{SoFar}
+use Rattle.queue.specs.declared.read.fees.Candidate.{Candidate}
+use Rattle.queue.specs.read.FeesAs.{sizes_of, fees_of}
 use Rattle.queue.specs.read.fees.Masks.{places, item, visit_m, pass_m, walk_m, Shape}
 
 pub visit_more : (s f : ℕ) (x : SoFar) → x.fee < f → record { set = s; fee = f; nodes = x.nodes + 1; bound = x.bound } ≡ visit_m s f x
@@ -66,6 +67,44 @@ module _ (sizes fees : List ℕ) (k left : ℕ) where
   pub sums_end : (sum j : ℕ) → j ≡ 0 → Sums sizes fees k left sum j → sum ≡ fitting (item sizes) (item fees) left (places (length sizes) k)
   sums_end sum j e s = let a : sum + fitting (item sizes) (item fees) left (places (length sizes) 0) ≡ fitting (item sizes) (item fees) left (places (length sizes) k) = rw e at s.is in omega arith
 
+-- ---- a candidate's numbers among the sizes and the fees
+pub many_sizes : (z : List Candidate) → length (sizes_of z) ≡ length z
+many_sizes [] = refl
+many_sizes (c ∷ z) = ap suc (many_sizes z)
+
+pub many_fees : (z : List Candidate) → length (fees_of z) ≡ length z
+many_fees [] = refl
+many_fees (c ∷ z) = ap suc (many_fees z)
+
+item_size : (z : List Candidate) (i : ℕ) (d : Candidate) → i < length z → (get_or z i d).size ≡ item (sizes_of z) i
+item_size [] i d h = absurd (let y : ⊥ = omega arith in y)
+item_size (c ∷ z) zero d h = refl
+item_size (c ∷ z) (suc i) d h = item_size z i d (le_of_suc-le-suc h)
+
+item_fee : (z : List Candidate) (i : ℕ) (d : Candidate) → i < length z → (get_or z i d).fee ≡ item (fees_of z) i
+item_fee [] i d h = absurd (let y : ⊥ = omega arith in y)
+item_fee (c ∷ z) zero d h = refl
+item_fee (c ∷ z) (suc i) d h = item_fee z i d (le_of_suc-le-suc h)
+
+abbrev pub blank : Candidate
+blank = record { size = 0; fee = 0 }
+
+pub size_here : (z : List Candidate) (i : ℕ) → i < length z → (get_or z i blank).size ≡ item (sizes_of z) (length (sizes_of z) - (length z - i))
+size_here z i h = item_size z i blank h ∙ ap (item (sizes_of z)) (let e = many_sizes z in omega arith)
+
+pub fee_here : (z : List Candidate) (i : ℕ) → i < length z → (get_or z i blank).fee ≡ item (fees_of z) (length (sizes_of z) - (length z - i))
+fee_here z i h = item_fee z i blank h ∙ ap (item (fees_of z)) (let e = many_sizes z in omega arith)
+
+pub fee_left : (z : List Candidate) (i : ℕ) → i < length z → (get_or z i blank).fee ≡ item (fees_of z) (length (fees_of z) - (length z - i))
+fee_left z i h = item_fee z i blank h ∙ ap (item (fees_of z)) (let e = many_fees z in omega arith)
+
+module _ (z : List Candidate) (k : ℕ) (p : 0 < k) (h : k ≤ length z) where
+  pub size_last : (get_or z (length z - k) blank).size ≡ item (sizes_of z) (length (sizes_of z) - k)
+  size_last = item_size z (length z - k) blank (omega arith) ∙ ap (λ n. item (sizes_of z) (n - k)) (sym (many_sizes z))
+
+  pub fee_last : (get_or z (length z - k) blank).fee ≡ item (fees_of z) (length (sizes_of z) - k)
+  fee_last = item_fee z (length z - k) blank (omega arith) ∙ ap (λ n. item (fees_of z) (n - k)) (sym (many_sizes z))
+
 -- ---- the walk's steps
 module _ (size fee : ℕ → ℕ) (budget : ℕ) where
   pub walk_over : (l : List ℕ) (s f left : ℕ) (x : SoFar) → budget ≤ x.nodes → walk_m size fee budget l s f left x ≡ pass_m (f + fitting size fee left l) x
@@ -101,15 +140,6 @@ module _ (sizes fees : List ℕ) (k bit set fee : ℕ) (h : Shape sizes fees k b
       let b = h.next in
       rw e (omega arith)
 
-  pub bit_small : 0 < k → bit + bit ≤ 2 ^ 20
-  bit_small p =
-      let a = h.few in
-      let b = h.has in
-      let two : 0 < 2 = omega arith in
-      let q = pow-le-pow_right {n = 2} two {i = length sizes - (k - 1)} {j = 20} (omega arith) in
-      let e = bit_next p in
-      omega arith
-
   pub shape_leave : 0 < k → Shape sizes fees (k - 1) (bit + bit) set fee
   shape_leave p = record {
     even = h.even;
@@ -131,14 +161,8 @@ module _ (sizes fees : List ℕ) (k bit set fee : ℕ) (h : Shape sizes fees k b
   }
 
   -- the fees stay within 64 bits
-  pub fit_given : total (item fees) (places (length sizes) k) < 2 ^ 64
-  fit_given = let a = h.sum in omega arith
-
   pub fee_fits : (left : ℕ) → fee + fitting (item sizes) (item fees) left (places (length sizes) k) < 2 ^ 64
   fee_fits left = let a = h.sum in let b = fitting_small (item sizes) (item fees) left (places (length sizes) k) in omega arith
-
-  pub fee_next : 0 < k → fee + item fees (length sizes - k) < 2 ^ 64
-  fee_next p = let a = h.sum in let b = sum_next p in omega arith
 
   -- ---- what each exit gives
   module _ (left budget : ℕ) (x : SoFar) where

@@ -1,5 +1,5 @@
 -- The spot of an id among the records of an area, and the records with a new one there. Assumes nothing.
-use Rattle.std.specs.Prelude.{◌≡◌, refl, Bool, true, false, cond, not, List, [], ◌∷◌, ◌++◌, ℕ, zero, suc, ◌+◌, ◌-◌, ◌≤◌, ◌<◌, length, drop, take}
+use Rattle.std.specs.Prelude.{◌≡◌, refl, true, false, cond, not, List, [], ◌∷◌, ◌++◌, ℕ, zero, suc, ◌+◌, ◌-◌, ◌≤◌, ◌<◌, length, drop, take}
 use Rattle.std.proofs.Common.{ap, sym, ◌∙◌, append_assoc, append-nil, arith, length-append, length-drop, take-append-drop, drop-drop, eq-eqb, ne_eqb}
 use Rattle.std.proofs.Math.Option.{Option, none, some}
 use Rattle.queue.proofs.check.AreaLaws.{fit, recs_here}
@@ -21,32 +21,32 @@ use Rattle.queue.specs.paper.Ids.{cmp_l, below?}
 use Rattle.queue.specs.paper.Changing.{named?, put}
 use Rattle.queue.specs.declared.layout.frame.Seen.{Seen}
 use Rattle.queue.specs.declared.check.area.Area.{Area}
-use Rattle.queue.specs.declared.read.find.Spot.{Spot}
-use Rattle.queue.proofs.layout.TurnLaws.{Scan, seen, see, on, stop, end, ReadsRec, encs_append}
+use Rattle.queue.specs.read.FindAs.{SpotNumbers}
+use Rattle.queue.proofs.layout.TurnLaws.{Scan, seen, see, on, stop, end, FoundRec, encs_append}
 use Rattle.queue.proofs.bytes.PutLaws.{then, recast}
 use Rattle.queue.proofs.bytes.PutByteLaws.{between}
 use Rattle.queue.proofs.read.ReadingLaws.{one_here}
 
 -- ---- the loop
-unfoldable pub spots_f : Id → ℕ → List Rec → Option Rec × Spot
+unfoldable pub spots_f : Id → ℕ → List Rec → Option Rec × SpotNumbers
 spots_f z at l = (find (named? z) l, spot_f z at l)
 
 module _ (z : Id) {s : Bytes} {n at i left : ℕ} (x : Scan (form_c false rec_c) (spots_f z) s n at at i left i) where
-  pub spot_go : {m j : ℕ} {ok : Bool} {y : Seen} → 0 < left → ReadsRec false s i ok m y → j ≡ after_in_value false s i m → (cmp_l z y.id ≡ 0 → ⊥) → (cmp_l z y.id ≡ 1 → ⊥) → Scan (form_c false rec_c) (spots_f z) s n at at j (left - 1) j
+  pub spot_go : {m j : ℕ} {y : Seen} → 0 < left → FoundRec false s i m y → j ≡ after_in_value false s i m → (cmp_l z y.id ≡ 0 → ⊥) → (cmp_l z y.id ≡ 1 → ⊥) → Scan (form_c false rec_c) (spots_f z) s n at at j (left - 1) j
   unfolding spots_f spot_f after_in_value
   spot_go {m} {j} h r g e f =
       let t = see false x h r g in
       let k : i + length (rec_c.enc t.item) ≡ j = omega (arith, t.is.1.size) in
       on x j h t (rw (← t.is.0.id, ne_eqb _ _ e, ne_eqb _ _ f, k))
 
-  pub spot_before : {m : ℕ} {ok : Bool} {y : Seen} → 0 < left → ReadsRec false s i ok m y → cmp_l z y.id ≡ 0 → SpotAs s z at (list_at (form_c false rec_c) n s at) (record { found = false; at = i; next = i })
+  pub spot_before : {m : ℕ} {y : Seen} → 0 < left → FoundRec false s i m y → cmp_l z y.id ≡ 0 → SpotAs s z at (list_at (form_c false rec_c) n s at) (record { found = false; at = i; next = i })
   unfolding spots_f spot_f after_in_value
   spot_before {m} h r e =
       let t = seen false x h r in
       let u : spot false i i ≡ spot_f z i (t.item ∷ list_at (form_c false rec_c) (left - 1) s (i + m)) = rw (← t.is.0.id, eq-eqb _ _ e) in
       record { is = u ∙ ap (λ p. p.1) (stop x t refl); here = λ v. false_true v }
 
-  pub spot_same : {m j : ℕ} {ok : Bool} {y : Seen} → 0 < left → ReadsRec false s i ok m y → j ≡ after_in_value false s i m → cmp_l z y.id ≡ 1 → SpotAs s z at (list_at (form_c false rec_c) n s at) (record { found = true; at = i; next = j })
+  pub spot_same : {m j : ℕ} {y : Seen} → 0 < left → FoundRec false s i m y → j ≡ after_in_value false s i m → cmp_l z y.id ≡ 1 → SpotAs s z at (list_at (form_c false rec_c) n s at) (record { found = true; at = i; next = j })
   unfolding spots_f spot_f after_in_value
   spot_same {m} {j} h r g e =
       let t = seen false x h r in
@@ -110,7 +110,7 @@ module _ (r x : Rec) (l : List Rec) where
   put_later e f = rw (ne_eqb _ _ f, ne_eqb _ _ e)
 
 -- ---- the records in three parts: those before, the one of this id if there is one, those behind
-pub record Split (r : Rec) (l : List Rec) (at : ℕ) (x : Spot) : Type 0 where
+pub record Split (r : Rec) (l : List Rec) (at : ℕ) (x : SpotNumbers) : Type 0 where
   pub before : List Rec
   pub old : List Rec
   pub behind : List Rec
@@ -120,7 +120,7 @@ pub record Split (r : Rec) (l : List Rec) (at : ℕ) (x : Spot) : Type 0 where
   pub many : length old ≡ cond x.found 1 0
   pub placed : put r l ≡ before ++ (r ∷ behind)
 
-respot : {r : Rec} {l : List Rec} {at : ℕ} {x y : Spot} → x ≡ y → Split r l at y → Split r l at x
+respot : {r : Rec} {l : List Rec} {at : ℕ} {x y : SpotNumbers} → x ≡ y → Split r l at y → Split r l at x
 respot e h = record {
   before = h.before;
   old = h.old;
@@ -165,7 +165,7 @@ split r (x ∷ l) at h = go (cmp_l r.id x.id) refl (split r l (at + length (rec_
 
 -- ---- the bytes of the parts
 
-module _ {s : Bytes} {a : Area} (w : AreaIn s a) (r : Rec) {z : Id} (ri : r.id ≡ z) {x : Spot} (p : SpotIn s a z x) where
+module _ {s : Bytes} {a : Area} (w : AreaIn s a) (r : Rec) {z : Id} (ri : r.id ≡ z) {x : SpotNumbers} (p : SpotIn s a z x) where
   parts : Split r (recs_in s a) a.open.start x
   parts =
       let l = w.read.store.list in
@@ -240,7 +240,7 @@ module _ {s : Bytes} {a : Area} (w : AreaIn s a) (r : Rec) {z : Id} (ri : r.id �
       let o = parts.many in omega arith
 
 -- ---- the record of the id
-module _ {s : Bytes} {a : Area} (w : AreaIn s a) {z : Id} {x : Spot} (p : SpotIn s a z x) where
+module _ {s : Bytes} {a : Area} (w : AreaIn s a) {z : Id} {x : SpotNumbers} (p : SpotIn s a z x) where
   pub spot_none : x.found ≡ false → find (named? z) w.q.recs ≡ none
   spot_none n =
       let l = w.read.store.list in

@@ -1,7 +1,6 @@
 -- Rows for what records want, in slots and in a table, and the bits that come of them. Assumes nothing.
-use Rattle.std.specs.Prelude.{◌≡◌, refl, Bool, true, false, not, ◌&&◌, ◌||◌, List, [], ◌∷◌, ◌++◌, ℕ, zero, suc, ◌+◌, ◌-◌, ◌/◌, ◌%◌, ◌≤◌, ◌<◌, ltb, leb, eqb, length, drop, take, get_or, set}
-use Rattle.std.proofs.Common.{ap, sym, ◌∙◌, arith, le_of_suc-le-suc, add-one, mod-lt, length-set, length-take, drop-drop, drop-set-lt, get_or-set_same, get_or-set_other, take-suc, take-suc-set, take_all, get_or-take, eqb-true, eq-eqb, ltb-true, ltb-false, lt-ltb, le-ltb, leb-true, le-leb}
-use Rattle.std.proofs.Math.ListN.{get_or-eq_default as List·getD-eq-default}
+use Rattle.std.specs.Prelude.{◌≡◌, refl, Bool, true, false, not, ◌&&◌, ◌||◌, List, [], ◌∷◌, ◌++◌, ℕ, zero, suc, ◌+◌, ◌-◌, ◌/◌, ◌%◌, ◌≤◌, ◌<◌, ltb, leb, eqb, length, drop, take, get_or, set, replicate}
+use Rattle.std.proofs.Common.{ap, sym, ◌∙◌, arith, le_of_suc-le-suc, add-one, mod-lt, length-set, length-take, drop-drop, drop-set-lt, get_or-set_same, get_or-set_other, take-suc, take-suc-set, take_all, get_or-take, eqb-true, ltb-true, ltb-false, lt-ltb, le-ltb, leb-true, le-leb}
 use Rattle.std.specs.Int.Bits.{bit_or}
 use Rattle.std.proofs.lemmas.Bool.{eqb-false, lt-leb, not-true, not-false}
 use Rattle.queue.specs.Basics.{among_append, any_append, or_assoc, or_same, join_same, and_or, and_off, or_and, any_at, any_same}
@@ -9,9 +8,9 @@ use Rattle.queue.specs.Codec.{All, cases}
 use Rattle.queue.specs.bytes.Parts.{part}
 use Rattle.queue.specs.Lists.{and_true, and_both}
 use Rattle.queue.specs.bytes.OrderLaws.{same_is}
-use Rattle.queue.specs.layout.FrameCodec.{id_c}
+use Rattle.queue.specs.layout.FrameCodec.{id_c, rec_c}
 use Rattle.queue.specs.bytes.ViewAs.{view, view_fits}
-use Rattle.queue.specs.bytes.ReaderAs.{Reads, whole, list_at}
+use Rattle.queue.specs.bytes.ReaderAs.{Found, whole, list_at, reads?}
 use Rattle.queue.specs.bytes.ReaderLaws.{none_left, false_true}
 use Rattle.queue.specs.layout.FrameAs.{facts_of, SeenAs}
 use Rattle.queue.specs.check.FilterAs.{slot_l, marked, mark_l, hash_all_value}
@@ -23,29 +22,22 @@ use Rattle.queue.specs.paper.Lists.{any?, all?}
 use Rattle.queue.specs.paper.Sound.{inputs, outputs, reads, wanted, among?}
 use Rattle.queue.specs.read.LinksAs.{group_mask_value, names, OutsIs, OutsTo, Again, Thinner, Thinned, wants_at, outs_at, Short, Joined, hit, in_line, Zero, Cleared, Slotted, RowsHold, Rowed, Linked, outputs_linked, Begins}
 use Rattle.queue.specs.declared.layout.frame.Seen.{Seen}
-use Rattle.queue.proofs.layout.TurnLaws.{Scan, start, here, on, ReadsRec}
-use Rattle.queue.proofs.check.FilterLaws.{mark_size, mark_here, mark_old, slot_in}
+use Rattle.queue.proofs.layout.TurnLaws.{Scan, start, here, on, FoundRec}
+use Rattle.queue.proofs.check.FilterLaws.{mark_here, mark_old, slot_in}
 use Rattle.queue.proofs.check.SuspectsRowLaws.{id_long, any_none, any_some, later_no, later_yes, later_behind, rising}
 use Rattle.queue.proofs.check.SuspectsLaws.{id_bytes, all_at, all_append, shuffled_all, shuffled_any}
-use Rattle.queue.proofs.read.FeesLaws.{the_turn, rec_is, known_at}
+use Rattle.queue.proofs.read.FeesLaws.{the_turn, rec_is, known_at, stands_at}
 use Rattle.queue.proofs.read.LinksBitLaws.{or_no, spread, joined_none, joined_to, joined_then}
 use Rattle.queue.proofs.read.LinksNameLaws.{mask_pos, names_mask, names_none, names_or, join_number, join_place}
 
 -- ---- zeros
-pub zero_go : (v : List ℕ) (i : ℕ) → ((j : ℕ) → j < i → get_or v j 0 ≡ 0) → (j : ℕ) → j < i + 1 → get_or (set v i 0) j 0 ≡ 0
-zero_go v i h j k = cases (eqb j i)
-    (λ t. let e = eqb-true j i t in rw e (gone v i))
-    (λ t. let e = eqb-false j i t in get_or-set_other v i j 0 0 e ∙ h j (omega arith))
-  where
-    gone : (v : List ℕ) (i : ℕ) → get_or (set v i 0) i 0 ≡ 0
-    gone [] i = refl
-    gone (x ∷ v) zero = refl
-    gone (x ∷ v) (suc i) = gone v i
+zero_at : (n j : ℕ) → ◌≡◌ {A = ℕ} (get_or (replicate n 0) j 0) 0
+zero_at zero j = refl
+zero_at (suc n) zero = refl
+zero_at (suc n) (suc j) = zero_at n j
 
-pub zero_end : (v : List ℕ) (i : ℕ) → ((j : ℕ) → j < i → get_or v j 0 ≡ 0) → length v ≤ i → Zero v
-zero_end v i h k = record {
-  all = λ j. cases (ltb j i) (λ t. h j (ltb-true j i t)) (λ t. let e = ltb-false j i t in List·getD-eq-default v 0 (let z : length v ≤ j = omega arith in z));
-}
+pub zeros : {v : List ℕ} (n : ℕ) → v ≡ replicate n 0 → Zero v
+zeros {v} n e = rw e (record { all = zero_at n })
 
 pub cleared : {go : Bool} {v v' : List ℕ} → not go ≡ false → Zero v' → Cleared go v v'
 cleared {go} t z = record { yes = λ _. z; no = λ e. false_true (sym e ∙ not-false go t) }
@@ -68,7 +60,7 @@ pub meets_none : (s : Bytes) (y x : ℕ) → x % 4294967296 ≡ 0 → false ≡ 
 unfolding later no_r
 meets_none s y x e = cases (same? (id_r false s y) (id_r false s x)) (λ t. rw (t, e)) (λ t. rw t)
 
-pub meets_is : (s : Bytes) (y x : ℕ) {c : ℕ} → (x % 4294967296 ≡ 0 → ⊥) → c ≡ cmp_l (id_r false s y) (id_r false s x) → eqb c 1 ≡ later false s (id_r false s y) 0 x
+pub meets_is : (s : Bytes) (y x : ℕ) {a : Bool} → (x % 4294967296 ≡ 0 → ⊥) → a ≡ same? (id_r false s y) (id_r false s x) → a ≡ later false s (id_r false s y) 0 x
 unfolding later no_r
 meets_is s y x n e = rw (e, lt-ltb 0 (x % 4294967296) (pos (x % 4294967296) n)) (yes (same? (id_r false s y) (id_r false s x)))
   where
@@ -176,7 +168,7 @@ module _ {s : Bytes} {slots t rows : List ℕ} where
       no_zero = refl
 
 -- a row more
-module _ (s : Bytes) (slots t v : List ℕ) (h w k : ℕ) (e : h ≡ hash_all_value (id_r false s w)) (a : 0 < length slots) (b : 0 < length t) (c : k < length v) {r : ℕ} {slots' t' v' : List ℕ} (g : Slotted h w k slots t v r slots' t' v') where
+module _ (s : Bytes) (slots t v : List ℕ) (h w k : ℕ) (e : h ≡ hash_all_value (id_r false s w)) (c : k < length v) {r : ℕ} {slots' t' v' : List ℕ} (g : Slotted h w k slots t v r slots' t' v') where
   abbrev place : ℕ
   place = slot_l (length slots) h
 
@@ -186,7 +178,7 @@ module _ (s : Bytes) (slots t v : List ℕ) (h w k : ℕ) (e : h ≡ hash_all_va
       let l : length slots' ≡ length slots = ap length u.1 ∙ length-set slots place w in
       rw (u.0, u.2, u.3) (record {
         has = λ j z. ap (λ (q : List ℕ). any? (hit s j z) q || any? (hit s j z) (take k v)) u.1
-            ∙ ap (λ (q : Bool). q || any? (hit s j z) (take k v)) (any_set (hit s j z) slots place w (slot_in (length slots) h a) (rw f (hit_none s j z)))
+            ∙ ap (λ (q : Bool). q || any? (hit s j z) (take k v)) (any_set (hit s j z) slots place w (slot_in (length slots) h g.some) (rw f (hit_none s j z)))
             ∙ mix (any? (hit s j z) slots) (hit s j z w) (any? (hit s j z) (take k v)) ∙ ap (λ (q : Bool). q || hit s j z w) (x.has j z);
         placed = λ i p q. rw l (own_place i (omega (arith, l)) (rw u.1 at q) ∙ refl);
         noted = x.noted;
@@ -201,7 +193,7 @@ module _ (s : Bytes) (slots t v : List ℕ) (h w k : ℕ) (e : h ≡ hash_all_va
 
       own_place : (i : ℕ) → i < length slots → 0 < no_r (get_or (set slots place w) i 0) → slot_l (length slots) (hash_all_value (id_r false s (get_or slots' i 0))) ≡ i
       own_place i p q = rw (g.free f).1 (cases (eqb i place)
-          (λ n. let o = eqb-true i place n in rw (o, get_or-set_same slots place w 0 (slot_in (length slots) h a)) (ap (slot_l (length slots)) (sym e)))
+          (λ n. let o = eqb-true i place n in rw (o, get_or-set_same slots place w 0 (slot_in (length slots) h g.some)) (ap (slot_l (length slots)) (sym e)))
           (λ n. let o = get_or-set_other slots place i w 0 (eqb-false i place n) in rw o (x.placed i p (rw o at q))))
 
   behind : {own : ℕ → Id → Bool} → (get_or slots place 0 ≡ 0 → ⊥) → RowsHold s slots t (take k v) own → RowsHold s slots' t' (take r v') (λ j z. own j z || hit s j z w)
@@ -209,13 +201,13 @@ module _ (s : Bytes) (slots t v : List ℕ) (h w k : ℕ) (e : h ≡ hash_all_va
       let u = g.taken f in
       let d : take r v' ≡ take k v ++ (w ∷ []) = rw (u.0, u.3, add-one) (take-suc-set v k w c) in
       let P : ℕ → Bool = λ x. marked (mark_l t h) (hash_all_value (id_r false s x)) in
-      let m : marked (mark_l t h) (hash_all_value (id_r false s w)) ≡ true = rw (← e) (mark_here t h b) in
+      let m : marked (mark_l t h) (hash_all_value (id_r false s w)) ≡ true = rw (← e) (mark_here t h u.4) in
       let last : all? P (w ∷ []) ≡ true = and_both (P w) true m refl in
       rw (u.1, u.2, d) (record {
         has = λ j z. ap (λ (q : Bool). any? (hit s j z) slots || q) (any_append (hit s j z) (take k v) (w ∷ []))
             ∙ mix (any? (hit s j z) slots) (any? (hit s j z) (take k v)) (hit s j z w) ∙ ap (λ (q : Bool). q || hit s j z w) (x.has j z);
         placed = x.placed;
-        noted = all_append P (take k v) (w ∷ []) ∙ and_both (all? P (take k v)) (all? P (w ∷ [])) (all_mono (λ x. marked t (hash_all_value (id_r false s x))) P (λ x q. mark_old t h b (hash_all_value (id_r false s x)) q) (take k v) x.noted) last;
+        noted = all_append P (take k v) (w ∷ []) ∙ and_both (all? P (take k v)) (all? P (w ∷ [])) (all_mono (λ x. marked t (hash_all_value (id_r false s x))) P (λ x q. mark_old t h u.4 (hash_all_value (id_r false s x)) q) (take k v) x.noted) last;
       })
     where
       mix : (a b c : Bool) → (a || (b || (c || false))) ≡ ((a || b) || c)
@@ -227,23 +219,22 @@ module _ (s : Bytes) (slots t v : List ℕ) (h w k : ℕ) (e : h ≡ hash_all_va
   pub held_more : {own : ℕ → Id → Bool} → RowsHold s slots t (take k v) own → RowsHold s slots' t' (take r v') (λ j z. own j z || hit s j z w)
   held_more x = cases (eqb (get_or slots place 0) 0) (λ t. in_slot (eqb-true _ 0 t) x) (λ t. behind (eqb-false _ 0 t) x)
 
-pub kept_sizes : (slots t v : List ℕ) (h w k : ℕ) {r : ℕ} {slots' t' v' : List ℕ} → Slotted h w k slots t v r slots' t' v' → (length slots' ≡ length slots) × (length t' ≡ length t) × (r ≤ k + 1) × (length v' ≡ length v)
+pub kept_sizes : (slots t v : List ℕ) (h w k : ℕ) {r : ℕ} {slots' t' v' : List ℕ} → Slotted h w k slots t v r slots' t' v' → (r ≤ k + 1) × (length v' ≡ length v)
 kept_sizes slots t v h w k g = let place = slot_l (length slots) h in cases (eqb (get_or slots place 0) 0)
-    (λ n. let u = g.free (eqb-true _ 0 n) in (ap length u.1 ∙ length-set slots place w, ap length u.2, (let q = u.0 in omega arith), ap length u.3))
-    (λ n. let u = g.taken (eqb-false _ 0 n) in (ap length u.1, ap length u.2 ∙ mark_size t h, (let q = u.0 in omega arith), ap length u.3 ∙ length-set v k w))
+    (λ n. let u = g.free (eqb-true _ 0 n) in ((let q = u.0 in omega arith), ap length u.3))
+    (λ n. let u = g.taken (eqb-false _ 0 n) in ((let q = u.0 in omega arith), ap length u.3 ∙ length-set v k w))
 
-pub kept_free : {h w k : ℕ} (i : ℕ) (slots : List ℕ) {t v : List ℕ} → i ≡ slot_l (length slots) h → get_or slots i 0 ≡ 0 → Slotted h w k slots t v k (set slots i w) t v
-kept_free {h} {w} i slots q e = record { free = λ _. (refl, ap (λ (n : ℕ). set slots n w) q, refl, refl); taken = λ n. absurd (n (rw (← q) e)) }
+pub kept_free : {h w k x : ℕ} (slots : List ℕ) {slots' t v : List ℕ} → x ≡ get_or slots (slot_l (length slots) h) 0 → 0 < length slots → x ≡ 0 → slots' ≡ set slots (slot_l (length slots) h) w → Slotted h w k slots t v k slots' t v
+kept_free slots q a e f = record { some = a; free = λ _. (refl, f, refl, refl); taken = λ n. absurd (n (sym q ∙ e)) }
 
-pub kept_taken : {h w k : ℕ} (i : ℕ) (slots : List ℕ) {t t' v : List ℕ} → i ≡ slot_l (length slots) h → (get_or slots i 0 ≡ 0 → ⊥) → t' ≡ mark_l t h → Slotted h w k slots t v (k + 1) slots t' (set v k w)
-kept_taken i slots q n f = record { free = λ e. absurd (n (rw q e)); taken = λ _. (refl, refl, f, refl) }
+pub kept_taken : {h w k x : ℕ} (slots : List ℕ) {t t' v : List ℕ} → x ≡ get_or slots (slot_l (length slots) h) 0 → 0 < length slots → (x ≡ 0 → ⊥) → t' ≡ mark_l t h → 0 < length t → Slotted h w k slots t v (k + 1) slots t' (set v k w)
+kept_taken slots q a n f p = record { some = a; free = λ e. absurd (n (q ∙ e)); taken = λ _. (refl, refl, f, refl, p) }
 
 -- ---- rows for the ids of a record: those before i are there
 pub record Rowing (s : Bytes) (j : ℕ) (b : Bytes) (c at : ℕ) (slots₀ t₀ rows₀ : List ℕ) (i left : ℕ) (slots t rows : List ℕ) : Type 0 where
   pub scan : Scan id_c (λ (u : Unit {0}) (x : List Id). u) b c at tt i left tt
   pub done : Id → Bool
   pub split : (z : Id) → among? z (list_at id_c c b at) ≡ (done z || among? z (list_at id_c left b i))
-  pub sizes : (length slots ≡ length slots₀) × (length t ≡ length t₀)
   pub by : (own : ℕ → Id → Bool) → RowsHold s slots₀ t₀ rows₀ own → RowsHold s slots t rows (λ i z. own i z || (eqb i j && done z))
 
 and_no : (a : Bool) → (a && false) ≡ false
@@ -255,41 +246,39 @@ rowing s j b c at slots t rows h w = record {
   scan = start id_c _ b c at tt h w;
   done = λ z. false;
   split = λ z. refl;
-  sizes = (refl, refl);
   by = λ own x. held_to (λ i z. sym (or_no (own i z)) ∙ ap (λ (q : Bool). own i z || q) (sym (and_no (eqb i j)))) x;
 }
 
 module _ {s : Bytes} {j : ℕ} {b : Bytes} {c at : ℕ} {slots₀ t₀ rows₀ : List ℕ} {i left : ℕ} {slots t : List ℕ} (v : List ℕ) (k : ℕ) (x : Rowing s j b c at slots₀ t₀ rows₀ i left slots t (take k v)) where
-  pub rowing_go : {next : ℕ} {ok : Bool} {y : Id} {h : ℕ} (w : ℕ) {r : ℕ} {slots' t' v' : List ℕ} → 0 < left → Reads id_c b i ok next (λ a. a ≡ y) → h ≡ hash_all_value y → id_r false s w ≡ part 32 b i → no_r w ≡ group_mask_value j
-      → 0 < length slots → 0 < length t → k < length v → Slotted h w k slots t v r slots' t' v' → Rowing s j b c at slots₀ t₀ rows₀ next (left - 1) slots' t' (take r v')
-  rowing_go {next} {ok} {y} {h} w {r} {slots'} {t'} {v'} p rd e f n a d l g =
+  pub rowing_go : {next : ℕ} {y : Id} {h : ℕ} (w : ℕ) {r : ℕ} {slots' t' v' : List ℕ} → 0 < left → Found id_c b i next (λ a. a ≡ y) → h ≡ hash_all_value y → id_r false s w ≡ part 32 b i → no_r w ≡ group_mask_value j
+      → k < length v → Slotted h w k slots t v r slots' t' v' → Rowing s j b c at slots₀ t₀ rows₀ next (left - 1) slots' t' (take r v')
+  rowing_go {next} {y} {h} w {r} {slots'} {t'} {v'} p rd e f n l g =
       let u = here x.scan p rd in
       let q : id_r false s w ≡ y = f ∙ (id_bytes u).0 in
       let m : h ≡ hash_all_value (id_r false s w) = e ∙ ap hash_all_value (sym q) in
-      let z = kept_sizes slots t v h w k g in
       record {
         scan = on x.scan tt p u refl;
         done = λ o. x.done o || same? o y;
         split = λ o. x.split o ∙ ap (λ (k : List Id). x.done o || among? o k) u.list ∙ ap (λ (k : Id). x.done o || (same? o k || among? o (list_at id_c (left - 1) b next))) u.is ∙ sym (or_assoc (x.done o) (same? o y) (among? o (list_at id_c (left - 1) b next)));
-        sizes = (z.0 ∙ x.sizes.0, z.1 ∙ x.sizes.1);
-        by = λ own o. held_to (λ i z. ap (λ (q : Bool). (own i z || (eqb i j && x.done z)) || q) (row_says s w j y q n i z) ∙ or_and (own i z) (eqb i j) (x.done z) (same? z y)) (held_more s slots t v h w k m a d l g (x.by own o));
+        by = λ own o. held_to (λ i z. ap (λ (q : Bool). (own i z || (eqb i j && x.done z)) || q) (row_says s w j y q n i z) ∙ or_and (own i z) (eqb i j) (x.done z) (same? z y)) (held_more s slots t v h w k m l g (x.by own o));
       }
 
   pub rowing_end : left ≡ 0 → Rowed s j (list_at id_c c b at) slots₀ t₀ rows₀ slots t (take k v)
   rowing_end e = record {
-    sizes = x.sizes;
     by = λ own o. held_to (λ n z. ap (λ (q : Bool). own n z || (eqb n j && q)) (sym (or_no (x.done z)) ∙ sym (x.split z ∙ ap (λ (k : List Id). x.done z || among? z k) (none_left id_c b left i e).0))) (x.by own o);
   }
 
 -- rows for two lists of ids
 pub rowed_both : {s : Bytes} {j : ℕ} (a b : List Id) {slots t rows slots₁ t₁ rows₁ slots₂ t₂ rows₂ : List ℕ} → Rowed s j a slots t rows slots₁ t₁ rows₁ → Rowed s j b slots₁ t₁ rows₁ slots₂ t₂ rows₂ → Rowed s j (a ++ b) slots t rows slots₂ t₂ rows₂
 rowed_both {s} {j} a b x y = record {
-  sizes = (y.sizes.0 ∙ x.sizes.0, y.sizes.1 ∙ x.sizes.1);
   by = λ own o. held_to (λ i z. or_and (own i z) (eqb i j) (among? z a) (among? z b) ∙ ap (λ (q : Bool). own i z || (eqb i j && q)) (sym (among_append z a b))) (y.by (λ i z. own i z || (eqb i j && among? z a)) (x.by own o));
 }
 
 -- ---- a record that stands at a place, as it was read
-module _ (s : Bytes) (at : List ℕ) (i : ℕ) {m : ℕ} {ok : Bool} {y : Seen} (all : All (Known s) at) (h : i < length at) (rd : ReadsRec false s (get_or at i 0) ok m y) where
+pub stands_known : (s : Bytes) (at : List ℕ) (i : ℕ) → All (Known s) at → i < length at → reads? rec_c (view false s (get_or at i 0)) 0 ≡ true
+stands_known s at i all h = stands_at s (get_or at i 0) (known_at s at i all h).stands
+
+module _ (s : Bytes) (at : List ℕ) (i : ℕ) {m : ℕ} {y : Seen} (all : All (Known s) at) (h : i < length at) (rd : FoundRec false s (get_or at i 0) m y) where
   abbrev stands : Known s (get_or at i 0)
   stands = known_at s at i all h
 
@@ -501,9 +490,9 @@ pub linking : (w row : ℕ) (s b : Bytes) (c at : ℕ) (slots t v bits : List �
 linking w row s b c at slots t v bits h k = record { scan = start id_c _ b c at tt h k; done = λ p. false; split = λ p. refl; size = refl; by = λ own x. joined_none (λ i j _. refl) }
 
 module _ {w row : ℕ} {s b : Bytes} {c at : ℕ} {slots t v bits₀ : List ℕ} {i left : ℕ} {bits : List ℕ} (x : Linking w row s b c at slots t v bits₀ i left bits) where
-  pub linking_go : {next : ℕ} {ok : Bool} {y : Id} (z : ℕ) {bits' : List ℕ} → 0 < left → Reads id_c b i ok next (λ a. a ≡ y) → id_r false s z ≡ part 32 b i → length bits' ≡ length bits
+  pub linking_go : {next : ℕ} {y : Id} (z : ℕ) {bits' : List ℕ} → 0 < left → Found id_c b i next (λ a. a ≡ y) → id_r false s z ≡ part 32 b i → length bits' ≡ length bits
       → Linked w s slots t v bits bits' (λ own i j. own j (id_r false s z) && in_line row i j) → Linking w row s b c at slots t v bits₀ next (left - 1) bits'
-  linking_go {next} {ok} {y} z {bits'} p rd e n g =
+  linking_go {next} {y} z {bits'} p rd e n g =
       let u = here x.scan p rd in
       let q : id_r false s z ≡ y = e ∙ (id_bytes u).0 in
       record {
@@ -567,12 +556,12 @@ hit_join s j z w x e f =
     ∙ rw (id_join s w x, join_number w (no_r x) (no_small x), names_or (no_r w) (no_r x) j f) (and_or (same? z (id_r false s w)) (names (no_r w) j) (names (no_r x) j))
     ∙ sym (or_same (hit_is s j z w) (hit_is s j z x ∙ ap (λ (i : Id). same? z i && names (no_r x) j) (sym e)))
 
-pub again_is : {s : Bytes} {v : List ℕ} {k x : ℕ} {c : ℕ} {b : Bool} → (k ≡ 0 → ⊥) → c ≡ cmp_l (id_r false s (get_or v (k - 1) 0)) (id_r false s x)
-    → b ≡ (eqb c 1 && eqb (get_or v (k - 1) 0 % 4294967296 / 65536) (x % 4294967296 / 65536)) → b ≡ true → Again s v k x
+pub again_is : {s : Bytes} {v : List ℕ} {k x : ℕ} {a b : Bool} → (k ≡ 0 → ⊥) → a ≡ same? (id_r false s (get_or v (k - 1) 0)) (id_r false s x)
+    → b ≡ (a && eqb (get_or v (k - 1) 0 % 4294967296 / 65536) (x % 4294967296 / 65536)) → b ≡ true → Again s v k x
 unfolding no_r
-again_is {s} {v} {k} {x} {c} {b} n e f t =
-    let u = and_true (eqb c 1) (eqb (get_or v (k - 1) 0 % 4294967296 / 65536) (x % 4294967296 / 65536)) (sym f ∙ t) in
-    record { some = pos k n; id = same_is (id_r false s (get_or v (k - 1) 0)) (id_r false s x) (eq-eqb (cmp_l (id_r false s (get_or v (k - 1) 0)) (id_r false s x)) 1 (sym e ∙ eqb-true c 1 u.0)); group = eqb-true _ _ u.1 }
+again_is {s} {v} {k} {x} {a} {b} n e f t =
+    let u = and_true a (eqb (get_or v (k - 1) 0 % 4294967296 / 65536) (x % 4294967296 / 65536)) (sym f ∙ t) in
+    record { some = pos k n; id = same_is (id_r false s (get_or v (k - 1) 0)) (id_r false s x) (sym e ∙ u.0); group = eqb-true _ _ u.1 }
   where
     pos : (k : ℕ) → (k ≡ 0 → ⊥) → 0 < k
     pos zero n = absurd (n refl)

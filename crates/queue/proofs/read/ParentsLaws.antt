@@ -1,13 +1,14 @@
 -- The counters' loops, and that the list they make is the parents-first order. Assumes nothing.
 use Rattle.std.specs.Prelude.{◌≡◌, refl, Bool, true, false, cond, not, ◌&&◌, ◌||◌, List, [], ◌∷◌, ◌++◌, ℕ, zero, suc, ◌+◌, ◌-◌, ◌*◌, ◌/◌, ◌%◌, ◌^◌, ◌≤◌, ◌<◌, ltb, eqb, length, take, drop, get_or, set, replicate}
-use Rattle.std.proofs.Common.{ap, sym, ◌∙◌, subst, append_assoc, append-nil, arith, pow-suc, pow_pos, div-one, div-add-mod', add-zero, suc-mul, zero-mul, mul-le-mul_right, mul_comm, le_of_suc-le-suc, div-lt_iff_lt-mul, add-one, length-set, length-append, take-append-drop, get_or-set_same, get_or-set_other, take-suc-set, ext_get_or, length-take-le, eqb-true, eq-eqb, ne_eqb, ltb-true, ltb-false, lt-ltb, le-ltb}
-use Rattle.std.proofs.Math.Option.{some}
+use Rattle.std.proofs.Common.{ap, sym, ◌∙◌, subst, append_assoc, append-nil, arith, pow-suc, pow_pos, div-one, div-add-mod', add-zero, suc-mul, zero-mul, mul-le-mul_right, mul_comm, le_of_suc-le-suc, div-lt_iff_lt-mul, add-one, length-set, length-append, take-append-drop, get_or-set_same, get_or-set_other, take-suc-set, length-take-le, eqb-true, eq-eqb, ne_eqb, ltb-true, ltb-false, lt-ltb, le-ltb}
+use Rattle.std.proofs.Math.Option.{none, some}
 use Rattle.std.proofs.Math.Nat.{pow-succ', div-div-eq-div-mul}
 use Rattle.std.proofs.Math.Arith.{digits_mod}
 use Rattle.std.proofs.Math.Seq.{set_out}
-use Rattle.std.proofs.lemmas.List.{length-replicate, get_or-replicate, set-get_or}
+use Rattle.std.proofs.lemmas.List.{length-replicate, set-get_or}
 use Rattle.std.proofs.lemmas.Bool.{eqb-false, not-true, not-false}
 use Rattle.std.specs.Int.Bits.{block_half, block_odd}
+use Rattle.queue.specs.Areas.{read_area}
 use Rattle.queue.specs.Basics.{cons_same, any_same}
 use Rattle.queue.specs.Codec as codec
 use Rattle.queue.specs.Codec.{All, cases}
@@ -19,10 +20,10 @@ use Rattle.queue.specs.bytes.ReaderLaws.{false_true}
 use Rattle.queue.specs.bytes.PutAs.{Put, be_last}
 use Rattle.queue.specs.theorems.SoundParts.{Before, InRange, sound_of_law}
 use Rattle.queue.specs.layout.FormsCodec.{queue_c}
-use Rattle.queue.specs.check.AreaAs.{AreaAs, AreaIs, records_of}
+use Rattle.queue.specs.check.AreaAs.{AreaAs, records_of}
 use Rattle.queue.specs.Areas.{layout, read_area, stands_reads, reads_stands}
 use Rattle.queue.specs.Checked.{Written, written}
-use Rattle.queue.specs.read.SelectAs.{Row, rows, Table, ahead?, id_at, RowsAs, chosen, Gathered}
+use Rattle.queue.specs.read.SelectAs.{Row, ahead?, id_at, RowsAs, chosen, Selected}
 use Rattle.queue.specs.read.FeesAs.{no_rec, rec_at_value, rec_of_row, Known}
 use Rattle.queue.specs.read.fees.Laws as laws
 use Rattle.queue.specs.read.parents.Counters.{first_one, raise, lower, counted, picks, start, by_counters, Kids, rows_at}
@@ -36,26 +37,18 @@ use Rattle.queue.specs.paper.Reading.{first?, selected?}
 use Rattle.queue.specs.paper.Calls.{ids_bytes, told_out, read_of}
 use Rattle.queue.specs.paper.Parents.{waits_for?, parents_first_value, parents_first_of}
 use Rattle.queue.specs.declared.Kind.TheVariants.{Nothing}
-use Rattle.queue.specs.declared.Answer.TheVariants.{Refused, Done}
+use Rattle.queue.specs.paper.Answer.{Refused, Done}
 use Rattle.queue.specs.declared.check.area.Area.{Area}
 use Rattle.queue.proofs.bytes.PutLaws.{then, recast}
 use Rattle.queue.proofs.bytes.PutByteLaws.{be_same}
 use Rattle.queue.proofs.read.ReadingLaws.{told_4, told_100}
-use Rattle.queue.proofs.read.SelectLaws.{rows_take, rows_places, sort_rows, ids_size, chosen_is}
-use Rattle.queue.proofs.read.FeesLaws.{get_d_map, known_at, places_known, map_recs, rows_recs, gathered_known}
+use Rattle.queue.proofs.read.SelectLaws.{ids_size, chosen_is}
+use Rattle.queue.proofs.read.FeesLaws.{get_d_map, known_at, places_known, rows_known, rows_recs, selected_recs}
 use Rattle.queue.proofs.check.AreaLaws.{product}
 use Rattle.queue.proofs.read.LinksBitLaws.{kids_any, line_in, lines_room}
 use Rattle.queue.specs.layout.LimitsAs.{need_most}
 
 -- ---- ones
-pub one_go : (v : List ℕ) (i : ℕ) → i < length v → ((j : ℕ) → j < i → get_or v j 0 ≡ 1) → (j : ℕ) → j < i + 1 → get_or (set v i 1) j 0 ≡ 1
-one_go v i l h j k = cases (eqb j i)
-    (λ t. let e = eqb-true j i t in rw e (get_or-set_same v i 1 0 l))
-    (λ t. let e = eqb-false j i t in get_or-set_other v i j 1 0 e ∙ h j (cases (ltb j i) (λ u. ltb-true j i u) (λ u. let o = ltb-false j i u in absurd (e (let z : j ≡ i = omega arith in z)))))
-
-pub one_end : (v : List ℕ) (i n : ℕ) → length v ≡ n → n ≤ i → ((j : ℕ) → j < i → get_or v j 0 ≡ 1) → v ≡ replicate n 1
-one_end v i n e h f = ext_get_or 0 v (replicate n 1) (e ∙ sym (length-replicate n 1)) (λ j k. f j (omega arith) ∙ sym (get_or-replicate n j 1 0 (omega arith)))
-
 pub few_ones : (n : ℕ) {cs : List ℕ} → cs ≡ replicate n 1 → Few 1 cs
 few_ones n e = rw e (record { all = go n })
   where
@@ -593,17 +586,6 @@ module _ (s : Bytes) where
     apart = pair_from (sort ahead? z) (sort_apart ahead? (λ v w. Differ (place_of v) (place_of w)) (λ v w d. same_sym (rec_at_value s (place_of w)).id (rec_at_value s (place_of v)).id ∙ d) z (pair_to z n.apart));
   }
 
-module _ (s : Bytes) {m : ℕ} (a b c : List ℕ) {a' b' c' : List ℕ} (named : Named s (map (λ w. w.1.1) (rows a b c))) (t : Table m a' b' c' (sort ahead? (rows a b c))) where
-  the_places : c' ≡ map (λ (w : Row). w.1.1) (sort ahead? (rows a b c))
-  the_places = let v = t.even in sym (rows_places a' b' c' (v.times ∙ sym v.ranks) (v.places ∙ sym v.ranks)) ∙ ap (map (λ (w : Row). w.1.1)) t.is
-
-  pub rows_named : Named s c'
-  rows_named = rw the_places (named_sort s (rows a b c) named)
-
-  pub rows_listed : (out : Bytes) {r : Written} → r ≡ told_out (ids_bytes (map (λ (r : Rec). r.id) (parents_first_value waits_for? (map (rec_at_value s) c')))) out
-      → r ≡ told_out (ids_bytes (map (λ (r : Rec). r.id) (parents_first_value waits_for? (map (rec_of_row s) (sort ahead? (rows a b c)))))) out
-  rows_listed out e = e ∙ ap (λ (l : List Rec). told_out (ids_bytes (map (λ (r : Rec). r.id) (parents_first_value waits_for? l))) out) (ap (map (rec_at_value s)) the_places ∙ map_recs s (sort ahead? (rows a b c)))
-
 -- ---- the rows that were gathered
 modest_rows : (s : Bytes) (z : List Row) (l : List Rec) → RowsAs s z l → All Modest l → All (λ w. Modest (rec_of_row s w)) z
 modest_rows s z l h m = go z (rw (rows_recs s z l h) m)
@@ -620,21 +602,18 @@ apart_rows s (w ∷ z) h = (go z h.0, apart_rows s z h.1)
     go [] h = tt
     go (v ∷ z) h = (below_not_same (rec_of_row s w).id (rec_of_row s v).id h.0, go z h.1)
 
-pub gathered_named : {s : Bytes} {l : List Rec} {room m : ℕ} {a b c : List ℕ} → Gathered s l room m a b c → Pairwise Before l → All Modest l → Named s (map (λ w. w.1.1) (rows (take m a) (take m b) (take m c)))
-gathered_named {s} {l} {room} {m} {a} {b} {c} g p q =
-    let z = take m (rows a b c) in
-    record {
-      known = places_known s (rows (take m a) (take m b) (take m c)) (gathered_known g);
-      short = rw (rows_take m a b c) (all_from s (Short s) z (modest_rows s z l g.listed q));
-      apart = rw (rows_take m a b c) (pair_from s z (apart_rows s z (rw (rows_recs s z l g.listed) p)));
-    }
+-- the places that were selected
+module _ {s : Bytes} {l : List Rec} {n : ℕ} {c : List ℕ} (x : Selected s l n c) (p : Pairwise Before l) where
+  pub selected_named : All Modest l → Named s (take n c)
+  selected_named q = rw x.places (named_sort s x.table (record {
+    known = places_known s x.table (rows_known s x.table l x.listed);
+    short = all_from s (Short s) x.table (modest_rows s x.table l x.listed q);
+    apart = pair_from s x.table (apart_rows s x.table (rw (rows_recs s x.table l x.listed) p));
+  }))
 
-pub gathered_listed : {s : Bytes} {l : List Rec} {room m : ℕ} {a b c : List ℕ} (out : Bytes) {w : Written} → Gathered s l room m a b c → Pairwise Before l
-    → w ≡ told_out (ids_bytes (map (λ (r : Rec). r.id) (parents_first_value waits_for? (map (rec_of_row s) (sort ahead? (rows (take m a) (take m b) (take m c))))))) out
-    → w ≡ told_out (ids_bytes (map (λ (r : Rec). r.id) (parents_first_value waits_for? (sort first? l)))) out
-gathered_listed {s} {l} {room} {m} {a} {b} {c} out g h e =
-    e ∙ ap (λ (z : List Row). told_out (ids_bytes (map (λ (r : Rec). r.id) (parents_first_value waits_for? (map (rec_of_row s) (sort ahead? z))))) out) (rows_take m a b c)
-    ∙ ap (λ (k : List Rec). told_out (ids_bytes (map (λ (r : Rec). r.id) (parents_first_value waits_for? k))) out) (rows_recs s (sort ahead? (take m (rows a b c))) (sort first? l) (sort_rows s (take m (rows a b c)) l g.listed h))
+  pub selected_listed : (out : Bytes) {w : Written} → w ≡ told_out (ids_bytes (map (λ (r : Rec). r.id) (parents_first_value waits_for? (map (rec_at_value s) (take n c))))) out
+      → w ≡ told_out (ids_bytes (map (λ (r : Rec). r.id) (parents_first_value waits_for? (sort first? l)))) out
+  selected_listed out e = e ∙ ap (λ (k : List Rec). told_out (ids_bytes (map (λ (r : Rec). r.id) (parents_first_value waits_for? k))) out) (selected_recs x p)
 
 -- ---- the call
 module _ {s : Bytes} {x : Area} (now height : ℕ) {q : Queue} (a : AreaAs s x q) where
@@ -648,9 +627,9 @@ module _ {s : Bytes} {x : Area} (now height : ℕ) {q : Queue} (a : AreaAs s x q
   unfolding parents_first_of read_of
   parents_100 out r e = e ∙ ap (λ (l : List Rec). told_out (ids_bytes (map (λ (r : Rec). r.id) (parents_first_value waits_for? (sort first? l)))) out) (chosen_is now height a) ∙ rw r
 
-pub parents_3 : (s : Bytes) (now height : ℕ) (out : Bytes) {x : Area} → AreaIs s x → x.ok ≡ false → written (Refused 3) out ≡ parents_first_of s now height out
+pub parents_3 : (s : Bytes) (now height : ℕ) (out : Bytes) → read_area s ≡ none → written (Refused 3) out ≡ parents_first_of s now height out
 unfolding parents_first_of read_of
-parents_3 s now height out a f = rw (a.bad f)
+parents_3 s now height out e = rw e
 
 -- ---- a long area holds what its first part holds
 need_most_law : (q : Queue) → InRange q.limits → need q.limits ≤ need_most

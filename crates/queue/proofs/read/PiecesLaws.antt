@@ -12,8 +12,9 @@ use Rattle.queue.specs.bytes.ReaderLaws.{Turn, none_left}
 use Rattle.queue.specs.bytes.ViewAs.{view}
 use Rattle.queue.specs.layout.FormsCodec.{form_c, after_in_value, turn_in}
 use Rattle.queue.specs.Areas.{read_area}
-use Rattle.queue.specs.layout.FrameAs.{facts_of}
-use Rattle.queue.specs.check.AreaAs.{AreaIs}
+use Rattle.std.specs.Prelude as std
+use Rattle.queue.specs.layout.FrameAs.{facts_of, mined_at}
+use Rattle.queue.specs.check.AreaAs.{AreaIn}
 use Rattle.queue.specs.read.PiecesAs.{passes_f, passes?, piece_of, part_of, pieces_of, answer_bytes, told_pieces, due_at, piece_at, piece_len_value, PieceIn, MeasureAs}
 use Rattle.queue.specs.paper.Records.{Bytes, Id, Rec, Queue}
 use Rattle.queue.specs.paper.Lists.{is_some, one, count, filter, map, concat, maybe}
@@ -24,7 +25,7 @@ use Rattle.queue.specs.paper.Reading as reading
 use Rattle.queue.specs.Checked.{written}
 use Rattle.queue.specs.paper.Calls.{counted, entry_bytes, ids_bytes, placed_bytes, due_bytes, told_out, read_of}
 use Rattle.queue.specs.declared.Kind.TheVariants.{Nothing}
-use Rattle.queue.specs.declared.Answer.TheVariants.{Refused, Done}
+use Rattle.queue.specs.paper.Answer.{Refused, Done}
 use Rattle.queue.specs.declared.layout.frame.Time.{Time}
 use Rattle.queue.specs.declared.layout.frame.Height.{Height}
 use Rattle.queue.specs.declared.layout.frame.Seen.{Seen}
@@ -35,10 +36,10 @@ use Rattle.queue.specs.declared.read.pieces.Sizes.{Sizes}
 use Rattle.queue.proofs.bytes.PutLaws.{then, recast, kept, Left, begun, onward, done, nothing}
 use Rattle.queue.proofs.bytes.PutByteLaws.{be_same}
 use Rattle.queue.proofs.read.ReadingLaws.{id_here, state_here, place_here, entry_in_law, entry_is, entry_size, due_facts, told_4, told_100}
-use Rattle.queue.proofs.layout.TurnLaws.{Scan, start, on, end, SeenIn, ReadsRec, seen, see}
+use Rattle.queue.proofs.layout.TurnLaws.{Scan, start, on, end, SeenIn, FoundRec, seen, see}
 
 -- ---- one piece
-module _ {s : Bytes} {base m : ℕ} {ok : Bool} {y : Seen} {r : Rec} (h : base ≤ length s) (x : SeenIn false s base ok m y r) where
+module _ {s : Bytes} {base m : ℕ} {y : Seen} {r : Rec} (h : base ≤ length s) (x : SeenIn false s base m y r) where
   pub piece_in : PieceIn s base y
   piece_in = record { id = (id_here h x).1; up = (place_here h x).0; entry = entry_in_law h x }
 
@@ -86,7 +87,7 @@ pub record Measuring (w : What) (s : Bytes) (n at i left c z : ℕ) : Type 0 whe
 pub measure_start : (w : What) (s : Bytes) (n at : ℕ) → at ≤ length s → whole (form_c false rec_c) n s at ≡ true → Measuring w s n at at n 0 0
 measure_start w s n at h k = record { scan = start (form_c false rec_c) (measure_f w) s n at (0, 0) h k; few = omega arith; most = omega arith }
 
-module _ {w : What} {s : Bytes} {n at i left c z : ℕ} (g : Measuring w s n at i left c z) (p : 0 < left) {m : ℕ} {ok : Bool} {y : Seen} (rd : ReadsRec false s i ok m y) where
+module _ {w : What} {s : Bytes} {n at i left c z : ℕ} (g : Measuring w s n at i left c z) (p : 0 < left) {m : ℕ} {y : Seen} (rd : FoundRec false s i m y) where
   pub measure_in : PieceIn s i y
   measure_in = piece_in g.scan.within (seen false g.scan p rd).is
 
@@ -141,8 +142,8 @@ pub record Writing (w : What) (s : Bytes) (n from : ℕ) (d₀ : Bytes) (at i le
 pub writing_start : (w : What) {s : Bytes} {n from : ℕ} (d : Bytes) (at : ℕ) → from ≤ length s → whole (form_c false rec_c) n s from ≡ true → Writing w s n from d at from n d at
 writing_start w {s} {n} {from} d at h k = record { within = h; all = k; todo = begun d at (pieces_of w (list_at (form_c false rec_c) n s from)); len = refl }
 
-module _ {w : What} {s : Bytes} {n from : ℕ} {d₀ : Bytes} {at i left : ℕ} {d : Bytes} {o : ℕ} (g : Writing w s n from d₀ at i left d o) (p : 0 < left) {m : ℕ} {ok : Bool} {y : Seen} (rd : ReadsRec false s i ok m y) where
-  the_turn : Turn (form_c false rec_c) s left i (after_in_value false s i m) (SeenIn false s i ok m y)
+module _ {w : What} {s : Bytes} {n from : ℕ} {d₀ : Bytes} {at i left : ℕ} {d : Bytes} {o : ℕ} (g : Writing w s n from d₀ at i left d o) (p : 0 < left) {m : ℕ} {y : Seen} (rd : FoundRec false s i m y) where
+  the_turn : Turn (form_c false rec_c) s left i (after_in_value false s i m) (SeenIn false s i m y)
   the_turn = turn_in false left g.within g.all p rd
 
   pub writing_in : PieceIn s i y
@@ -180,15 +181,15 @@ writing_end {w} {s} {n} {from} {d₀} {at} {i} {left} {d} {o} g e =
     done f
 
 -- ---- the answer
-module _ (w : What) (s out : Bytes) {x : Area} (a : AreaIs s x) where
-  pub told_3 : x.ok ≡ false → written (Refused 3) out ≡ told_pieces w s out
-  unfolding told_pieces read_of
-  told_3 e = rw (a.bad e)
+pub told_3 : (w : What) (s out : Bytes) → read_area s ≡ none → written (Refused 3) out ≡ told_pieces w s out
+unfolding told_pieces read_of
+told_3 w s out e = rw e
 
-  module _ (t : x.ok ≡ true) {m : Sizes} (k : MeasureAs w (list_at (form_c false rec_c) x.open.head.count s x.open.start) x.open.head.count m) where
+module _ (w : What) (s out : Bytes) {x : Area} (a : AreaIn s x) where
+  module _ {m : Sizes} (k : MeasureAs w (list_at (form_c false rec_c) x.open.head.count s x.open.start) x.open.head.count m) where
     bytes_is : told_pieces w s out ≡ told_out (answer_bytes w (list_at (form_c false rec_c) x.open.head.count s x.open.start)) out
     unfolding told_pieces read_of
-    bytes_is = let u = a.good t in rw (u.1, u.2.store.list)
+    bytes_is = rw (a.is, a.read.store.list)
 
     size_is : length (answer_bytes w (list_at (form_c false rec_c) x.open.head.count s x.open.start)) ≡ 4 + m.size
     unfolding answer_bytes
@@ -202,8 +203,7 @@ module _ (w : What) (s out : Bytes) {x : Area} (a : AreaIs s x) where
         → written (Done Nothing) out' ≡ told_pieces w s out
     unfolding answer_bytes
     answer_100 h p q =
-        let u = a.good t in
-        let c : m.count < 256 ^ 4 = let z = u.2.store.head.count_small in let y = k.few in omega arith in
+        let c : m.count < 256 ^ 4 = let z = a.read.store.head.count_small in let y = k.few in omega arith in
         let L = list_at (form_c false rec_c) x.open.head.count s x.open.start in
         let e : be_last 4 m.count ++ pieces_of w L ≡ answer_bytes w L = ap (λ (b : Bytes). b ++ pieces_of w L) (be_same 4 m.count c ∙ ap (codec.be 4) k.count) in
         sym (bytes_is ∙ told_100 (recast (then p q) e refl refl) (omega (arith, k.size)))
@@ -264,11 +264,15 @@ unfolding place_bytes
 conf_one i none n b l e f = (omega arith, f)
 conf_one i (some p) n b l e f = (omega arith, ap (λ y. (i ++ (codec.be 4 p.0 ++ p.1)) ++ y) f)
 
+mined_some : (o : Option (ℕ × Id)) → std.is_some (mined_at o) ≡ is_some o
+mined_some none = refl
+mined_some (some p) = refl
+
 conf_each : (l : List Rec) → (count (passes? Confirmed) l ≡ length (conf_list l)) × (pieces_of Confirmed l ≡ concat (map placed_bytes (conf_list l)))
 unfolding passes_f piece_of pieces_of facts_of
 conf_each [] = (refl, refl)
 conf_each (r ∷ l) = let i = conf_each l in cases (mined? r)
-    (λ t. rw t (conf_one r.id r.place (count (passes? Confirmed) l) (pieces_of Confirmed l) (conf_list l) i.0 i.1))
+    (λ t. rw (mined_some r.place, t) (conf_one r.id r.place (count (passes? Confirmed) l) (pieces_of Confirmed l) (conf_list l) i.0 i.1))
     (λ t. rw t (omega (arith, i.0), i.1))
 
 pub conf_told : (s out : Bytes) → told_pieces Confirmed s out ≡ read_of (λ q. counted placed_bytes (reading.confirmations q)) s out

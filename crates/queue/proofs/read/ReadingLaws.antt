@@ -1,7 +1,8 @@
 -- The reading calls: a search by id, what was looked up, and each exit. Assumes nothing.
-use Rattle.std.specs.Prelude.{◌≡◌, refl, Bool, true, false, ◌&&◌, ◌||◌, List, [], ◌∷◌, ◌++◌, ℕ, ◌+◌, ◌-◌, ◌*◌, ◌^◌, ◌≤◌, ◌<◌, ltb, leb, eqb, length, drop, take}
+use Rattle.std.specs.Prelude.{◌≡◌, refl, Bool, true, false, ◌&&◌, ◌||◌, List, [], ◌∷◌, ◌++◌, ℕ, ◌+◌, ◌-◌, ◌*◌, ◌^◌, ◌≤◌, ◌<◌, ltb, leb, eqb, length, drop, take, Result, MatchOption, MatchResult, ok_or}
 use Rattle.std.proofs.Common.{ap, sym, ◌∙◌, append_assoc, arith, zero-add, length-append, length-drop, drop-drop, take_all, take_at, drop_at, length-take-le, eq-eqb, ne_eqb, lt-ltb, le-ltb}
 use Rattle.std.proofs.Math.Option.{Option, none, some}
+use Rattle.std.specs.Prelude as std
 use Rattle.std.proofs.lemmas.List.{drop-append-le}
 use Rattle.queue.specs.theorems.Bound.{bytes_most, number_most, place_most}
 use Rattle.queue.specs.Codec as codec
@@ -10,39 +11,38 @@ use Rattle.queue.specs.bytes.PutAs.{Put}
 use Rattle.queue.specs.theorems.Plain.{opt_plain, terms_plain, place_plain, ids_plain, id_plain, rec_plain, body_plain, head_plain}
 use Rattle.queue.specs.paper.Kinds.{newest}
 use Rattle.queue.specs.layout.FrameCodec.{rec_k, rec_c, id_c, terms_k, terms_c, label_c, place_c, body_c, spans_id}
-use Rattle.queue.specs.bytes.ReaderAs.{is_got, val_of, whole, list_at}
+use Rattle.queue.specs.bytes.ReaderAs.{is_got, val_of, whole, list_at, reads?}
 use Rattle.queue.specs.bytes.ReaderLaws.{false_true, spans_vec}
 use Rattle.queue.specs.bytes.ViewAs.{view}
-use Rattle.queue.specs.layout.FormsCodec.{form_c, after_in_value, turn_in}
+use Rattle.queue.specs.layout.FormsCodec.{form_c, after_in_value, turn_in, stands_in}
 use Rattle.queue.specs.Areas.{read_area}
-use Rattle.queue.specs.layout.FrameAs.{terms_at, facts_of, opt_num, SeenAs}
-use Rattle.queue.specs.check.RulesAs.{due_f, weight, sum}
-use Rattle.queue.specs.check.AreaAs.{AreaAs, AreaIs}
+use Rattle.queue.specs.layout.FrameAs.{terms_at, facts_of, times, heights, SeenAs}
+use Rattle.queue.specs.check.RulesAs.{time_due, height_due, due_f, weight, sum}
+use Rattle.queue.specs.check.AreaAs.{AreaAs, AreaIn}
 use Rattle.queue.specs.bytes.Parts.{part}
-use Rattle.queue.specs.read.ReadingAs.{Here, FoundAs, FoundEnd, off, hit, look_rec, look_in, look_of, LookAs, SignedAs, part_in, EntryIn, entry_at, entry_len_value}
+use Rattle.queue.specs.read.ReadingAs.{Here, StandsAt, off, hit, look_rec, look_in, look_of, LookedUp, LookRefused, SignedAt, SignedRefused, part_in, EntryIn, entry_at, entry_len_value}
 use Rattle.queue.specs.paper.Records.{Bytes, Id, Terms, Held, Rec, Queue}
 use Rattle.queue.specs.paper.Lists.{is_some, maybe, one, any?, find, concat, is_empty?}
 use Rattle.queue.specs.paper.Ids.{cmp_l}
-use Rattle.queue.specs.paper.Sound.{inputs, reads, content, label_len, pending?}
+use Rattle.queue.specs.paper.Sound.{inputs, reads, content, label_len}
 use Rattle.queue.specs.paper.Area.{terms_bytes, place_bytes, head_bytes, rec_bytes, flagged, id_list_bytes, held_under, held_bytes, rec_under}
 use Rattle.queue.specs.paper.Changing.{named?, reached?, due?}
 use Rattle.queue.specs.Checked.{written}
 use Rattle.queue.specs.paper.Calls.{id?, entry_bytes, cursor_bytes, told_out, look_up, entry_of, end_of, signed_part, signed_bytes_of, number_of, read_of}
-use Rattle.queue.specs.declared.Kind.{Kind}
 use Rattle.queue.specs.declared.Kind.TheVariants.{Nothing}
-use Rattle.queue.specs.declared.Answer.{Answer}
-use Rattle.queue.specs.declared.Answer.TheVariants.{Refused, Done}
+use Rattle.queue.specs.paper.Answer.{Answer, Refused, Done}
 use Rattle.queue.specs.declared.layout.frame.Time.{Time}
 use Rattle.queue.specs.declared.layout.frame.Height.{Height}
 use Rattle.queue.specs.declared.check.rules.Query.TheVariants.{Due}
 use Rattle.queue.specs.declared.layout.frame.Seen.{Seen}
 use Rattle.queue.specs.declared.check.area.Area.{Area}
-use Rattle.queue.specs.declared.read.find.Found.{Found}
-use Rattle.queue.specs.declared.read.reading.Looked.{Looked}
 use Rattle.queue.specs.declared.read.reading.Place.{Place}
+use Rattle.queue.specs.declared.refusal.Refusal.{Refusal}
+use Rattle.queue.specs.declared.refusal.Refusal.TheVariants.{NotFound}
+use Rattle.queue.specs.Refusal.{refusal_number}
 use Rattle.queue.proofs.bytes.PutLaws.{length_be, recast, put_over}
 use Rattle.queue.proofs.bytes.PutByteLaws.{be_same, between}
-use Rattle.queue.proofs.layout.TurnLaws.{Scan, on, stop, end, SeenIn, ReadsRec, seen, see}
+use Rattle.queue.proofs.layout.TurnLaws.{Scan, on, stop, end, SeenIn, FoundRec, seen, see}
 
 -- ---- what values say of each other
 some_same : {A : Type 0} {a b : A} → some a ≡ some b → a ≡ b
@@ -57,15 +57,6 @@ hit_same e = cc
 hit_off : {X : Type 0} {r : Rec} {n : ℕ} → hit r ≡ off n → X
 hit_off e = let z : ◌≡◌ {A = ℕ} 0 1 = cc in absurd (omega arith)
 
-refused_same : {m n : ℕ} → Refused m ≡ Refused n → m ≡ n
-refused_same e = cc
-
-done_same : {j k : Kind} → Done j ≡ Done k → j ≡ k
-done_same e = cc
-
-refused_done : {X : Type 0} {n : ℕ} {k : Kind} → Refused n ≡ Done k → X
-refused_done e = let z : ◌≡◌ {A = ℕ} 0 1 = cc in absurd (omega arith)
-
 -- ---- finding
 unfoldable pub find_f : Id → ℕ → List Rec → Option Rec × ℕ
 find_f z at l = (find (named? z) l, at + end_of z l)
@@ -75,78 +66,74 @@ unfolding whole list_at decs
 one_here s i next r e = rw e (refl, refl)
 
 -- the bytes of the frame that was read
-rec_long : {s : Bytes} {i m : ℕ} {ok : Bool} {y : Seen} {r : Rec} → SeenIn false s i ok m y r → length (rec_bytes r) ≡ m
+rec_long : {s : Bytes} {i m : ℕ} {y : Seen} {r : Rec} → SeenIn false s i m y r → length (rec_bytes r) ≡ m
 rec_long {r = r} w = ap length (sym (rec_plain r)) ∙ w.1.size
 
 module _ (z : Id) {s : Bytes} {n at i left : ℕ} (x : Scan (form_c false rec_c) (find_f z) s n at at i left i) where
-  pub find_go : {m j : ℕ} {ok : Bool} {y : Seen} → 0 < left → ReadsRec false s i ok m y → j ≡ after_in_value false s i m → (cmp_l z y.id ≡ 1 → ⊥) → Scan (form_c false rec_c) (find_f z) s n at at j (left - 1) j
+  pub find_go : {m j : ℕ} {y : Seen} → 0 < left → FoundRec false s i m y → j ≡ after_in_value false s i m → (cmp_l z y.id ≡ 1 → ⊥) → Scan (form_c false rec_c) (find_f z) s n at at j (left - 1) j
   unfolding find_f after_in_value
   find_go {m} {j} h r g e = let t = see false x h r g in
       let k : i + (length (rec_bytes t.item) + end_of z (list_at (form_c false rec_c) (left - 1) s j)) ≡ j + end_of z (list_at (form_c false rec_c) (left - 1) s j) = omega (arith, rec_long t.is) in
       on x j h t (rw (← t.is.0.id, ne_eqb _ _ e, k))
 
-  pub find_stop : {m : ℕ} {ok : Bool} {y : Seen} → 0 < left → ReadsRec false s i ok m y → cmp_l z y.id ≡ 1
-      → FoundAs s (record { found = true; at = i }) (find (named? z) (list_at (form_c false rec_c) n s at)) × FoundEnd z at (list_at (form_c false rec_c) n s at) (record { found = true; at = i })
+  pub find_stop : {m : ℕ} {y : Seen} → 0 < left → FoundRec false s i m y → cmp_l z y.id ≡ 1 → StandsAt s z at (list_at (form_c false rec_c) n s at) i
   unfolding find_f
   find_stop {m} h r e = let t = seen false x h r in
       let f : ◌≡◌ {A = Option Rec × ℕ} (some t.item, i + (length (rec_bytes t.item) + 0)) (find (named? z) (list_at (form_c false rec_c) n s at), at + end_of z (list_at (form_c false rec_c) n s at)) = stop x t (rw (← t.is.0.id, eq-eqb _ _ e)) in
       let o = one_here s i (after_in_value false s i m) t.item t.here in
-      let g : some t.item ≡ find (named? z) (list_at (form_c false rec_c) n s at) = ap (λ p. p.0) f in (
-        record { good = λ _. (t.item, sym g, (x.within, o.0, o.1)); bad = λ e. false_true (sym e) },
-        λ u _ v. let k : t.item ≡ u = some_same (g ∙ v) in ap (λ w. i + length (rec_bytes w)) (sym k) ∙ omega (arith, ap (λ p. p.1) f),
-      )
+      record { r = t.item; found = sym (ap (λ p. p.0) f); here = (x.within, o.0, o.1); end = omega (arith, ap (λ p. p.1) f) }
 
-  pub find_end : left ≡ 0
-      → FoundAs s (record { found = false; at = 0 }) (find (named? z) (list_at (form_c false rec_c) n s at)) × FoundEnd z at (list_at (form_c false rec_c) n s at) (record { found = false; at = 0 })
+  pub find_end : left ≡ 0 → find (named? z) (list_at (form_c false rec_c) n s at) ≡ none
   unfolding find_f
-  find_end e = (record { good = λ z. false_true z; bad = λ _. sym (ap (λ p. p.0) (end x e)) }, λ u v w. false_true v)
+  find_end e = sym (ap (λ p. p.0) (end x e))
 
 -- the record that stands there is what a reader finds there
-pub met : {s : Bytes} {at m : ℕ} {ok : Bool} {y : Seen} {r : Rec} → Here s at r → ReadsRec false s at ok m y → SeenIn false s at ok m y r
-met {s} {at} {m} {ok} {y} {r} h x =
+pub met : {s : Bytes} {at m : ℕ} {y : Seen} {r : Rec} → Here s at r → FoundRec false s at m y → SeenIn false s at m y r
+met {s} {at} {m} {y} {r} h x =
     let t = turn_in false 1 h.0 h.1 (omega arith) x in
     let e : t.item ≡ r = let z : ◌≡◌ {A = List Rec} (t.item ∷ list_at (form_c false rec_c) (1 - 1) s (after_in_value false s at m)) (r ∷ []) = sym t.list ∙ h.2 in cc in
     rw (← e) t.is
+
+-- it is one that a reader may read
+pub stands_here : (s : Bytes) (at : ℕ) {r : Rec} → Here s at r → reads? rec_c (view false s at) 0 ≡ true
+stands_here s at h = stands_in rec_c false s 1 h.0 h.1 (omega arith)
 
 -- ---- looking up
 pub key : {k id : Id} → length id ≡ 32 → k ≡ part 32 (view false id 0) 0 → k ≡ id
 unfolding part view
 key {k} {id} h e = e ∙ take_all 32 id (omega arith)
 
-bad_look : (s id : Bytes) (n : ℕ) → 0 < n → look_of s id ≡ off n → LookAs s id (record { refusal = n; at = 0 })
-bad_look s id n h e = record { good = λ z. absurd (let y : ⊥ = omega arith in y); bad = λ _. e }
-
-pub look_3 : (s id : Bytes) {x : Area} → AreaIs s x → x.ok ≡ false → LookAs s id (record { refusal = 3; at = 0 })
+pub look_3 : (s id : Bytes) → read_area s ≡ none → look_of s id ≡ off 3
 unfolding look_of
-look_3 s id a f = bad_look s id 3 (omega arith) (rw (a.bad f))
+look_3 s id e = rw e
 
-module _ (s id : Bytes) {x : Area} (a : AreaIs s x) (t : x.ok ≡ true) where
-  pub look_5 : (length id ≡ 32 → ⊥) → LookAs s id (record { refusal = 5; at = 0 })
+module _ (s id : Bytes) {x : Area} (a : AreaIn s x) where
+  pub look_5 : (length id ≡ 32 → ⊥) → look_of s id ≡ off 5
   unfolding look_of
-  look_5 h = let q = a.good t in bad_look s id 5 (omega arith) (rw (q.1, ne_eqb _ _ h))
+  look_5 h = rw (a.is, ne_eqb _ _ h)
 
-  module _ (h : length id ≡ 32) (k : Id) (e : k ≡ part 32 (view false id 0) 0) {y : Found} (f : FoundAs s y (find (named? k) (list_at (form_c false rec_c) x.open.head.count s x.open.start)) × FoundEnd k x.open.start (list_at (form_c false rec_c) x.open.head.count s x.open.start) y) where
+  module _ (h : length id ≡ 32) (k : Id) (e : k ≡ part 32 (view false id 0) 0) where
     look_is : look_of s id ≡ look_rec (find (named? k) (list_at (form_c false rec_c) x.open.head.count s x.open.start))
     unfolding look_of
-    look_is = let q = a.good t in rw (q.1, eq-eqb _ _ h, ← (key h e)) (ap (λ l. look_rec (find (named? k) l)) (sym q.2.store.list))
+    look_is = rw (a.is, eq-eqb _ _ h, ← (key h e)) (ap (λ l. look_rec (find (named? k) l)) (sym a.read.store.list))
 
-    pub look_13 : y.found ≡ false → LookAs s id (record { refusal = 13; at = 0 })
-    look_13 z = bad_look s id 13 (omega arith) (look_is ∙ ap look_rec (f.0.bad z))
-
-    look_end : (r : Rec) → y.found ≡ true → find (named? k) (list_at (form_c false rec_c) x.open.head.count s x.open.start) ≡ some r → (q : Queue) → read_area s ≡ some q
-        → y.at + length (rec_bytes r) ≡ 4 + length (head_bytes q) + end_of id q.recs
+    look_end : {at : ℕ} (f : StandsAt s k x.open.start (list_at (form_c false rec_c) x.open.head.count s x.open.start) at) (q : Queue) → read_area s ≡ some q
+        → at + length (rec_bytes f.r) ≡ 4 + length (head_bytes q) + end_of id q.recs
     unfolding after_in_value
-    look_end r z g q c =
-        let u = a.good t in
-        let w = u.2.store in
-        let d : u.0 ≡ q = some_same (sym u.1 ∙ c) in
-        let e1 : length (head_bytes u.0) ≡ x.open.head.size = ap length (sym (head_plain newest u.0)) ∙ w.frame.size in
-        let e2 : end_of k (list_at (form_c false rec_c) x.open.head.count s x.open.start) ≡ end_of id u.0.recs = rw (w.list, key h e) in
-        let e3 : y.at + length (rec_bytes r) ≡ 4 + length (head_bytes u.0) + end_of id u.0.recs = omega (arith, f.1 r z g, w.start, e1, e2) in
+    look_end {at} f q c =
+        let w = a.read.store in
+        let d : a.q ≡ q = some_same (sym a.is ∙ c) in
+        let e1 : length (head_bytes a.q) ≡ x.open.head.size = ap length (sym (head_plain newest a.q)) ∙ w.frame.size in
+        let e2 : end_of k (list_at (form_c false rec_c) x.open.head.count s x.open.start) ≡ end_of id a.q.recs = rw (w.list, key h e) in
+        let e3 : at + length (rec_bytes f.r) ≡ 4 + length (head_bytes a.q) + end_of id a.q.recs = omega (arith, f.end, w.start, e1, e2) in
         rw (← d) e3
 
-    pub look_0 : y.found ≡ true → LookAs s id (record { refusal = 0; at = y.at })
-    look_0 z = let u = f.0.good z in record { good = λ _. (u.0, look_is ∙ ap look_rec u.1, u.2, look_end u.0 z u.1); bad = λ g. absurd (g refl) }
+    -- what a search gives back is what the look-up does
+    pub look_found : (o : std.Option ℕ) {r : Result ℕ Refusal} → r ≡ ok_or o NotFound
+        → MatchOption o (find (named? k) (list_at (form_c false rec_c) x.open.head.count s x.open.start) ≡ none) (StandsAt s k x.open.start (list_at (form_c false rec_c) x.open.head.count s x.open.start))
+        → MatchResult r (LookedUp s id) (LookRefused s id)
+    look_found std.None e f = rw e (look_is ∙ ap look_rec f)
+    look_found (std.Some at) e f = rw e (record { r = f.r; is = look_is ∙ ap look_rec f.found; here = f.here; end = look_end f })
 
 -- ---- what a lookup says of the queue
 module _ {A : Type 0} (s id : Bytes) (old : A) (g : Queue → Rec → Answer × A) where
@@ -220,64 +207,45 @@ unfolding signed_part
 some_body id old q none e = false_true e
 some_body id old q (some h) e = refl
 
-module _ (s id : Bytes) {x : Looked} (f : LookAs s id x) where
-  pub place_off : (x.refusal ≡ 0 → ⊥) → SignedAs s id (record { answer = Refused x.refusal; start = 0; len = 0 })
+pub place_off : (s id : Bytes) (e : Refusal) → LookRefused s id e → SignedRefused s id e
+unfolding signed_bytes_of
+place_off s id e f old = look_off s id old _ (refusal_number e) f
+
+module _ (s id : Bytes) {at : ℕ} (u : LookedUp s id at) {m : ℕ} {y : Seen} (rd : FoundRec false s at m y) where
+  pub place_tomb : y.facts.holder ≡ false → SignedRefused s id NotFound
   unfolding signed_bytes_of
-  place_off h = record {
-    refused = λ n old e. let k : x.refusal ≡ n = refused_same e in ((refl, refl), look_off s id old _ n (f.bad h ∙ ap off k));
-    done = λ k old e. refused_done e;
-    within = omega arith;
-  }
+  place_tomb t old =
+      let c = look_hit s id old (λ q r. signed_in id old q r.body) u.r u.is in
+      no_body id old c.0 u.r.body (holder_is (met u.here rd).0 ∙ t) ∙ c.2
 
-  module _ (z : x.refusal ≡ 0) {m : ℕ} {ok : Bool} {y : Seen} (rd : ReadsRec false s x.at ok m y) where
-    pub place_tomb : y.facts.holder ≡ false → SignedAs s id (record { answer = Refused 13; start = 0; len = 0 })
-    unfolding signed_bytes_of
-    place_tomb t =
-        let u = f.good z in
-        let w = (met u.2 rd).0 in
-        record {
-          refused = λ n old e.
-              let c = look_hit s id old (λ q r. signed_in id old q r.body) u.0 u.1 in
-              let k : ◌≡◌ {A = ℕ} 13 n = refused_same e in
-              ((refl, refl), rw (← k) (no_body id old c.0 u.0.body (holder_is w ∙ t) ∙ c.2));
-          done = λ k old e. refused_done e;
-          within = omega arith;
-        }
+  pub place_within : (at ≤ length s) × (y.facts.bytes ≤ y.size) × (at + y.size ≤ length s) × (y.facts.bytes < 4294967296)
+  unfolding view
+  place_within = let w = (met u.here rd).0 in (u.here.0, (bytes_in w).1, omega (arith, w.end, u.here.0, length-drop at s), w.small.bytes)
 
-    pub place_within : (x.at ≤ length s) × (y.facts.bytes ≤ y.size) × (x.at + y.size ≤ length s) × (y.facts.bytes < 4294967296)
-    unfolding view
-    place_within = let u = f.good z in let w = (met u.2 rd).0 in (u.2.0, (bytes_in w).1, omega (arith, w.end, u.2.0, length-drop x.at s), w.small.bytes)
+  pub place_held : m ≡ y.size → y.facts.holder ≡ true → SignedAt s id (record { start = at + (y.size - y.facts.bytes); len = y.facts.bytes })
+  unfolding signed_bytes_of signed_part
+  place_held i t =
+      let w = met u.here rd in
+      let v = bytes_in w.0 in
+      record {
+        is = λ old.
+            let c = look_hit s id old (λ q r. signed_in id old q r.body) u.r u.is in
+            let n = u.end c.0 c.1 in
+            let b : at + (y.size - y.facts.bytes) ≡ 4 + length (head_bytes c.0) + end_of id c.0.recs - length (content u.r.body) = omega (arith, n, v.0, v.1, i, rec_long w) in
+            pairs b (sym v.0) ∙ some_body id old c.0 u.r.body (holder_is w.0 ∙ t) ∙ c.2;
+        within = omega (arith, v.1, place_within.2);
+      }
+    where
+      pairs : {a b c d : ℕ} → a ≡ b → c ≡ d → ◌≡◌ {A = Answer × (ℕ × ℕ)} (Done Nothing, (a, c)) (Done Nothing, (b, d))
+      pairs p q = rw (p, q)
 
-    pub place_held : m ≡ y.size → y.facts.holder ≡ true → SignedAs s id (record { answer = Done Nothing; start = x.at + (y.size - y.facts.bytes); len = y.facts.bytes })
-    unfolding signed_bytes_of signed_part
-    place_held i t =
-        let u = f.good z in
-        let w = met u.2 rd in
-        let v = bytes_in w.0 in
-        record {
-          refused = λ n old e. refused_done (sym e);
-          done = λ k old e.
-              let c = look_hit s id old (λ q r. signed_in id old q r.body) u.0 u.1 in
-              let n = u.3 c.0 c.1 in
-              let j : Nothing ≡ k = done_same e in
-              let b : x.at + (y.size - y.facts.bytes) ≡ 4 + length (head_bytes c.0) + end_of id c.0.recs - length (content u.0.body) = omega (arith, n, v.0, v.1, i, rec_long w) in
-              rw (← j) (pairs b (sym v.0) ∙ some_body id old c.0 u.0.body (holder_is w.0 ∙ t) ∙ c.2);
-          within = omega (arith, v.1, place_within.2);
-        }
-      where
-        pairs : {a b c d : ℕ} → a ≡ b → c ≡ d → ◌≡◌ {A = Answer × (ℕ × ℕ)} (Done Nothing, (a, c)) (Done Nothing, (b, d))
-        pairs p q = rw (p, q)
+pub place_part : {s id : Bytes} {x : Place} → SignedAt s id x → take (x.start + x.len - x.start) (drop x.start s) ≡ part_in s (signed_bytes_of s id (0, 0)).1
+place_part {s} {id} {x} p =
+    let long : x.start + x.len - x.start ≡ x.len = omega arith in
+    ap (λ n. take n (drop x.start s)) long ∙ ap (λ w. part_in s w.1) (p.is (0, 0))
 
-pub place_part : {s id : Bytes} {x : Place} → SignedAs s id x → take (x.start + x.len - x.start) (drop x.start s) ≡ part_in s (signed_bytes_of s id (0, 0)).1
-place_part {s} {id} {x} p = go x.answer refl
-  where
-    long : x.start + x.len - x.start ≡ x.len
-    long = omega arith
-
-    go : (a : Answer) → x.answer ≡ a → take (x.start + x.len - x.start) (drop x.start s) ≡ part_in s (signed_bytes_of s id (0, 0)).1
-    go (Refused n) e = let r = p.refused n (0, 0) e in
-        ap (λ n. take n (drop x.start s)) (long ∙ r.0.1) ∙ ap (λ n. take 0 (drop n s)) r.0.0 ∙ ap (λ w. part_in s w.1) r.1
-    go (Done k) e = ap (λ n. take n (drop x.start s)) long ∙ ap (λ w. part_in s w.1) (p.done k (0, 0) e)
+pub no_part : (s id : Bytes) (e : Refusal) → SignedRefused s id e → take 0 s ≡ part_in s (signed_bytes_of s id (0, 0)).1
+no_part s id e p = ap (λ w. part_in s w.1) (p (0, 0))
 
 -- ---- an entry
 
@@ -339,7 +307,7 @@ rec_front : (r : Rec) (t : Bytes) → rec_bytes r ++ t ≡ 2 ∷ (front_of r ++ 
 unfolding rec_under front_of rest_of
 rec_front r t = simp append_assoc
 
-module _ {s : Bytes} {base m : ℕ} {ok : Bool} {y : Seen} {r : Rec} (h : base ≤ length s) (x : SeenIn false s base ok m y r) where
+module _ {s : Bytes} {base m : ℕ} {y : Seen} {r : Rec} (h : base ≤ length s) (x : SeenIn false s base m y r) where
   -- the frame's front, up to the terms
   front_size : length (front_of r) ≡ 35
   unfolding front_of
@@ -461,48 +429,46 @@ told_4 bs out h = rw (lt-ltb (length out) (length bs) h)
 pub told_100 : {bs out out' : Bytes} {n r : ℕ} → Put out 0 bs n r out' → n ≤ length out → told_out bs out ≡ written (Done Nothing) out'
 told_100 {bs} {out} {out'} {n} {r} p h = rw (le-ltb (length out) (length bs) (omega (arith, p.size)), put_over p h)
 
-module _ (s id out : Bytes) {x : Looked} (f : LookAs s id x) where
-  pub entry_off : (x.refusal ≡ 0 → ⊥) → written (Refused x.refusal) out ≡ entry_of s id out
+pub entry_off : (s id out : Bytes) (e : Refusal) → LookRefused s id e → written (Refused (refusal_number e)) out ≡ entry_of s id out
+unfolding entry_of
+entry_off s id out e f = look_off s id out _ (refusal_number e) f
+
+module _ (s id out : Bytes) {at : ℕ} (u : LookedUp s id at) {m : ℕ} {y : Seen} (rd : FoundRec false s at m y) where
+  pub entry_fits : EntryIn s at y
+  entry_fits = entry_in_law u.here.0 (met u.here rd)
+
+  pub entry_4 : length out < entry_len_value y → written (Refused 4) out ≡ entry_of s id out
   unfolding entry_of
-  entry_off h = look_off s id out _ x.refusal (f.bad h)
+  entry_4 h = sym (told_4 (entry_bytes u.r) out (omega (arith, entry_size u.here.0 (met u.here rd)))) ∙ (look_hit s id out (λ q r. told_out (entry_bytes r) out) u.r u.is).2
 
-  module _ (z : x.refusal ≡ 0) {m : ℕ} {ok : Bool} {y : Seen} (rd : ReadsRec false s x.at ok m y) where
-    pub entry_fits : EntryIn s x.at y
-    entry_fits = let u = f.good z in entry_in_law u.2.0 (met u.2 rd)
-
-    pub entry_4 : length out < entry_len_value y → written (Refused 4) out ≡ entry_of s id out
-    unfolding entry_of
-    entry_4 h = let u = f.good z in
-        sym (told_4 (entry_bytes u.0) out (omega (arith, entry_size u.2.0 (met u.2 rd)))) ∙ (look_hit s id out (λ q r. told_out (entry_bytes r) out) u.0 u.1).2
-
-    pub entry_100 : {out' : Bytes} {r : ℕ} → Put out 0 (entry_at s x.at y) (entry_len_value y) r out' → entry_len_value y ≤ length out → written (Done Nothing) out' ≡ entry_of s id out
-    unfolding entry_of
-    entry_100 p h = let u = f.good z in
-        sym (told_100 (recast p (entry_is u.2.0 (met u.2 rd)) refl refl) h) ∙ (look_hit s id out (λ q r. told_out (entry_bytes r) out) u.0 u.1).2
+  pub entry_100 : {out' : Bytes} {r : ℕ} → Put out 0 (entry_at s at y) (entry_len_value y) r out' → entry_len_value y ≤ length out → written (Done Nothing) out' ≡ entry_of s id out
+  unfolding entry_of
+  entry_100 p h = sym (told_100 (recast p (entry_is u.here.0 (met u.here rd)) refl refl) h) ∙ (look_hit s id out (λ q r. told_out (entry_bytes r) out) u.r u.is).2
 
 -- ---- numbers
-pub number_3 : (f : Queue → ℕ) (s : Bytes) (old : ℕ) {x : Area} → AreaIs s x → x.ok ≡ false → (Refused 3, old) ≡ number_of f s old
+pub number_3 : (f : Queue → ℕ) (s : Bytes) (old : ℕ) → read_area s ≡ none → (Refused 3, old) ≡ number_of f s old
 unfolding number_of
-number_3 f s old a e = rw (a.bad e)
+number_3 f s old e = rw e
 
-pub number_100 : (f : Queue → ℕ) (s : Bytes) (old : ℕ) {x : Area} {v : ℕ} → AreaIs s x → x.ok ≡ true → ((q : Queue) → AreaAs s x q → v ≡ f q) → (Done Nothing, v) ≡ number_of f s old
+pub number_100 : (f : Queue → ℕ) (s : Bytes) (old : ℕ) {x : Area} {v : ℕ} (a : AreaIn s x) → ((q : Queue) → AreaAs s x q → v ≡ f q) → (Done Nothing, v) ≡ number_of f s old
 unfolding number_of
-number_100 f s old a e k = let u = a.good e in rw (u.1, k u.0 u.2)
+number_100 f s old a k = rw (a.is, k a.q a.read)
 
 pub empty_is : (l : List Rec) {n : ℕ} → length l ≡ n → one (eqb n 0) ≡ one (is_empty? l)
 empty_is [] e = rw (← e)
 empty_is (r ∷ l) {n} e = rw (ne_eqb n 0 (λ z. absurd (let y : ⊥ = omega arith in y)))
 
-pub reached_is : (o : Option ℕ) (n : ℕ) → (is_some o && leb (opt_num o) n) ≡ reached? o n
-reached_is none n = refl
-reached_is (some d) n = refl
+pub time_is : (o : Option ℕ) (n : ℕ) → time_due (times o) n ≡ reached? o n
+time_is none n = refl
+time_is (some d) n = refl
+
+pub height_is : (o : Option ℕ) (n : ℕ) → height_due (heights o) n ≡ reached? o n
+height_is none n = refl
+height_is (some d) n = refl
 
 pub due_facts : (now height : ℕ) (r : Rec) → due_f now height (facts_of r) ≡ due? now height r
 unfolding due_f facts_of due?
-due_facts now height r = go r.terms.due r.terms.due_height
-  where
-    go : (o p : Option ℕ) → (pending? r.state && ((is_some o && leb (opt_num o) now) || (is_some p && leb (opt_num p) height))) ≡ (pending? r.state && (reached? o now || reached? p height))
-    go o p = rw (reached_is o now, reached_is p height)
+due_facts now height r = rw (time_is r.terms.due now, height_is r.terms.due_height height)
 
 pub due_sum : (t : Time) (h : Height) (l : List Rec) → ltb 0 (sum (Due t h) l) ≡ any? (due? t.0 h.0) l
 unfolding sum weight
@@ -512,35 +478,32 @@ due_sum t h (r ∷ l) = let i = due_sum t h l in cases (due? t.0 h.0 r)
     (λ e. rw (due_facts t.0 h.0 r, e, zero-add) i)
 
 -- ---- the cursor
-module _ (s out : Bytes) {x : Area} (a : AreaIs s x) where
-  pub cursor_3 : x.ok ≡ false → written (Refused 3) out ≡ read_of cursor_bytes s out
-  unfolding read_of
-  cursor_3 e = rw (a.bad e)
+pub cursor_3 : (s out : Bytes) → read_area s ≡ none → written (Refused 3) out ≡ read_of cursor_bytes s out
+unfolding read_of
+cursor_3 s out e = rw e
 
-  module _ (t : x.ok ≡ true) where
-    cursor_of : Queue → Bytes
-    cursor_of q = codec.be 4 q.cursor ++ flagged (λ i. i) q.tip
+cursor_of : Queue → Bytes
+cursor_of q = codec.be 4 q.cursor ++ flagged (λ i. i) q.tip
 
-    pub cursor_in : (x.open.head.marks ≤ x.open.head.after) × (4 + x.open.head.after ≤ length s)
-    unfolding view
-    cursor_in = let u = a.good t in let h = u.2.store.head in (omega (arith, h.marks_at, h.up), omega (arith, h.size_at, h.end, length-drop 4 s, h.up))
+module _ (s out : Bytes) {x : Area} (a : AreaIn s x) where
+  pub cursor_in : (x.open.head.marks ≤ x.open.head.after) × (4 + x.open.head.after ≤ length s)
+  unfolding view
+  cursor_in = let h = a.read.store.head in (omega (arith, h.marks_at, h.up), omega (arith, h.size_at, h.end, length-drop 4 s, h.up))
 
-    cursor_is : (q : Queue) → AreaAs s x q → (take (x.open.head.after - x.open.head.marks) (drop (4 + x.open.head.marks) s) ≡ cursor_of q) × (length (cursor_of q) ≡ x.open.head.after - x.open.head.marks)
-    unfolding view be_c cursor_of
-    cursor_is q w =
-        let h = w.store.head in
-        let p : codec.be 4 q.cursor ++ (opt_c id_c).enc q.tip ≡ cursor_of q = rw (opt_plain id_c (λ i. i) id_plain q.tip) in
-        let b = between (drop 4 s) (codec.be 4 q.cursor ++ (opt_c id_c).enc q.tip) x.open.head.marks x.open.head.after h.marks cursor_in.0 (omega (arith, cursor_in.1, length-drop 4 s)) in
-        (ap (take (x.open.head.after - x.open.head.marks)) (sym (drop-drop x.open.head.marks 4 s)) ∙ b.0 ∙ p, ap length (sym p) ∙ b.1)
+  cursor_is : (take (x.open.head.after - x.open.head.marks) (drop (4 + x.open.head.marks) s) ≡ cursor_of a.q) × (length (cursor_of a.q) ≡ x.open.head.after - x.open.head.marks)
+  unfolding view be_c cursor_of
+  cursor_is =
+      let h = a.read.store.head in
+      let p : codec.be 4 a.q.cursor ++ (opt_c id_c).enc a.q.tip ≡ cursor_of a.q = rw (opt_plain id_c (λ i. i) id_plain a.q.tip) in
+      let b = between (drop 4 s) (codec.be 4 a.q.cursor ++ (opt_c id_c).enc a.q.tip) x.open.head.marks x.open.head.after h.marks cursor_in.0 (omega (arith, cursor_in.1, length-drop 4 s)) in
+      (ap (take (x.open.head.after - x.open.head.marks)) (sym (drop-drop x.open.head.marks 4 s)) ∙ b.0 ∙ p, ap length (sym p) ∙ b.1)
 
-    pub cursor_4 : length out < x.open.head.after - x.open.head.marks → written (Refused 4) out ≡ read_of cursor_bytes s out
-    unfolding read_of cursor_of
-    cursor_4 h = let u = a.good t in let c = cursor_is u.0 u.2 in sym (rw u.1 (told_4 (cursor_of u.0) out (omega (arith, c.1))))
+  pub cursor_4 : length out < x.open.head.after - x.open.head.marks → written (Refused 4) out ≡ read_of cursor_bytes s out
+  unfolding read_of cursor_of
+  cursor_4 h = sym (rw a.is (told_4 (cursor_of a.q) out (omega (arith, cursor_is.1))))
 
-    pub cursor_100 : {out' : Bytes} {n r : ℕ} → n ≡ x.open.head.after - x.open.head.marks → n ≤ length out → Put out 0 (take n (drop (4 + x.open.head.marks) s)) n r out' → written (Done Nothing) out' ≡ read_of cursor_bytes s out
-    unfolding read_of cursor_of
-    cursor_100 {out'} {n} {r} e h p =
-        let u = a.good t in
-        let c = cursor_is u.0 u.2 in
-        let k : take n (drop (4 + x.open.head.marks) s) ≡ cursor_of u.0 = ap (λ m. take m (drop (4 + x.open.head.marks) s)) e ∙ c.0 in
-        sym (rw u.1 (told_100 (recast p k refl refl) h))
+  pub cursor_100 : {out' : Bytes} {n r : ℕ} → n ≡ x.open.head.after - x.open.head.marks → n ≤ length out → Put out 0 (take n (drop (4 + x.open.head.marks) s)) n r out' → written (Done Nothing) out' ≡ read_of cursor_bytes s out
+  unfolding read_of cursor_of
+  cursor_100 {out'} {n} {r} e h p =
+      let k : take n (drop (4 + x.open.head.marks) s) ≡ cursor_of a.q = ap (λ m. take m (drop (4 + x.open.head.marks) s)) e ∙ cursor_is.0 in
+      sym (rw a.is (told_100 (recast p k refl refl) h))

@@ -1,42 +1,39 @@
 -- The laws by which readers are put together.
-use Rattle.std.specs.Prelude.{◌≡◌, refl, Bool, true, false, ◌&&◌, List, [], ◌∷◌, ℕ, zero, suc, ◌+◌, ◌-◌, ◌*◌, ◌^◌, ◌≤◌, ◌<◌, length, drop, get_or, ◌++◌}
+use Rattle.std.specs.Prelude.{◌≡◌, refl, Bool, true, false, List, [], ◌∷◌, ℕ, zero, suc, ◌+◌, ◌-◌, ◌*◌, ◌^◌, ◌≤◌, ◌<◌, length, drop, get_or, ◌++◌}
 use Rattle.std.proofs.Common.{ap, sym, ◌∙◌, arith, add_assoc, add-zero, add-suc, pow-suc, zero-mul, suc-mul, add-one, length-drop, length-append, drop-cons, lt-ltb}
 use Rattle.std.proofs.Math.Option.{Option, none, some}
-use Rattle.queue.specs.Codec.{Bytes, Got, fail, got, ◌>>=◌, bind_got, Codec, cases, byte_dec, byte_c, be_dec, be_c, pair_dec, pair_c, map_c, opt_dec, opt_c, decs, vec_c, counted_c, All, encs, be_length, vec_bwd}
-use Rattle.queue.specs.bytes.ReaderAs.{Reads, Span, flag_dec, flag_c, Counted, OptSpan, is_got, val_of, rest_of, whole, list_at, behind}
+use Rattle.queue.specs.Codec.{Bytes, Got, fail, got, ◌>>=◌, bind_got, Codec, byte_dec, byte_c, be_dec, be_c, pair_dec, pair_c, map_c, opt_dec, opt_c, decs, vec_c, counted_c, All, encs, be_length, vec_bwd}
+use Rattle.queue.specs.bytes.ReaderAs.{Fails, Found, Stands, flag_dec, flag_c, IsCounted, NotCounted, no_count, too_many, is_got, val_of, rest_of, whole, list_at, behind}
 
 pub false_true : {X : Type 0} → false ≡ true → X
 false_true e = let z : ◌≡◌ {A = ℕ} 0 1 = cc in absurd (omega arith)
 
 -- two in a row
-pub pair : {A B : Type 0} {𝓐 : Codec A} {𝓑 : Codec B} {s : Bytes} {at n₁ n₂ : ℕ} {ok₁ ok₂ : Bool} {W₁ : A → Type 0} {W₂ : B → Type 0}
-    → Reads 𝓐 s at ok₁ n₁ W₁ → Reads 𝓑 s n₁ ok₂ n₂ W₂ → Reads (pair_c 𝓐 𝓑) s at (ok₁ && ok₂) n₂ (λ x. W₁ x.0 × W₂ x.1)
+unfoldable pub pair : {A B : Type 0} {𝓐 : Codec A} {𝓑 : Codec B} {s : Bytes} {at m n : ℕ} {V : A → Type 0} {W : B → Type 0} → Found 𝓐 s at m V → Found 𝓑 s m n W → Found (pair_c 𝓐 𝓑) s at n (λ x. V x.0 × W x.1)
 unfolding pair_c pair_dec
-pair {A} {B} {𝓐} {𝓑} {s} {at} {n₁} {n₂} {ok₁ = true} x y = record {
-  good = λ h t. let u = x.good h refl in let v = y.good u.3 t in
-      ((u.0, v.0), rw (u.1, v.1), omega arith, v.3, (u.4, v.4));
-  bad = λ h t. let u = x.good h refl in let v = y.bad u.3 t in rw (u.1, v);
-}
-pair {A} {B} {𝓐} {𝓑} {s} {at} {n₁} {n₂} {ok₁ = false} x y = record {
-  good = λ h t. false_true t;
-  bad = λ h t. let u = x.bad h refl in rw u;
-}
+pair x y = let u = x.up in let v = y.up in record { value = (x.value, y.value); is = rw (x.is, y.is) refl; up = omega arith; within = y.within; fact = (x.fact, y.fact) }
+
+module _ {A B : Type 0} {𝓐 : Codec A} (𝓑 : Codec B) {s : Bytes} {at : ℕ} where
+  pub first : Fails 𝓐 s at → Fails (pair_c 𝓐 𝓑) s at
+  unfolding pair_c pair_dec
+  first x = record { is = λ h. rw (x.is h) refl }
+
+  pub later : {m : ℕ} {V : A → Type 0} → Found 𝓐 s at m V → Fails 𝓑 s m → Fails (pair_c 𝓐 𝓑) s at
+  unfolding pair_c pair_dec
+  later x y = record { is = λ h. rw (x.is, y.is x.within) refl }
 
 -- the same bytes, another type
-pub mapped : {A B : Type 0} (f : A → B) (g : B → A) (gf : (a : A) → g (f a) ≡ a) (fg : (b : B) → f (g b) ≡ b) {𝓐 : Codec A} {s : Bytes} {at n : ℕ} {ok : Bool} {W : A → Type 0} (W' : B → Type 0)
-    → Reads 𝓐 s at ok n W → ((a : A) → 𝓐.dec (drop at s) ≡ got a (drop n s) → at ≤ n → n ≤ length s → W a → W' (f a)) → Reads (map_c f g gf fg 𝓐) s at ok n W'
-unfolding map_c
-mapped f g gf fg W' x k = record {
-  good = λ h t. let u = x.good h t in (f u.0, rw u.1, u.2, u.3, k u.0 u.1 u.2 u.3 u.4);
-  bad = λ h t. rw (x.bad h t);
-}
+module _ {A B : Type 0} (f : A → B) (g : B → A) (gf : (a : A) → g (f a) ≡ a) (fg : (b : B) → f (g b) ≡ b) {𝓐 : Codec A} {s : Bytes} {at : ℕ} where
+  unfoldable pub mapped : {n : ℕ} {V : A → Type 0} (W : B → Type 0) → (x : Found 𝓐 s at n V) → (V x.value → W (f x.value)) → Found (map_c f g gf fg 𝓐) s at n W
+  unfolding map_c
+  mapped W x k = record { value = f x.value; is = rw x.is refl; up = x.up; within = x.within; fact = k x.fact }
 
-pub weaken : {A : Type 0} {𝓐 : Codec A} {s : Bytes} {at n : ℕ} {ok : Bool} {W : A → Type 0} (W' : A → Type 0)
-    → Reads 𝓐 s at ok n W → ((a : A) → 𝓐.dec (drop at s) ≡ got a (drop n s) → at ≤ n → n ≤ length s → W a → W' a) → Reads 𝓐 s at ok n W'
-weaken W' x k = record {
-  good = λ h t. let u = x.good h t in (u.0, u.1, u.2, u.3, k u.0 u.1 u.2 u.3 u.4);
-  bad = x.bad;
-}
+  pub map_fails : Fails 𝓐 s at → Fails (map_c f g gf fg 𝓐) s at
+  unfolding map_c
+  map_fails x = record { is = λ h. rw (x.is h) refl }
+
+pub weaken : {A : Type 0} {𝓐 : Codec A} {s : Bytes} {at n : ℕ} {V : A → Type 0} (W : A → Type 0) → (x : Found 𝓐 s at n V) → (V x.value → W x.value) → Found 𝓐 s at n W
+weaken W x k = record { value = x.value; is = x.is; up = x.up; within = x.within; fact = k x.fact }
 
 -- a flag and what it announces
 module _ {A : Type 0} (𝓐 : Codec A) where
@@ -51,28 +48,23 @@ module _ {A : Type 0} (𝓐 : Codec A) where
   opt_flag (suc zero ∷ s) = refl
   opt_flag (suc (suc n) ∷ s) = refl
 
-  abbrev pub OptW : Bool → (A → Type 0) → Option A → Type 0
-  OptW has W none = has ≡ false
-  OptW has W (some a) = (has ≡ true) × W a
-
-  pub opt_absent : {s : Bytes} {at n : ℕ} {ok has : Bool} (W : A → Type 0) → Reads flag_c s at ok n (λ b. has ≡ b) → has ≡ false → Reads (opt_c 𝓐) s at ok n (OptW has W)
+module _ {A : Type 0} (𝓐 : Codec A) {s : Bytes} {at : ℕ} where
+  pub opt_fails : Fails flag_c s at → Fails (opt_c 𝓐) s at
   unfolding flag_c
-  opt_absent {s} {at} {n} W x z = record {
-    good = λ h t. let u = x.good h t in let e : u.0 ≡ false = sym u.4 ∙ z in (none, opt_flag (drop at s) ∙ rw (u.1, e), u.2, u.3, z);
-    bad = λ h t. opt_flag (drop at s) ∙ rw (x.bad h t);
-  }
+  opt_fails x = record { is = λ h. opt_flag 𝓐 (drop at s) ∙ rw (x.is h) refl }
 
-  pub opt_present : {s : Bytes} {at m n : ℕ} {ok₁ ok₂ has : Bool} {W : A → Type 0} → Reads flag_c s at ok₁ m (λ b. has ≡ b) → has ≡ true → Reads 𝓐 s m ok₂ n W → Reads (opt_c 𝓐) s at (ok₁ && ok₂) n (OptW has W)
-  unfolding flag_c
-  opt_present {s} {at} {m} {n} {ok₁ = true} x z y = record {
-    good = λ h t. let u = x.good h refl in let e : u.0 ≡ true = sym u.4 ∙ z in let v = y.good u.3 t in
-        (some v.0, opt_flag (drop at s) ∙ rw (u.1, e, v.1), omega arith, v.3, (z, v.4));
-    bad = λ h t. let u = x.good h refl in let e : u.0 ≡ true = sym u.4 ∙ z in opt_flag (drop at s) ∙ rw (u.1, e, y.bad u.3 t);
-  }
-  opt_present {s} {at} {m} {n} {ok₁ = false} x z y = record {
-    good = λ h t. false_true t;
-    bad = λ h t. opt_flag (drop at s) ∙ rw (x.bad h refl);
-  }
+  module _ {m : ℕ} {flag : Bool} (x : Found flag_c s at m (λ b. flag ≡ b)) where
+    pub opt_absent : flag ≡ false → (W : Option A → Type 0) → W none → Found (opt_c 𝓐) s at m W
+    unfolding flag_c
+    opt_absent z W w = let e : x.value ≡ false = sym x.fact ∙ z in record { value = none; is = opt_flag 𝓐 (drop at s) ∙ rw (x.is, e) refl; up = x.up; within = x.within; fact = w }
+
+    pub opt_present : {n : ℕ} {V : A → Type 0} → flag ≡ true → (y : Found 𝓐 s m n V) → (W : Option A → Type 0) → (V y.value → W (some y.value)) → Found (opt_c 𝓐) s at n W
+    unfolding flag_c
+    opt_present z y W k = let e : x.value ≡ true = sym x.fact ∙ z in let u = x.up in let v = y.up in record { value = some y.value; is = opt_flag 𝓐 (drop at s) ∙ rw (x.is, e, y.is) refl; up = omega arith; within = y.within; fact = k y.fact }
+
+    pub opt_later : flag ≡ true → Fails 𝓐 s m → Fails (opt_c 𝓐) s at
+    unfolding flag_c
+    opt_later z y = record { is = λ h. let e : x.value ≡ true = sym x.fact ∙ z in opt_flag 𝓐 (drop at s) ∙ rw (x.is, e, y.is x.within) refl }
 
 -- ---- bytes
 module _ (s : Bytes) where
@@ -131,11 +123,15 @@ short 𝓐 n s at x h k = got_cases (𝓐.dec (drop at s)) (λ e. e)
     let l = ap length u.0 in
     absurd (omega (arith, length-append (𝓐.enc a) r, length-drop at s)))
 
-pub spanned : {A : Type 0} {𝓐 : Codec A} {n : ℕ} {s : Bytes} {at next : ℕ} {ok : Bool} → Spans 𝓐 n → Span s at n ok next → Reads 𝓐 s at ok next (λ a. Unit {0})
-spanned {A} {𝓐} {n} {s} {at} {next} x y = record {
-  good = λ h t. let u = y.good t in let v = x.all s at u.1 u.2 in (v.0, v.1 ∙ rw u.0, omega arith, omega arith, tt);
-  bad = λ h t. short 𝓐 n s at x h (y.bad t);
-}
+unfoldable pub spanned : {A : Type 0} {𝓐 : Codec A} {n : ℕ} {s : Bytes} {at next : ℕ} → Spans 𝓐 n → Stands s at n next → Found 𝓐 s at next (λ a. Unit {0})
+spanned {A} {𝓐} {n} {s} {at} {next} x y = let v = x.all s at y.within y.small in record { value = v.0; is = v.1 ∙ rw y.is refl; up = omega (arith, y.is); within = omega (arith, y.is, y.within); fact = tt }
+
+-- a flag that is 1, and a value behind it that is passed over
+pub opt_span : {A : Type 0} {𝓐 : Codec A} {s : Bytes} {at m n next : ℕ} {flag : Bool} → Spans 𝓐 n → Found flag_c s at m (λ b. flag ≡ b) → flag ≡ true → Stands s m n next → Found (opt_c 𝓐) s at next (λ o. (a : A) × (o ≡ some a))
+opt_span {A} {𝓐} p x z y = let v = spanned p y in opt_present 𝓐 x z v (λ o. (a : A) × (o ≡ some a)) (λ u. (v.value, refl))
+
+pub not_spanned : {A : Type 0} {𝓐 : Codec A} {n : ℕ} {s : Bytes} {at : ℕ} → Spans 𝓐 n → length s < at + n → Fails 𝓐 s at
+not_spanned {A} {𝓐} {n} {s} {at} x k = record { is = λ h. short 𝓐 n s at x h k }
 
 pub spans_byte : Spans byte_c 1
 unfolding byte_c
@@ -172,27 +168,27 @@ unfolding vec_c
 spans_vec x k = record { size = λ l h. vec_size x l h.0 ∙ rw h.1; all = vec_all x k }
 
 -- ---- counted items
-pub counted : {A : Type 0} {𝓐 : Codec A} {s : Bytes} {at w size len start next : ℕ} {ok : Bool} → Spans 𝓐 size → Counted s at w size ok len start next
-    → Reads (counted_c 𝓐 w) s at ok next (λ l. (length l ≡ len) × (decs 𝓐 len (drop start s) ≡ got l (drop next s)) × (start ≤ length s))
-unfolding counted_c be_c decs vec_c
-counted {A} {𝓐} {s} {at} {w} {size} {len} {start} {next} x y = rw y.both (cases y.ok₁
-    (λ t. cases y.ok₂
-    (λ t₂. rw (t, t₂) (record {
-      good = λ h _. let u = y.count.good h t in let v = y.items.good t₂ in let a = vec_all x len s start v.1 v.2 in
-          let n = vec_bwd 𝓐 len (drop start s) a.0 _ a.1 in
-          (a.0, rw (u.1, u.4) (a.1 ∙ rw v.0), omega arith, omega arith, (n.1.1, a.1 ∙ rw v.0, u.3));
-      bad = λ h z. false_true (sym z);
-    }))
-    (λ t₂. rw (t, t₂) (record {
-      good = λ h z. false_true z;
-      bad = λ h _. let u = y.count.good h t in rw (u.1, u.4) (short (vec_c 𝓐 len) (len * size) s start (spans_vec x len) u.3 (y.items.bad t₂));
-    })))
-    (λ t. rw t (record { good = λ h z. false_true z; bad = λ h _. let u = y.count.bad h t in rw u })))
+module _ {A : Type 0} {𝓐 : Codec A} {s : Bytes} {at w size : ℕ} (x : Spans 𝓐 size) where
+  unfoldable pub counted : {len start next : ℕ} → IsCounted s at w size len start next
+      → Found (counted_c 𝓐 w) s at next (λ l. (length l ≡ len) × (decs 𝓐 len (drop start s) ≡ got l (drop next s)) × (start ≤ length s))
+  unfolding counted_c be_c decs vec_c
+  counted {len} {start} {next} y =
+      let u = y.count in
+      let v = y.items in
+      let a = vec_all x len s start v.within v.small in
+      let n = vec_bwd 𝓐 len (drop start s) a.0 _ a.1 in
+      record {
+        value = a.0;
+        is = rw (u.is, u.fact) (a.1 ∙ rw v.is refl);
+        up = omega (arith, u.up, v.is);
+        within = omega (arith, v.is, v.within);
+        fact = (n.1.1, a.1 ∙ rw v.is refl, u.within);
+      }
 
-pub opt_span : {A : Type 0} {𝓐 : Codec A} {s : Bytes} {at n next : ℕ} {ok has : Bool} → Spans 𝓐 n → OptSpan s at n ok has next → Reads (opt_c 𝓐) s at ok next (OptW 𝓐 has (λ a. Unit {0}))
-opt_span {A} {𝓐} {s} {at} {n} {next} {ok} {has} x y = cases has
-    (λ t. let u = y.present t in rw u.0 (opt_present 𝓐 y.flag t (spanned x u.1)))
-    (λ t. let u = y.absent t in rw (u.0, u.1) (opt_absent 𝓐 (λ a. Unit {0}) y.flag t))
+  pub not_counted : NotCounted s at w size → Fails (counted_c 𝓐 w) s at
+  unfolding counted_c be_c decs vec_c
+  not_counted (no_count f) = record { is = λ h. rw (f.is h) refl }
+  not_counted (too_many len start u k) = record { is = λ h. rw (u.is, u.fact) (short (vec_c 𝓐 len) (len * size) s start (spans_vec x len) u.within k) }
 
 -- ---- lists
 pub record Turn {A : Type 0} (𝓐 : Codec A) (s : Bytes) (n at next : ℕ) (W : A → Type 0) : Type 0 where
@@ -217,17 +213,17 @@ cons_rest a fail = refl
 cons_rest a (got l r) = refl
 
 -- one value read, of n that are to be
-pub whole_step : {A : Type 0} {𝓐 : Codec A} {s : Bytes} (n : ℕ) {at next : ℕ} {ok : Bool} {W : A → Type 0} → at ≤ length s → 0 < n → Reads 𝓐 s at ok next W → ok ≡ true
-    → (whole 𝓐 n s at ≡ whole 𝓐 (n - 1) s next) × (behind 𝓐 n s at ≡ behind 𝓐 (n - 1) s next) × (at ≤ next) × (next ≤ length s)
+pub whole_step : {A : Type 0} {𝓐 : Codec A} {s : Bytes} (n : ℕ) {at next : ℕ} {W : A → Type 0} → 0 < n → Found 𝓐 s at next W
+    → (whole 𝓐 n s at ≡ whole 𝓐 (n - 1) s next) × (behind 𝓐 n s at ≡ behind 𝓐 (n - 1) s next)
 unfolding whole behind decs
-whole_step zero h p x t = absurd (let y : ⊥ = omega arith in y)
-whole_step {A} {𝓐} {s} (suc n) {at} {next} h p x t = let u = x.good h t in let m : suc n - 1 ≡ n = omega arith in
-    rw (u.1, m) (cons_is u.0 (decs 𝓐 n (drop next s)), cons_rest u.0 (decs 𝓐 n (drop next s)), u.2, u.3)
+whole_step zero p x = absurd (let y : ⊥ = omega arith in y)
+whole_step {A} {𝓐} {s} (suc n) {at} {next} p x = let m : suc n - 1 ≡ n = omega arith in
+    rw (x.is, m) (cons_is x.value (decs 𝓐 n (drop next s)), cons_rest x.value (decs 𝓐 n (drop next s)))
 
-pub whole_bad : {A : Type 0} {𝓐 : Codec A} {s : Bytes} (n : ℕ) {at next : ℕ} {ok : Bool} {W : A → Type 0} → at ≤ length s → 0 < n → Reads 𝓐 s at ok next W → ok ≡ false → whole 𝓐 n s at ≡ false
+pub whole_bad : {A : Type 0} {𝓐 : Codec A} {s : Bytes} (n : ℕ) {at : ℕ} → at ≤ length s → 0 < n → Fails 𝓐 s at → whole 𝓐 n s at ≡ false
 unfolding whole decs
-whole_bad zero h p x t = absurd (let y : ⊥ = omega arith in y)
-whole_bad {A} {𝓐} {s} (suc n) {at} {next} h p x t = let u = x.bad h t in rw u
+whole_bad zero h p x = absurd (let y : ⊥ = omega arith in y)
+whole_bad (suc n) h p x = rw (x.is h) refl
 
 list_step : {A : Type 0} (𝓐 : Codec A) (s : Bytes) (at next n : ℕ) → 0 < n → (a : A) → 𝓐.dec (drop at s) ≡ got a (drop next s) → whole 𝓐 (n - 1) s next ≡ true → list_at 𝓐 n s at ≡ a ∷ list_at 𝓐 (n - 1) s next
 unfolding whole list_at decs
@@ -235,11 +231,10 @@ list_step 𝓐 s at next zero p a e g = absurd (let y : ⊥ = omega arith in y)
 list_step 𝓐 s at next (suc n) p a e g = let m : suc n - 1 ≡ n = omega arith in rw (e, m) (cons_got a (decs 𝓐 n (drop next s)) (rw m at g))
 
 -- one value read of a whole list
-pub turn : {A : Type 0} {𝓐 : Codec A} {s : Bytes} (n : ℕ) {at next : ℕ} {ok : Bool} {W : A → Type 0} → at ≤ length s → whole 𝓐 n s at ≡ true → 0 < n → Reads 𝓐 s at ok next W → Turn 𝓐 s n at next W
-turn {A} {𝓐} {s} n {at} {next} {ok} {W} h w p x = cases ok
-    (λ t. let u = x.good h t in let st = whole_step n h p x t in
-    record { item = u.0; is = u.4; here = u.1; list = list_step 𝓐 s at next n p u.0 u.1 (sym st.0 ∙ w); rest = sym st.0 ∙ w; up = u.2; within = u.3 })
-    (λ t. false_true (sym (whole_bad n h p x t) ∙ w))
+pub turn : {A : Type 0} {𝓐 : Codec A} {s : Bytes} (n : ℕ) {at next : ℕ} {W : A → Type 0} → whole 𝓐 n s at ≡ true → 0 < n → Found 𝓐 s at next W → Turn 𝓐 s n at next W
+turn {A} {𝓐} {s} n {at} {next} {W} w p x =
+    let st = whole_step n p x in
+    record { item = x.value; is = x.fact; here = x.is; list = list_step 𝓐 s at next n p x.value x.is (sym st.0 ∙ w); rest = sym st.0 ∙ w; up = x.up; within = x.within }
 
 pub none_left : {A : Type 0} (𝓐 : Codec A) (s : Bytes) (n at : ℕ) → n ≡ 0 → (list_at 𝓐 n s at ≡ []) × (whole 𝓐 n s at ≡ true) × (behind 𝓐 n s at ≡ drop at s)
 unfolding whole list_at behind decs

@@ -46,8 +46,7 @@ pub record HeldIn (s : Bytes) (a : Area) (id : Id) (at : ℕ) (x : Seen) : Type 
   pub read : AreaAs s a q
   pub r : Rec
   pub found : find (named? id) q.recs ≡ some r
-  pub ok : Bool
-  pub seen : SeenAs (view false s at) x r × Framed rec_c false s at ok x.size r
+  pub seen : SeenAs (view false s at) x r × Framed rec_c false s at x.size r
   pub held : holder? r ≡ true
   pub unmined : mined? r ≡ false
 

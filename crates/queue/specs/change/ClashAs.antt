@@ -1,5 +1,5 @@
 -- Lent ids in a table of rows: is an id one of them, and does a record spend or read one?
-use Rattle.std.specs.Prelude.{◌≡◌, Bool, false, cond, List, ℕ, ◌≤◌, ◌<◌, length, get_or, ◌≢◌}
+use Rattle.std.specs.Prelude.{eqb, ◌≡◌, Bool, false, cond, List, ℕ, ◌≤◌, ◌<◌, length, get_or, ◌≢◌}
 use Rattle.queue.specs.check.SuspectsAs.{id_r}
 use Rattle.queue.specs.change.ReopenAs.{ids_at}
 use Rattle.queue.specs.paper.Records.{Bytes, Id, Rec}
@@ -16,12 +16,15 @@ row_has t z x = same? z (id_r false t x)
 pub record RowsOf (t : Bytes) (k : ℕ) (v : List ℕ) : Type 0 where
   pub has : (z : Id) → any? (row_has t z) v ≡ among? z (ids_at t k)
 
--- the rows before lo have lower ids than z, those from hi on have not
-pub record CutId (t : Bytes) (v : List ℕ) (z : Id) (lo hi : ℕ) : Type 0 where
-  pub up : lo ≤ hi
-  pub within : hi ≤ length v
-  pub low : (i : ℕ) → i < lo → cmp_l (id_r false t (get_or v i 0)) z ≡ 0
-  pub high : (i : ℕ) → hi ≤ i → i < length v → cmp_l (id_r false t (get_or v i 0)) z ≢ 0
+-- is the id of a row lower than z?
+abbrev pub below_row : Bytes → Id → ℕ → Bool
+below_row t z x = eqb (cmp_l (id_r false t x) z) 0
+
+-- the n first rows have lower ids than z, the others have not
+pub record CutId (t : Bytes) (v : List ℕ) (z : Id) (n : ℕ) : Type 0 where
+  pub within : n ≤ length v
+  pub low : (i : ℕ) → i < n → cmp_l (id_r false t (get_or v i 0)) z ≡ 0
+  pub high : (i : ℕ) → n ≤ i → i < length v → cmp_l (id_r false t (get_or v i 0)) z ≢ 0
 
 -- one of these ids is one of those
 unfoldable pub any_of : List Id → List Id → Bool

@@ -27,8 +27,7 @@ use Rattle.queue.specs.declared.check.area.Area.{Area}
 use Rattle.queue.specs.declared.change.block.Block.{Block}
 use Rattle.queue.specs.declared.Kind.{Kind}
 use Rattle.queue.specs.declared.Kind.TheVariants.{Memory, Cursor}
-use Rattle.queue.specs.declared.Answer.{Answer}
-use Rattle.queue.specs.declared.Answer.TheVariants.{Done}
+use Rattle.queue.specs.paper.Answer.{Answer, Done}
 use Rattle.queue.specs.declared.check.rules.Query.TheVariants.{Tombstones}
 
 -- what is lent: applied entries in t, available ids in ids

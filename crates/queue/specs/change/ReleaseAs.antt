@@ -5,17 +5,20 @@ use Rattle.queue.specs.bytes.ViewAs.{view}
 use Rattle.queue.specs.bytes.ReaderAs.{list_at}
 use Rattle.queue.specs.bytes.ReaderLaws.{be_at}
 use Rattle.queue.specs.layout.FormsCodec.{form_c}
-use Rattle.queue.specs.read.SelectAs.{Row, rows, Even, id_of, RecStands}
+use Rattle.queue.specs.read.SelectAs.{Row, row_of, Standing, id_of, RecStands}
+use Rattle.queue.specs.change.AdmitAs.{height_of}
 use Rattle.queue.specs.change.TouchAs.{as_touched, verdict_of_value}
 use Rattle.queue.specs.paper.Records.{Bytes, Id, Limits, Rec}
-use Rattle.queue.specs.paper.Lists.{total, filter, find, maybe}
+use Rattle.queue.specs.paper.Lists.{total, filter, find, map, maybe}
 use Rattle.queue.specs.paper.Ids.{same?}
 use Rattle.queue.specs.paper.Sound.{content}
 use Rattle.queue.specs.paper.Changing.{Applied, touch_found, mined_height}
 use Rattle.queue.specs.paper.Decisions.{mined_holder?}
 use Rattle.queue.specs.declared.layout.frame.Facts.{Facts}
+use Rattle.queue.specs.declared.read.select.Ranked.{Ranked}
 use Rattle.queue.specs.declared.layout.records.Records.{Records}
-use Rattle.queue.specs.declared.change.touch.Verdict.{Verdict}
+use Rattle.queue.specs.change.AdmitAs.{height_of}
+use Rattle.queue.specs.change.TouchAs.{VerdictNumbers}
 
 -- a record after the verdict on it
 unfoldable pub next_r : Bool → List Id → List Applied → Rec → Rec
@@ -36,8 +39,8 @@ mined_of s recs t v = filter mined_holder? (next_l s recs.start recs.count t v)
 unfoldable pub mined_f : ℕ → Facts → Bool
 mined_f what f = (eqb what 1 || (eqb what 0 && eqb f.state 2)) && f.holder
 
-unfoldable pub height_f : Bytes → Verdict → Facts → ℕ
-height_f t v f = cond (eqb v.what 1) (be_at 4 (view false t 0) (v.at + 32)) f.mined.0
+unfoldable pub height_f : Bytes → VerdictNumbers → Facts → ℕ
+height_f t v f = cond (eqb v.what 1) (be_at 4 (view false t 0) (v.at + 32)) (height_of f.mined).0
 
 abbrev pub StandsAt : Bytes → Row → Type 0
 StandsAt s w = RecStands s w.1.1
@@ -66,23 +69,16 @@ MinedRows s [] (r ∷ l) = ⊥
 MinedRows s (w ∷ z) [] = ⊥
 MinedRows s (w ∷ z) (r ∷ l) = MinedRow s w r × MinedRows s z l
 
-pub record MinedGathered (s : Bytes) (n : ℕ) (l : List Rec) (room m : ℕ) (a b c : List ℕ) : Type 0 where
-  pub even : Even room a b c
+pub record MinedGathered (s : Bytes) (n : ℕ) (l : List Rec) (room m : ℕ) (z : List Ranked) : Type 0 where
+  pub size : length z ≡ room
   pub all : m ≡ length l
-  pub listed : FallingRows s (n + 1) (take m (rows a b c)) l
+  pub listed : FallingRows s (n + 1) (map row_of (take m z)) l
+  pub stand : Standing (map row_of (take m z))
 
--- the walk over rows, and over two columns
+-- the walk over rows
 unfoldable pub walk_r : Limits → ℕ → ℕ → Bytes → ℕ → ℕ → List Row → List ℕ
 walk_r m height window s seen bytes [] = []
 walk_r m height window s seen bytes (w ∷ z) =
     cond (leb window (height - w.0) || (leb m.P seen || ltb m.B (bytes + bytes_at s w.1.1)))
     (w.1.1 ∷ walk_r m height window s (seen + 1) (bytes + bytes_at s w.1.1) z)
     (walk_r m height window s (seen + 1) (bytes + bytes_at s w.1.1) z)
-
-unfoldable pub walk_c : Limits → ℕ → ℕ → Bytes → ℕ → ℕ → List ℕ → List ℕ → List ℕ
-walk_c m height window s seen bytes [] c = []
-walk_c m height window s seen bytes (h ∷ a) [] = []
-walk_c m height window s seen bytes (h ∷ a) (p ∷ c) =
-    cond (leb window (height - h) || (leb m.P seen || ltb m.B (bytes + bytes_at s p)))
-    (p ∷ walk_c m height window s (seen + 1) (bytes + bytes_at s p) a c)
-    (walk_c m height window s (seen + 1) (bytes + bytes_at s p) a c)

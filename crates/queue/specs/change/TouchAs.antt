@@ -7,6 +7,7 @@ use Rattle.queue.specs.layout.FormsCodec.{form_c}
 use Rattle.queue.specs.layout.RecordsAs.{recs_at}
 use Rattle.queue.specs.layout.FrameAs.{SeenAs}
 use Rattle.queue.specs.change.ReopenAs.{ids_at}
+use Rattle.queue.specs.change.VerdictAs.{verdict_code}
 use Rattle.queue.specs.paper.Records.{Bytes, Id, Rec, queued, conflicted}
 use Rattle.queue.specs.paper.Lists.{is_some, find, map}
 use Rattle.queue.specs.paper.Ids.{same?, rise?}
@@ -17,8 +18,7 @@ use Rattle.queue.specs.declared.change.block.Block.{Block}
 use Rattle.queue.specs.declared.layout.frame.Seen.{Seen}
 use Rattle.queue.specs.declared.layout.frame.Facts.{Facts}
 use Rattle.queue.specs.declared.layout.records.Records.{Records}
-use Rattle.queue.specs.declared.read.find.Found.{Found}
-use Rattle.queue.specs.declared.change.touch.Verdict.{Verdict}
+use Rattle.queue.specs.declared.change.touch.Judgement.{Judgement}
 
 -- the applied entry at p, and k of them from the start
 abbrev pub entry_in : Bytes → ℕ → Applied
@@ -35,10 +35,13 @@ pub record EntriesRise (t : Bytes) (k : ℕ) : Type 0 where
   pub all : length t ≡ k * 68
   pub rise : rise? (entry_ids t k) ≡ true
 
--- the number of an id's entry
-pub record EntryAs (t : Bytes) (k : ℕ) (id : Id) (f : Found) : Type 0 where
-  pub good : f.found ≡ true → (68 * f.at + 68 ≤ length t) × (find (λ a. same? id a.id) (applied_in t k) ≡ some (entry_in t (68 * f.at)))
-  pub bad : f.found ≡ false → find (λ a. same? id a.id) (applied_in t k) ≡ none
+-- an id's entry has this number; no entry has the id
+pub record EntryAt (t : Bytes) (k : ℕ) (id : Id) (at : ℕ) : Type 0 where
+  pub within : 68 * at + 68 ≤ length t
+  pub is : find (λ a. same? id a.id) (applied_in t k) ≡ some (entry_in t (68 * at))
+
+pub record NoEntry (t : Bytes) (k : ℕ) (id : Id) : Type 0 where
+  pub is : find (λ a. same? id a.id) (applied_in t k) ≡ none
 
 -- x was read at base, and says of r
 abbrev pub SeenOf : Bytes → ℕ → Seen → Rec → Type 0
@@ -57,15 +60,23 @@ own_ids ids l = ids ++ queued_outputs l
 unfoldable pub judge_f : Bool → Facts → ℕ
 judge_f fine f = cond fine (cond (eqb f.state 0 && eqb f.reason 0) 0 2) (cond (eqb f.state 3 && eqb f.reason 5) 0 3)
 
+-- a verdict as numbers: what becomes of the record, and where the applied entry begins that confirms it
+pub record VerdictNumbers : Type 0 where
+  pub what : ℕ
+  pub at : ℕ
+
+abbrev pub verdict_numbers : Judgement → VerdictNumbers
+verdict_numbers v = record { what = verdict_code v.what; at = v.at }
+
 -- what a verdict makes of a record
-unfoldable pub as_touched : Bytes → Verdict → Rec → Option Rec
+unfoldable pub as_touched : Bytes → VerdictNumbers → Rec → Option Rec
 as_touched t v r =
     cond (eqb v.what 0) none
     (cond (eqb v.what 1) (some (confirm (entry_in t v.at) r))
     (cond (eqb v.what 2) (some (remade queued 0 r.place r.mark r.finish r.body r)) (some (remade conflicted 5 r.place r.mark r.finish r.body r))))
 
 -- a verdict in one number: what, and the number of the applied entry, which stands in t
-unfoldable pub verdict_of_value : ℕ → Verdict
+unfoldable pub verdict_of_value : ℕ → VerdictNumbers
 verdict_of_value c = record { what = c % 4; at = cond (eqb (c % 4) 1) (68 * (c / 4)) 0 }
 
 abbrev pub InEntry : Bytes → ℕ → Type 0

@@ -18,7 +18,8 @@ use Rattle.queue.specs.declared.layout.frame.Form.{Form}
 use Rattle.queue.specs.declared.layout.records.Records.{Records}
 use Rattle.queue.specs.declared.check.area.Open.{Open}
 use Rattle.queue.specs.declared.check.area.Area.{Area}
-use Rattle.queue.specs.declared.check.scan.Span.{Span}
+use Rattle.queue.specs.declared.refusal.Refusal.{Refusal}
+use Rattle.queue.specs.declared.refusal.Refusal.TheVariants.{AreaNotSound}
 use Rattle.queue.specs.layout.LimitsAs.{need_most}
 
 -- limits alone, where the shares have no part
@@ -32,7 +33,7 @@ records_of x = records x.start x.head.count
 -- x was read from s at base, and says of st: its header, and where its records stand
 pub record StoreAs (form : Form) (s : Bytes) (base : ℕ) (x : Open) (st : Store) : Type 0 where
   pub head : HeadUnder form.kind (view form.hex s base) x.head (head_for st)
-  pub frame : Framed (head_k form.kind) form.hex s base x.head.ok x.head.size (head_for st)
+  pub frame : Framed (head_k form.kind) form.hex s base x.head.size (head_for st)
   pub start : x.start ≡ after_in_value form.hex s base x.head.size
   pub all : whole (rec_in_value form) x.head.count s x.start ≡ true
   pub list : recs_at (rec_in_value form) s (records_of x) ≡ st.recs
@@ -55,9 +56,17 @@ sound_list q = refl
 unfoldable pub filled_by : Bytes → ℕ → Limits → ℕ → List Rec → Bool
 filled_by s from m counter l = sound_l m counter l && (leb (need m) (length s) && (leb from (need m) && zero? (take (need m - from) (drop from s))))
 
-pub record FilledAs (s : Bytes) (x : Open) (r : Span) : Type 0 where
-  pub is : r.ok ≡ filled_by s x.next (limits_in x.head.limits) x.head.counter.0 (recs_at (form_c false rec_c) s (records_of x))
-  pub next : r.ok ≡ true → (r.next ≡ need (limits_in x.head.limits)) × (r.next ≤ need_most)
+abbrev pub filled_in : Bytes → Open → Bool
+filled_in s x = filled_by s x.next (limits_in x.head.limits) x.head.counter.0 (recs_at (form_c false rec_c) s (records_of x))
+
+-- n is that length, or there is none
+pub record FilledTo (s : Bytes) (x : Open) (n : ℕ) : Type 0 where
+  pub is : filled_in s x ≡ true
+  pub need : n ≡ need (limits_in x.head.limits)
+  pub small : n ≤ need_most
+
+pub record Unfilled (s : Bytes) (x : Open) : Type 0 where
+  pub is : filled_in s x ≡ false
 
 -- x was read from the area s, which holds q
 pub record AreaAs (s : Bytes) (x : Area) (q : Queue) : Type 0 where
@@ -70,11 +79,13 @@ pub record AreaAs (s : Bytes) (x : Area) (q : Queue) : Type 0 where
   pub sound : sound? q ≡ true
   pub range : queue_c.ok q
 
-pub record AreaIs (s : Bytes) (x : Area) : Type 0 where
-  pub good : x.ok ≡ true → (q : Queue) × (read_area s ≡ some q) × AreaAs s x q
-  pub bad : x.ok ≡ false → read_area s ≡ none
-
+-- the area s holds a sound queue, and a was read from it
 pub record AreaIn (s : Bytes) (a : Area) : Type 0 where
   pub q : Queue
   pub is : read_area s ≡ some q
   pub read : AreaAs s a q
+
+-- refusal 3: s holds no sound queue
+pub record NoArea (s : Bytes) (e : Refusal) : Type 0 where
+  pub refusal : e ≡ AreaNotSound
+  pub is : read_area s ≡ none

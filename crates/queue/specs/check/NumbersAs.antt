@@ -1,5 +1,5 @@
 -- The finish numbers of tombstones in a table, and what is said of them.
-use Rattle.std.specs.Prelude.{◌≡◌, Bool, true, false, cond, List, [], ◌∷◌, ◌++◌, ℕ, ◌≤◌, ◌+◌, ◌-◌, ltb, eqb}
+use Rattle.std.specs.Prelude.{◌≡◌, Bool, true, false, cond, List, [], ◌∷◌, ◌++◌, ℕ, ◌≤◌, ◌<◌, ◌+◌, ◌-◌, ltb, eqb, length, get_or}
 use Rattle.queue.specs.check.RulesAs.{above_f}
 use Rattle.queue.specs.layout.FrameAs.{facts_of}
 use Rattle.queue.specs.paper.Records.{Rec}
@@ -27,10 +27,9 @@ pub record Differ (v : List ℕ) (b : Bool) : Type 0 where
   pub yes : b ≡ true → (m : ℕ) → times_in m v ≤ 1
   pub no : b ≡ false → (m : ℕ) × (2 ≤ times_in m v)
 
--- each is above the one before it, or one is the same as the one before it
-pub record Steps (v : List ℕ) (r : ℕ) : Type 0 where
-  pub up : r ≡ 1 → Differ v true
-  pub same : r ≡ 0 → Differ v false
+-- none is below the one before it
+abbrev pub Ordered : List ℕ → Type 0
+Ordered v = (i : ℕ) → i + 1 < length v → get_or v i 0 ≤ get_or v (i + 1) 0
 
 -- of the m numbers after num, how many are above x
 unfoldable pub new_above_value : ℕ → ℕ → ℕ → ℕ

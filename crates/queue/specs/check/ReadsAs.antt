@@ -21,10 +21,17 @@ idle? hex s all x = not (used? (id_r hex s x) all)
 abbrev pub Foreign : List Rec → List Id → List Id → Type 0
 Foreign all ids ins = (x : Id) → among? x ids ≡ true → among? x ins ≡ false → any? (foreign? x) all ≡ true
 
--- read ids passed, those of a record with the inputs ins: a record spends what another reads, if the table is the last; or nobody spends one of them
--- that is not one of ins, once the rows are looked through
-pub record Asked (last hex : Bool) (s : Bytes) (all : List Rec) (ids ins : List Id) (z : List ℕ) (ok : Bool) (z' : List ℕ) : Type 0 where
-  pub bad : ok ≡ false → last ≡ true → read_apart? all ≡ false
-  pub odd : ok ≡ true → all? (strange? hex s all) z' ≡ true
-  pub back : ok ≡ true → all? (idle? hex s all) z' ≡ true → all? (idle? hex s all) z ≡ true
-  pub one : ok ≡ true → all? (idle? hex s all) z' ≡ true → (x : Id) → among? x ids ≡ true → among? x ins ≡ false → used? x all ≡ false
+-- read ids passed, those of a record with the inputs ins: nobody spends one of them that is not one of ins, once the rows are looked through
+pub record Asked (hex : Bool) (s : Bytes) (all : List Rec) (ids ins : List Id) (z z' : List ℕ) : Type 0 where
+  pub odd : all? (strange? hex s all) z' ≡ true
+  pub back : all? (idle? hex s all) z' ≡ true → all? (idle? hex s all) z ≡ true
+  pub one : all? (idle? hex s all) z' ≡ true → (x : Id) → among? x ids ≡ true → among? x ins ≡ false → used? x all ≡ false
+
+-- a record spends what another reads, if the table is the last
+pub record Spent (last : Bool) (all : List Rec) : Type 0 where
+  pub bad : last ≡ true → read_apart? all ≡ false
+
+-- the same without a table: b says that nobody spends one of them that is not one of ins; else a record spends what another reads
+pub record Passes (all : List Rec) (ids ins : List Id) (b : Bool) : Type 0 where
+  pub yes : b ≡ true → (x : Id) → among? x ids ≡ true → among? x ins ≡ false → used? x all ≡ false
+  pub no : b ≡ false → read_apart? all ≡ false

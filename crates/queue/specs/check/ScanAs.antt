@@ -1,10 +1,10 @@
 -- What the check counts in its one pass over the records.
-use Rattle.std.specs.Prelude.{◌≡◌, Bool, true, ◌&&◌, List, ℕ, ◌+◌, ◌-◌, ◌*◌, ◌≤◌, leb, eqb, length}
-use Rattle.queue.specs.layout.FormsCodec.{rec_in_value, Many}
+use Rattle.std.specs.Prelude.{◌≡◌, Bool, true, ◌&&◌, List, ℕ, ◌+◌, ◌-◌, ◌*◌, ◌≤◌, leb, eqb, length, Option, Some, None, MatchOption}
+use Rattle.queue.specs.layout.FormsCodec.{rec_in_value, Many, NotMany}
 use Rattle.queue.specs.layout.RecordsAs.{recs_at}
 use Rattle.queue.specs.check.RulesAs.{right_f, weight, sum}
-use Rattle.queue.specs.paper.Ids.{rise?}
-use Rattle.queue.specs.paper.Records.{Bytes, Rec}
+use Rattle.queue.specs.paper.Ids.{cmp_l, rise?}
+use Rattle.queue.specs.paper.Records.{Bytes, Id, Rec}
 use Rattle.queue.specs.paper.Lists.{all?, map}
 use Rattle.queue.specs.paper.Sound.{right?, reads, apart?, distinct?}
 use Rattle.queue.specs.declared.layout.frame.Facts.{Facts}
@@ -12,7 +12,7 @@ use Rattle.queue.specs.declared.layout.frame.Form.{Form}
 use Rattle.queue.specs.declared.layout.frame.Finish.{Finish}
 use Rattle.queue.specs.declared.layout.records.Records.{Records}
 use Rattle.queue.specs.declared.check.scan.Sums.{Sums}
-use Rattle.queue.specs.declared.check.scan.Read.{Read}
+use Rattle.queue.specs.declared.bytes.view.Read.{Read}
 use Rattle.queue.specs.declared.check.rules.Query.TheVariants.{Holders, HeldBytes, MinedHolders, MinedBytes}
 
 abbrev pub no_sums_value : Sums
@@ -51,9 +51,18 @@ pub record SumsAs (k : ℕ) (c : Finish) (a : Sums) (l : List Rec) : Type 0 wher
   pub unread : a.unread ≡ all? unread? l
   pub clear : a.clear ≡ true → (apart? l ≡ true) × (distinct? l ≡ true)
 
-pub record Checked (form : Form) (s : Bytes) (recs : Records) (k : ℕ) (c : Finish) (r : Read) : Type 0 where
-  pub many : Many (rec_in_value form) s recs.start recs.count r.ok r.next
-  pub sums : r.ok ≡ true → SumsAs k c r.sums (recs_at (rec_in_value form) s recs)
+-- the records stand there, a is what they come to, and `next` is behind them
+pub record CheckedAs (form : Form) (s : Bytes) (recs : Records) (k : ℕ) (c : Finish) (a : Sums) (next : ℕ) : Type 0 where
+  pub many : Many (rec_in_value form) s recs.start recs.count next
+  pub sums : SumsAs k c a (recs_at (rec_in_value form) s recs)
+
+abbrev pub Checked : Form → Bytes → Records → ℕ → Finish → Option (Read Sums) → Type 0
+Checked form s recs k c r = MatchOption r (NotMany (rec_in_value form) s recs.start recs.count) (λ x. CheckedAs form s recs k c x.value x.next)
+
+-- an id is above the last one, if there is one
+abbrev pub above_last : Option Id → Id → Bool
+above_last None z = true
+above_last (Some p) z = eqb (cmp_l p z) 0
 
 -- the counts of n records are within the limits
 unfoldable pub counts_n : ℕ → ℕ → ℕ → ℕ → Sums → Bool

@@ -1,5 +1,5 @@
 -- Suspects: places of input ids in a table, and what a look through it ensures.
-use Rattle.std.specs.Prelude.{◌≡◌, Bool, true, false, cond, ◌&&◌, ◌||◌, ◌⊎◌, List, [], ◌∷◌, ◌++◌, ℕ, ◌+◌, ◌/◌, ◌%◌, ◌≤◌, ◌<◌, ltb, leb, eqb, length, get_or, drop}
+use Rattle.std.specs.Prelude.{◌≡◌, Bool, true, false, cond, ◌&&◌, ◌||◌, ◌⊎◌, List, [], ◌∷◌, ◌++◌, ℕ, ◌+◌, ◌/◌, ◌%◌, ◌≤◌, ◌<◌, ltb, leb, eqb, length, get_or, drop, Option, MatchOption}
 use Rattle.queue.specs.bytes.Parts.{part}
 use Rattle.queue.specs.bytes.ViewAs.{view}
 use Rattle.queue.specs.check.FilterAs.{has_in, hash_l, marked}
@@ -53,27 +53,30 @@ held? hex s all x = ltb 0 (count (has_in (id_r hex s x)) (drop (no_r x) all))
 unfoldable pub first? : Bool → Bytes → List Rec → ℕ → Bool
 first? hex s all x = leb (count (has_in (id_r hex s x)) all) (count (has_in (id_r hex s x)) (drop (no_r x) all))
 
--- the row w behind the rows z: kept with them, or alone once they were looked through; a table that is full is given up if it is not the last
-pub record Grown (last hex : Bool) (s : Bytes) (all : List Rec) (z : List ℕ) (w : ℕ) (ok : Bool) (z' : List ℕ) : Type 0 where
-  pub bad : ok ≡ false → last ≡ true → crosses hex s z 0 all ≡ true
-  pub good : ok ≡ true → (z' ≡ z ++ (w ∷ [])) ⊎ ((z' ≡ w ∷ []) × (crosses hex s z 0 all ≡ false))
+-- the row w behind the rows z: kept with them, or alone once they were looked through
+pub record Grown (hex : Bool) (s : Bytes) (all : List Rec) (z : List ℕ) (w : ℕ) (z' : List ℕ) : Type 0 where
+  pub good : (z' ≡ z ++ (w ∷ [])) ⊎ ((z' ≡ w ∷ []) × (crosses hex s z 0 all ≡ false))
 
--- own ids of record k passed: two records have an id, if the table is the last; or every own id is marked now, and if it was marked before, no record
--- before k has it, once the rows are looked through
-pub record Noted (last hex : Bool) (s : Bytes) (all : List Rec) (k : ℕ) (own : Id → Bool) (t z : List ℕ) (ok : Bool) (t' z' : List ℕ) : Type 0 where
+-- a full table: the last was looked through, and a row's id is in a record before its own; another is given up
+pub record Full (last hex : Bool) (s : Bytes) (all : List Rec) (z : List ℕ) : Type 0 where
+  pub bad : last ≡ true → crosses hex s z 0 all ≡ true
+
+-- own ids of record k passed: every own id is marked now, and if it was marked before, no record before k has it, once the rows are looked through
+pub record Noted (hex : Bool) (s : Bytes) (all : List Rec) (k : ℕ) (own : Id → Bool) (t z t' z' : List ℕ) : Type 0 where
   pub size : length t' ≡ length t
   pub old : (h : ℕ) → marked t h ≡ true → marked t' h ≡ true
-  pub bad : ok ≡ false → last ≡ true → apart? all ≡ false
-  pub held : ok ≡ true → all? (held? hex s all) z' ≡ true
-  pub back : ok ≡ true → all? (first? hex s all) z' ≡ true → all? (first? hex s all) z ≡ true
-  pub one : ok ≡ true → all? (first? hex s all) z' ≡ true → (x : Id) → own x ≡ true → marked t (hash_l x) ≡ true → count (has_in x) all ≤ count (has_in x) (drop k all)
-  pub new : ok ≡ true → (x : Id) → own x ≡ true → marked t' (hash_l x) ≡ true
+  pub held : all? (held? hex s all) z' ≡ true
+  pub back : all? (first? hex s all) z' ≡ true → all? (first? hex s all) z ≡ true
+  pub one : all? (first? hex s all) z' ≡ true → (x : Id) → own x ≡ true → marked t (hash_l x) ≡ true → count (has_in x) all ≤ count (has_in x) (drop k all)
+  pub new : (x : Id) → own x ≡ true → marked t' (hash_l x) ≡ true
 
--- the test b as a number. 1: it holds; 0: it does not; another: not known, and the table is not the last
-pub record Said (last b : Bool) (r : ℕ) : Type 0 where
-  pub yes : r ≡ 1 → true ≡ b
-  pub no : r ≡ 0 → false ≡ b
-  pub sure : last ≡ true → r < 2
+-- two records have an id, if the table is the last
+pub record Twice (last : Bool) (all : List Rec) : Type 0 where
+  pub bad : last ≡ true → apart? all ≡ false
+
+-- the answer to the test b: none is known, if the table is not the last
+pub record Said (last b : Bool) (r : Option Bool) : Type 0 where
+  pub is : MatchOption r (last ≡ false) (λ x. x ≡ b)
 
 -- every input is marked
 pub record AllMarked (all : List Rec) (t : List ℕ) : Type 0 where

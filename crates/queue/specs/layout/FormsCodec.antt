@@ -6,8 +6,8 @@ use Rattle.std.proofs.lemmas.List.{get_or_at}
 use Rattle.queue.specs.Codec.{Got, fail, got, ◌>>=◌, bind_got, if_got, cases, All, all_append, Codec, be, be_c, pair_c, map_c, encs, decs, vec_fwd, vec_bwd, vec_small, vec_most, vec_fits}
 use Rattle.queue.specs.Lists.{and_true}
 use Rattle.queue.specs.layout.FrameCodec.{Head, head_k, rec_k, head_c, rec_c}
-use Rattle.queue.specs.bytes.ReaderAs.{Reads, is_got, rest_of, whole, list_at, behind}
-use Rattle.queue.specs.bytes.ReaderLaws.{false_true, pair, mapped, weaken, Turn, turn}
+use Rattle.queue.specs.bytes.ReaderAs.{Fails, Found, is_got, rest_of, whole, list_at, behind, reads?}
+use Rattle.queue.specs.bytes.ReaderLaws.{false_true, pair, first, later, mapped, map_fails, weaken, Turn, turn, whole_bad}
 use Rattle.queue.specs.bytes.ViewAs.{pairs, view, view_raw}
 use Rattle.queue.specs.Hex.{text_of, digits?, all_digits, text_length, text_pairs, text_small, text_digits, digits_is, digits_text}
 use Rattle.queue.specs.paper.Records.{Bytes, Id, Limits, Rec, Queue}
@@ -169,8 +169,7 @@ unfolding form_c form_fwd form_bwd form_small form_fits
 form_raw 𝓐 = refl
 
 -- ---- what a reader finds in a view
-pub record Framed {A : Type 0} (𝓐 : Codec A) (hex : Bool) (s : Bytes) (base : ℕ) (ok : Bool) (n : ℕ) (a : A) : Type 0 where
-  pub good : ok ≡ true
+pub record Framed {A : Type 0} (𝓐 : Codec A) (hex : Bool) (s : Bytes) (base n : ℕ) (a : A) : Type 0 where
   pub fine : 𝓐.ok a
   pub within : n ≤ length (view hex s base)
   pub here : 𝓐.dec (view hex s base) ≡ got a (drop n (view hex s base))
@@ -212,48 +211,65 @@ module _ {A : Type 0} (𝓐 : Codec A) where
   raw_bad s base e = e
 
 module _ {A : Type 0} {𝓐 : Codec A} where
-  -- a reader of the view that also tests the end of the line is a reader of the frame
-  pub framed : (hex : Bool) {s : Bytes} {base n : ℕ} {ok : Bool} {W : A → Type 0} → base ≤ length s → Reads 𝓐 (view hex s base) 0 ok n W
-      → Reads (form_c hex 𝓐) s base (ok && ends_line_value hex s base n) (after_in_value hex s base n) (λ a. W a × Framed 𝓐 hex s base ok n a)
+  -- a value found in the view, with the end of its line, is one found as a frame
+  pub framed : (hex : Bool) {s : Bytes} {base n : ℕ} {W : A → Type 0} → base ≤ length s → Found 𝓐 (view hex s base) 0 n W → ends_line_value hex s base n ≡ true
+      → Found (form_c hex 𝓐) s base (after_in_value hex s base n) (λ a. W a × Framed 𝓐 hex s base n a)
   unfolding form_c after_in_value ends_line_value
-  framed true {s} {base} {n} {ok} b x = record {
-    good = λ h t.
-        let k = and_true ok (ends_line_value true s base n) t in
-        let u = x.good (omega arith) k.0 in
-        let z = taken 𝓐 (view true s base) n u.0 u.1 u.3 in
-        let l = (ends_line s base n k.1).room in
-        let f = line_good 𝓐 s base n u.0 u.1 u.3 k.1 in
-        let g : after_in_value true s base n ≡ base + 2 * n + 1 = rw (lt-ltb (base + 2 * n) (length s) l) in
-        (u.0, rw g f, rw g (omega arith), rw g (omega arith), (u.4, record { good = k.0; fine = z.2; within = u.3; here = u.1; bytes = z.1; size = z.0; after = rw g (omega arith) }));
-    bad = λ h t. cases ok
-        (λ o. let g : ends_line_value true s base n ≡ false = rw o at t in let u = x.good (omega arith) o in line_frame 𝓐 s base n u.0 u.1 u.3 ∙ rw g)
-        (λ o. line_bad 𝓐 s base (x.bad (omega arith) o));
-  }
-  framed false {s} {base} {n} {ok} b x = record {
-    good = λ h t.
-        let k = and_true ok (ends_line_value false s base n) t in
-        let u = x.good (omega arith) k.0 in
-        let z = taken 𝓐 (view false s base) n u.0 u.1 u.3 in
-        let l : length (view false s base) ≡ length s - base = view_raw false s base refl in
-        let o = u.3 in
-        let w : base + n ≤ length s = omega arith in
-        (u.0, raw_frame 𝓐 s base n u.0 u.1, omega arith, w, (u.4, record { good = k.0; fine = z.2; within = u.3; here = u.1; bytes = z.1; size = z.0; after = w }));
-    bad = λ h t. cases ok (λ o. let g : ends_line_value false s base n ≡ false = rw o at t in false_true (sym g)) (λ o. raw_bad 𝓐 s base (x.bad (omega arith) o));
-  }
+  framed true {s} {base} {n} b x t =
+      let z = taken 𝓐 (view true s base) n x.value x.is x.within in
+      let l = (ends_line s base n t).room in
+      let f = line_good 𝓐 s base n x.value x.is x.within t in
+      let g : after_in_value true s base n ≡ base + 2 * n + 1 = rw (lt-ltb (base + 2 * n) (length s) l) refl in
+      record {
+        value = x.value;
+        is = rw g f;
+        up = rw g (omega arith);
+        within = rw g (omega arith);
+        fact = (x.fact, record { fine = z.2; within = x.within; here = x.is; bytes = z.1; size = z.0; after = rw g (omega arith) });
+      }
+  framed false {s} {base} {n} b x t =
+      let z = taken 𝓐 (view false s base) n x.value x.is x.within in
+      let l : length (view false s base) ≡ length s - base = view_raw {hex = false} s base refl in
+      let o = x.within in
+      let w : base + n ≤ length s = omega arith in
+      record {
+        value = x.value;
+        is = raw_frame 𝓐 s base n x.value x.is;
+        up = omega arith;
+        within = w;
+        fact = (x.fact, record { fine = z.2; within = x.within; here = x.is; bytes = z.1; size = z.0; after = w });
+      }
 
-  pub frame : (hex : Bool) {s : Bytes} {base n : ℕ} {ok : Bool} {W : A → Type 0} → base ≤ length s → Reads 𝓐 (view hex s base) 0 ok n W
-      → Reads (form_c hex 𝓐) s base (ok && ends_line_value hex s base n) (after_in_value hex s base n) W
-  frame hex {W = W} b x = weaken W (framed hex b x) (λ a _ _ _ h. h.0)
+  pub frame : (hex : Bool) {s : Bytes} {base n : ℕ} {W : A → Type 0} → base ≤ length s → Found 𝓐 (view hex s base) 0 n W → ends_line_value hex s base n ≡ true
+      → Found (form_c hex 𝓐) s base (after_in_value hex s base n) W
+  frame hex {W = W} b x t = weaken W (framed hex b x t) (λ h. h.0)
 
-  -- no frame: then the position says nothing
-  pub frame_bad : (hex : Bool) {s : Bytes} {base n : ℕ} {ok : Bool} {W : A → Type 0} → base ≤ length s → Reads 𝓐 (view hex s base) 0 ok n W
-      → (ok && ends_line_value hex s base n) ≡ false → (next : ℕ) (W' : A → Type 0) → Reads (form_c hex 𝓐) s base false next W'
-  frame_bad hex b x e next W' = record { good = λ h t. false_true t; bad = λ h t. (framed hex b x).bad h e }
+  -- no value in the view is no frame
+  pub frame_bad : (hex : Bool) {s : Bytes} {base : ℕ} → Fails 𝓐 (view hex s base) 0 → Fails (form_c hex 𝓐) s base
+  unfolding form_c
+  frame_bad true {s} {base} x = record { is = λ h. line_bad 𝓐 s base (x.is (omega arith)) }
+  frame_bad false {s} {base} x = record { is = λ h. raw_bad 𝓐 s base (x.is (omega arith)) }
+
+  -- nor is one whose line does not end
+  pub frame_open : (hex : Bool) {s : Bytes} {base n : ℕ} {W : A → Type 0} → Found 𝓐 (view hex s base) 0 n W → ends_line_value hex s base n ≡ false → Fails (form_c hex 𝓐) s base
+  unfolding form_c ends_line_value
+  frame_open true {s} {base} {n} x t = record { is = λ h. line_frame 𝓐 s base n x.value x.is x.within ∙ rw t refl }
+  frame_open false x t = false_true (sym t)
 
   -- in a list of frames that is known to be whole the end of the line needs no test
-  pub turn_in : (hex : Bool) {s : Bytes} (k : ℕ) {base n : ℕ} {ok : Bool} {W : A → Type 0} → base ≤ length s → whole (form_c hex 𝓐) k s base ≡ true → 0 < k → Reads 𝓐 (view hex s base) 0 ok n W
-      → Turn (form_c hex 𝓐) s k base (after_in_value hex s base n) (λ a. W a × Framed 𝓐 hex s base ok n a)
-  turn_in hex k b w p x = turn k b w p (framed hex b x)
+  pub turn_in : (hex : Bool) {s : Bytes} (k : ℕ) {base n : ℕ} {W : A → Type 0} → base ≤ length s → whole (form_c hex 𝓐) k s base ≡ true → 0 < k → Found 𝓐 (view hex s base) 0 n W
+      → Turn (form_c hex 𝓐) s k base (after_in_value hex s base n) (λ a. W a × Framed 𝓐 hex s base n a)
+  turn_in hex {s} k {base} {n} b w p x = cases (ends_line_value hex s base n)
+      (λ t. turn k w p (framed hex b x t))
+      (λ t. false_true (sym (whole_bad k b p (frame_open hex x t)) ∙ w))
+
+-- nor does the value itself
+pub stands_in : {A : Type 0} (𝓐 : Codec A) (hex : Bool) (s : Bytes) (k : ℕ) {base : ℕ} → base ≤ length s → whole (form_c hex 𝓐) k s base ≡ true → 0 < k → reads? 𝓐 (view hex s base) 0 ≡ true
+stands_in {A} 𝓐 hex s k {base} b w p = go (𝓐.dec (view hex s base)) refl
+  where
+    go : (o : Got A) → 𝓐.dec (view hex s base) ≡ o → is_got o ≡ true
+    go fail e = false_true (sym (whole_bad k b p (frame_bad {𝓐 = 𝓐} hex (record { is = λ h. e }))) ∙ w)
+    go (got a r) e = refl
 
 -- ---- a queue without its persisted height
 pub record Store : Type 0 where
@@ -274,10 +290,16 @@ store_for h l = record { limits = h.limits; revision = h.revision; cursor = h.cu
 pub head_for_law : (h : Head) (l : List Rec) → length l ≡ h.count → head_for (store_for h l) ≡ h
 head_for_law h l e = ap (λ (n : ℕ). record { limits = h.limits; revision = h.revision; cursor = h.cursor; tip = h.tip; counter = h.counter; count = n }) e
 
--- n values stand at `at` and end at `next`; or they do not
-pub record Many {A : Type 0} (𝓐 : Codec A) (s : Bytes) (at n : ℕ) (ok : Bool) (next : ℕ) : Type 0 where
-  pub is : ok ≡ whole 𝓐 n s at
-  pub end : ok ≡ true → (drop next s ≡ behind 𝓐 n s at) × (at ≤ next) × (next ≤ length s)
+-- n values stand at `at` and end at `next`
+pub record Many {A : Type 0} (𝓐 : Codec A) (s : Bytes) (at n next : ℕ) : Type 0 where
+  pub is : whole 𝓐 n s at ≡ true
+  pub end : drop next s ≡ behind 𝓐 n s at
+  pub up : at ≤ next
+  pub within : next ≤ length s
+
+-- or they do not
+pub record NotMany {A : Type 0} (𝓐 : Codec A) (s : Bytes) (at n : ℕ) : Type 0 where
+  pub is : whole 𝓐 n s at ≡ false
 
 got_cases : {A X : Type 0} (o : Got A) → (is_got o ≡ true → (a : A) → o ≡ got a (rest_of o) → X) → (is_got o ≡ false → o ≡ fail → X) → X
 got_cases fail f g = g refl refl
@@ -324,20 +346,31 @@ module _ (𝓗 : Codec Head) (𝓡 : Codec Rec) where
   }
 
   -- read: a header, and behind it a list that a scan found whole
-  pub frames_read : {s : Bytes} {at n₁ n₂ count : ℕ} {ok₁ ok₂ : Bool} {W : Head → Type 0} → Reads 𝓗 s at ok₁ n₁ (λ h. (h.count ≡ count) × W h) → (ok₁ ≡ true → Many 𝓡 s n₁ count ok₂ n₂)
-      → Reads frames_c s at (ok₁ && ok₂) n₂ (λ st. W (head_for st) × ((st.recs ≡ list_at 𝓡 count s n₁) × ((whole 𝓡 count s n₁ ≡ true) × (length st.recs ≡ count))))
-  unfolding frames_c frames_dec whole list_at behind
-  frames_read {s} {at} {n₁} {n₂} {count} {ok₁} {ok₂} {W} x y = cases ok₁
-      (λ t. rw t (got_cases (decs 𝓡 count (drop n₁ s))
-      (λ g l e. let m = y t in let yt : ok₂ ≡ true = m.is ∙ g in let k = m.end yt in let v = vec_bwd 𝓡 count (drop n₁ s) l _ e in
-      record {
-        good = λ p z. let u = x.good p t in let c = u.4.0 in let n = head_for_law u.0 l (v.1.1 ∙ sym c) in
-            (store_for u.0 l, rw (u.1, c, e, ← k.0), omega arith, k.2, (rw n u.4.1, (rw e, (rw e, v.1.1))));
-        bad = λ p z. false_true (sym z ∙ yt);
-      })
-      (λ g e. let m = y t in let yf : ok₂ ≡ false = m.is ∙ g in
-      record { good = λ p z. false_true (sym yf ∙ z); bad = λ p z. let u = x.good p t in let c = u.4.0 in rw (u.1, c, e) })))
-      (λ t. rw t (record { good = λ p z. false_true z; bad = λ p z. rw (x.bad p t) }))
+  module _ {s : Bytes} {at : ℕ} where
+    pub frames_fail : Fails 𝓗 s at → Fails frames_c s at
+    unfolding frames_c frames_dec
+    frames_fail x = record { is = λ h. rw (x.is h) refl }
+
+    module _ {m count : ℕ} {W : Head → Type 0} (x : Found 𝓗 s at m (λ h. (h.count ≡ count) × W h)) where
+      pub frames_read : {n : ℕ} → Many 𝓡 s m count n
+          → Found frames_c s at n (λ st. W (head_for st) × ((st.recs ≡ list_at 𝓡 count s m) × ((whole 𝓡 count s m ≡ true) × (length st.recs ≡ count))))
+      unfolding frames_c frames_dec whole list_at behind
+      frames_read {n} y = got_cases (decs 𝓡 count (drop m s))
+          (λ g l e. let v = vec_bwd 𝓡 count (drop m s) l _ e in let c = x.fact.0 in let f = head_for_law x.value l (v.1.1 ∙ sym c) in
+          record {
+            value = store_for x.value l;
+            is = rw (x.is, c, e, ← y.end) refl;
+            up = omega (arith, x.up, y.up);
+            within = y.within;
+            fact = (rw f x.fact.1, (rw e refl, (rw e refl, v.1.1)));
+          })
+          (λ g e. false_true (sym g ∙ y.is))
+
+      pub frames_cut : NotMany 𝓡 s m count → Fails frames_c s at
+      unfolding frames_c frames_dec whole
+      frames_cut y = got_cases (decs 𝓡 count (drop m s))
+          (λ g l e. false_true (sym y.is ∙ g))
+          (λ g e. record { is = λ h. let c = x.fact.0 in rw (x.is, c, e) refl })
 
 -- ---- the frames of a queue in a form: as bytes or as lines of text, under a header kind
 abbrev pub head_in : Form → Codec Head
@@ -356,11 +389,20 @@ area_form = record { hex = false; kind = newest }
 abbrev pub text_form : ℕ → Form
 text_form k = record { hex = true; kind = k }
 
-pub store_read : (form : Form) {s : Bytes} {at n₁ n₂ count : ℕ} {ok₁ ok₂ : Bool} {W : Head → Type 0} → Reads (head_in form) s at ok₁ n₁ (λ h. (h.count ≡ count) × W h)
-    → (ok₁ ≡ true → Many (rec_in_value form) s n₁ count ok₂ n₂)
-    → Reads (store_in form) s at (ok₁ && ok₂) n₂ (λ st. W (head_for st) × ((st.recs ≡ list_at (rec_in_value form) count s n₁) × ((whole (rec_in_value form) count s n₁ ≡ true) × (length st.recs ≡ count))))
-unfolding store_in
-store_read form x y = frames_read (head_in form) (rec_in_value form) x y
+module _ (form : Form) {s : Bytes} {at : ℕ} where
+  pub store_fail : Fails (head_in form) s at → Fails (store_in form) s at
+  unfolding store_in
+  store_fail x = frames_fail (head_in form) (rec_in_value form) x
+
+  module _ {m count : ℕ} {W : Head → Type 0} (x : Found (head_in form) s at m (λ h. (h.count ≡ count) × W h)) where
+    pub store_read : {n : ℕ} → Many (rec_in_value form) s m count n
+        → Found (store_in form) s at n (λ st. W (head_for st) × ((st.recs ≡ list_at (rec_in_value form) count s m) × ((whole (rec_in_value form) count s m ≡ true) × (length st.recs ≡ count))))
+    unfolding store_in
+    store_read y = frames_read (head_in form) (rec_in_value form) x y
+
+    pub store_cut : NotMany (rec_in_value form) s m count → Fails (store_in form) s at
+    unfolding store_in
+    store_cut y = frames_cut (head_in form) (rec_in_value form) x y
 
 -- how long a text is: two digits a byte, and the lines' ends
 pub line_length : {A : Type 0} (𝓐 : Codec A) (a : A) → length ((form_c true 𝓐).enc a) ≡ 2 * length (𝓐.enc a) + 1
@@ -389,10 +431,19 @@ queue_with n st = record { persisted = n; limits = st.limits; revision = st.revi
 unfoldable pub queue_c : Codec Queue
 queue_c = map_c (λ x. queue_with x.0 x.1) (λ q. (q.persisted, store_of q)) (λ x. refl) (λ q. refl) (pair_c (be_c 4) (store_in area_form))
 
-pub queue_read : {s : Bytes} {at n₁ n₂ v : ℕ} {ok₁ ok₂ : Bool} {W : Store → Type 0} → Reads (be_c 4) s at ok₁ n₁ (λ x. x ≡ v) → Reads (store_in area_form) s n₁ ok₂ n₂ W
-    → Reads queue_c s at (ok₁ && ok₂) n₂ (λ q. (q.persisted ≡ v) × W (store_of q))
-unfolding queue_c
-queue_read {v = v} {W = W} x y = mapped (λ x. queue_with x.0 x.1) (λ q. (q.persisted, store_of q)) (λ x. refl) (λ q. refl) (λ q. (q.persisted ≡ v) × W (store_of q)) (pair x y) (λ a _ _ _ w. w)
+module _ {s : Bytes} {at : ℕ} where
+  pub queue_fail : Fails (be_c 4) s at → Fails queue_c s at
+  unfolding queue_c
+  queue_fail x = map_fails (λ x. queue_with x.0 x.1) (λ q. (q.persisted, store_of q)) (λ x. refl) (λ q. refl) (first (store_in area_form) x)
+
+  module _ {m v : ℕ} (x : Found (be_c 4) s at m (λ n. n ≡ v)) where
+    pub queue_read : {n : ℕ} {W : Store → Type 0} → Found (store_in area_form) s m n W → Found queue_c s at n (λ q. (q.persisted ≡ v) × W (store_of q))
+    unfolding queue_c
+    queue_read {W = W} y = mapped (λ x. queue_with x.0 x.1) (λ q. (q.persisted, store_of q)) (λ x. refl) (λ q. refl) (λ q. (q.persisted ≡ v) × W (store_of q)) (pair x y) (λ w. w)
+
+    pub queue_cut : Fails (store_in area_form) s m → Fails queue_c s at
+    unfolding queue_c
+    queue_cut y = map_fails (λ x. queue_with x.0 x.1) (λ q. (q.persisted, store_of q)) (λ x. refl) (λ q. refl) (later (store_in area_form) x y)
 
 -- the bytes of a queue, its ok in parts
 pub queue_enc : (q : Queue) → queue_c.enc q ≡ be 4 q.persisted ++ (head_c.enc (head_for (store_of q)) ++ encs rec_c q.recs)

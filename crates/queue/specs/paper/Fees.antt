@@ -1,7 +1,6 @@
 -- Document 02, P12, "Best fees for a block". The search is said of any candidates with a size and a fee; then of a queue's records.
 use Rattle.std.specs.Prelude.{◌≡◌, ℕ, ◌+◌, ◌-◌, ◌≤◌, min, max, Bool, true, false, cond, not, ◌&&◌, leb, List, [], ◌∷◌, ◌++◌, length, take, nat_le, nat_lt}
-use Rattle.queue.specs.declared.Answer.{Answer}
-use Rattle.queue.specs.declared.Answer.TheVariants.{Refused}
+use Rattle.queue.specs.paper.Answer.{Answer, Refused}
 use Rattle.queue.specs.Codec.{be}
 use Rattle.queue.specs.Lists.{Sub}
 use Rattle.queue.specs.Areas.{read_area}

@@ -1,7 +1,7 @@
 -- Document 02, P7, "Parents first": "The builder turns down a template that lists a child before its parent. Add a second selection
 -- order beside the old one." The order is said of any records and any test of who waits for whom; then of a queue's records.
 use Rattle.std.specs.Prelude.{◌≡◌, ℕ, zero, suc, ◌≤◌, Bool, true, cond, not, ◌&&◌, ◌⊎◌, List, [], ◌∷◌, ◌++◌, length}
-use Rattle.queue.specs.declared.Answer.{Answer}
+use Rattle.queue.specs.paper.Answer.{Answer}
 use Rattle.queue.specs.paper.Records.{Bytes, Rec, Queue}
 use Rattle.queue.specs.paper.Lists.{maybe, any?, find, map}
 use Rattle.queue.specs.paper.Ids.{same?}

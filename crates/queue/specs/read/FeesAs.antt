@@ -8,6 +8,9 @@ use Rattle.queue.specs.layout.FormsCodec.{form_c}
 use Rattle.queue.specs.read.SelectAs.{Row, id_at, RecStands}
 use Rattle.queue.specs.paper.Records.{Bytes, Id, Rec}
 use Rattle.queue.specs.paper.Calls.{ids_bytes}
+use Rattle.queue.specs.paper.Lists.{map}
+use Rattle.queue.specs.paper.Fees.{size_of, fee_of}
+use Rattle.queue.specs.declared.read.fees.Candidate.{Candidate}
 use Rattle.queue.specs.declared.read.fees.Choice.{Choice}
 
 -- any record, where none stands
@@ -36,6 +39,18 @@ pub record Known (s : Bytes) (p : ℕ) : Type 0 where
   pub stands : RecStands s p
   pub id : id_at s p ≡ (rec_at_value s p).id
   pub within : p + 33 ≤ length s
+
+-- the sizes and the fees of candidates
+abbrev pub sizes_of : List Candidate → List ℕ
+sizes_of z = map (λ c. c.size) z
+
+abbrev pub fees_of : List Candidate → List ℕ
+fees_of z = map (λ c. c.fee) z
+
+-- those of the records at these places
+pub record Candidates (s : Bytes) (at : List ℕ) (z : List Candidate) : Type 0 where
+  pub sizes : sizes_of z ≡ map (λ p. size_of (rec_at_value s p)) at
+  pub fees : fees_of z ≡ map (λ p. fee_of (rec_at_value s p)) at
 
 -- the answer's bytes, with the ids of the set
 unfoldable pub choice_bytes : Choice → List Id → Bytes

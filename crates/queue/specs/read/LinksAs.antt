@@ -82,8 +82,9 @@ pub record Cleared (go : Bool) (v v' : List ℕ) : Type 0 where
 
 -- a row into its slot, or behind others, where its number is marked
 pub record Slotted (h w k : ℕ) (slots t v : List ℕ) (r : ℕ) (slots' t' v' : List ℕ) : Type 0 where
+  pub some : 0 < length slots
   pub free : get_or slots (slot_l (length slots) h) 0 ≡ 0 → (r ≡ k) × (slots' ≡ set slots (slot_l (length slots) h) w) × (t' ≡ t) × (v' ≡ v)
-  pub taken : (get_or slots (slot_l (length slots) h) 0 ≡ 0 → ⊥) → (r ≡ k + 1) × (slots' ≡ slots) × (t' ≡ mark_l t h) × (v' ≡ set v k w)
+  pub taken : (get_or slots (slot_l (length slots) h) 0 ≡ 0 → ⊥) → (r ≡ k + 1) × (slots' ≡ slots) × (t' ≡ mark_l t h) × (v' ≡ set v k w) × (0 < length t)
 
 -- the rows in slots and in a table say who wants what; each slot has its own rows, what is in the table is marked
 pub record RowsHold (s : Bytes) (slots t rows : List ℕ) (own : ℕ → Id → Bool) : Type 0 where
@@ -93,7 +94,6 @@ pub record RowsHold (s : Bytes) (slots t rows : List ℕ) (own : ℕ → Id → 
 
 -- rows of record j for these ids came
 pub record Rowed (s : Bytes) (j : ℕ) (ids : List Id) (slots t rows slots' t' rows' : List ℕ) : Type 0 where
-  pub sizes : (length slots' ≡ length slots) × (length t' ≡ length t)
   pub by : (own : ℕ → Id → Bool) → RowsHold s slots t rows own → RowsHold s slots' t' rows' (λ i z. own i z || (eqb i j && among? z ids))
 
 -- the row before place k of v has the id and the group of x

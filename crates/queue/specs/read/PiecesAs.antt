@@ -1,5 +1,5 @@
 -- The reading calls that write a piece for each record that passes.
-use Rattle.std.specs.Prelude.{◌≡◌, Bool, true, cond, ◌&&◌, List, [], ◌∷◌, ◌++◌, ℕ, ◌+◌, ◌-◌, ◌*◌, ◌≤◌, eqb, length, take, drop}
+use Rattle.std.specs.Prelude.{◌≡◌, Bool, true, cond, ◌&&◌, List, [], ◌∷◌, ◌++◌, ℕ, ◌+◌, ◌-◌, ◌*◌, ◌≤◌, eqb, length, take, drop, is_some}
 use Rattle.queue.specs.Codec.{be}
 use Rattle.queue.specs.layout.FrameAs.{facts_of}
 use Rattle.queue.specs.check.RulesAs.{due_f}
@@ -20,7 +20,7 @@ unfoldable pub passes_f : What → Facts → Bool
 passes_f Ids f = true
 passes_f Guarded f = f.holder
 passes_f (DueBy t h) f = due_f t.0 h.0 f
-passes_f Confirmed f = eqb f.state 2 && f.placed
+passes_f Confirmed f = eqb f.state 2 && is_some f.mined
 passes_f Entries f = true
 
 abbrev pub passes? : What → Rec → Bool

@@ -1,5 +1,5 @@
 -- What the reading calls' functions ensure.
-use Rattle.std.specs.Prelude.{◌≡◌, true, false, cond, List, [], ◌∷◌, ◌++◌, ℕ, ◌+◌, ◌-◌, ◌*◌, ◌≤◌, ◌<◌, length, take, drop, ◌≢◌}
+use Rattle.std.specs.Prelude.{◌≡◌, true, false, cond, List, [], ◌∷◌, ◌++◌, ℕ, ◌+◌, ◌-◌, ◌*◌, ◌≤◌, ◌<◌, length, take, drop}
 use Rattle.std.proofs.Math.Option.{Option, none, some}
 use Rattle.queue.specs.bytes.PutAs.{be_last}
 use Rattle.queue.specs.layout.FrameCodec.{rec_c}
@@ -11,25 +11,23 @@ use Rattle.queue.specs.paper.Lists.{find}
 use Rattle.queue.specs.paper.Changing.{named?}
 use Rattle.queue.specs.paper.Area.{head_bytes, rec_bytes}
 use Rattle.queue.specs.paper.Calls.{id?, end_of, signed_bytes_of}
-use Rattle.queue.specs.declared.Kind.{Kind}
-use Rattle.queue.specs.declared.Answer.TheVariants.{Refused, Done}
+use Rattle.queue.specs.declared.Kind.TheVariants.{Nothing}
+use Rattle.queue.specs.paper.Answer.{Refused, Done}
+use Rattle.queue.specs.declared.refusal.Refusal.{Refusal}
+use Rattle.queue.specs.Refusal.{refusal_number}
 use Rattle.queue.specs.declared.layout.frame.Seen.{Seen}
-use Rattle.queue.specs.declared.read.find.Found.{Found}
-use Rattle.queue.specs.declared.read.reading.Looked.{Looked}
 use Rattle.queue.specs.declared.read.reading.Place.{Place}
 
 -- the record r stands at `at` of an area
 abbrev pub Here : Bytes → ℕ → Rec → Type 0
 Here s at r = (at ≤ length s) × (whole (form_c false rec_c) 1 s at ≡ true) × (list_at (form_c false rec_c) 1 s at ≡ r ∷ [])
 
--- what was found of o, in s
-pub record FoundAs (s : Bytes) (x : Found) (o : Option Rec) : Type 0 where
-  pub good : x.found ≡ true → (r : Rec) × (o ≡ some r) × Here s x.at r
-  pub bad : x.found ≡ false → o ≡ none
-
--- where the frame found ends: the records start at `at`
-abbrev pub FoundEnd : Id → ℕ → List Rec → Found → Type 0
-FoundEnd id at l x = (r : Rec) → x.found ≡ true → find (named? id) l ≡ some r → x.at + length (rec_bytes r) ≡ at + end_of id l
+-- the record with this id stands at `at` of s; the records l, of which it is one, start at `start`
+pub record StandsAt (s : Bytes) (id : Id) (start : ℕ) (l : List Rec) (at : ℕ) : Type 0 where
+  pub r : Rec
+  pub found : find (named? id) l ≡ some r
+  pub here : Here s at r
+  pub end : at + length (rec_bytes r) ≡ start + end_of id l
 
 -- a record looked up by its id: a refusal, or the record
 pub data Look : Type 0 where
@@ -47,17 +45,25 @@ look_in id (some q) = cond (id? id) (look_rec (find (named? id) q.recs)) (off 5)
 unfoldable pub look_of : Bytes → Bytes → Look
 look_of s id = look_in id (read_area s)
 
--- the refusal's number; or 0, and the record stands at x.at, where it belongs
-pub record LookAs (s id : Bytes) (x : Looked) : Type 0 where
-  pub good : x.refusal ≡ 0
-      → (r : Rec) × (look_of s id ≡ hit r) × Here s x.at r × ((q : Queue) → read_area s ≡ some q → x.at + length (rec_bytes r) ≡ 4 + length (head_bytes q) + end_of id q.recs)
-  pub bad : (x.refusal ≢ 0) → look_of s id ≡ off x.refusal
+-- a record that was looked up stands at `at`, where it belongs
+pub record LookedUp (s id : Bytes) (at : ℕ) : Type 0 where
+  pub r : Rec
+  pub is : look_of s id ≡ hit r
+  pub here : Here s at r
+  pub end : (q : Queue) → read_area s ≡ some q → at + length (rec_bytes r) ≡ 4 + length (head_bytes q) + end_of id q.recs
+
+-- the look-up is refused
+abbrev pub LookRefused : Bytes → Bytes → Refusal → Type 0
+LookRefused s id e = look_of s id ≡ off (refusal_number e)
 
 -- where a record's signed bytes stand
-pub record SignedAs (s id : Bytes) (x : Place) : Type 0 where
-  pub refused : (n : ℕ) (old : ℕ × ℕ) → x.answer ≡ Refused n → ((x.start ≡ 0) × (x.len ≡ 0)) × ((Refused n, old) ≡ signed_bytes_of s id old)
-  pub done : (k : Kind) (old : ℕ × ℕ) → x.answer ≡ Done k → (Done k, (x.start, x.len)) ≡ signed_bytes_of s id old
+pub record SignedAt (s id : Bytes) (x : Place) : Type 0 where
+  pub is : (old : ℕ × ℕ) → (Done Nothing, (x.start, x.len)) ≡ signed_bytes_of s id old
   pub within : x.start + x.len ≤ length s
+
+-- the call about signed bytes is refused
+abbrev pub SignedRefused : Bytes → Bytes → Refusal → Type 0
+SignedRefused s id e = (old : ℕ × ℕ) → (Refused (refusal_number e), old) ≡ signed_bytes_of s id old
 
 -- a part of s: where it starts, and how long it is
 abbrev pub part_in : Bytes → ℕ × ℕ → Bytes

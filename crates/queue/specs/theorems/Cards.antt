@@ -2,7 +2,7 @@
 -- of tests.
 use Rattle.std.specs.Prelude.{◌≡◌, refl, Bool, true, false, cond, not, ◌&&◌, List, [], ◌∷◌, ◌++◌, ℕ, ◌+◌, ◌-◌, ◌*◌, eqb, length, take, drop, replicate}
 use Rattle.std.proofs.Math.Option.{Option, none, some}
-use Rattle.queue.specs.declared.Answer.{Answer}
+use Rattle.queue.specs.paper.Answer.{Answer}
 use Rattle.queue.specs.Hex.{text_of, dig_of}
 use Rattle.queue.specs.paper.Records.{Bytes, Id, Limits, Held, Rec, Queue, queued, mined, conflicted}
 use Rattle.queue.specs.paper.Lists.{one, all?, any?, find, map, concat}

@@ -8,6 +8,7 @@ pub struct Block {
     pub height: Height,
     pub tip: [u8; 32],
     pub entries: u64,
+    // Kept: a fact of its own: no field has a value only where it is true.
     pub caught: bool,
     pub available: u64,
     pub window: u64,

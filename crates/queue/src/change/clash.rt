@@ -2,34 +2,34 @@
 ghost use Rattle.std.specs.Prelude.{◌≡◌, ◌+◌, ◌<◌, ◌≤◌, true, false, length, take};
 ghost use Rattle.queue.specs.layout.FrameCodec.{rec_c, id_c};
 ghost use Rattle.queue.specs.layout.FormsCodec.{form_c};
-ghost use Rattle.queue.specs.bytes.ViewAs.{view};
+ghost use Rattle.queue.specs.bytes.OrderAs.{order_number};
 ghost use Rattle.queue.specs.bytes.ReaderAs.{whole, list_at};
 ghost use Rattle.queue.specs.layout.RecordsAs.{RecordsIn, recs_at};
 ghost use Rattle.queue.specs.change.ReopenAs.{IdsIn, ids_at};
 ghost use Rattle.queue.specs.check.SuspectsAs.{id_r, InOrder};
-ghost use Rattle.queue.specs.change.ClashAs.{row_has, RowsOf, CutId, any_of, MeetsIs, meets_ids, clashes};
+ghost use Rattle.queue.specs.change.ClashAs.{row_has, below_row, RowsOf, CutId, any_of, MeetsIs, meets_ids, clashes};
 ghost use Rattle.queue.specs.change.TouchAs.{SeenHere};
 ghost use Rattle.queue.specs.paper.Ids.{cmp_l};
 ghost use Rattle.queue.specs.paper.Lists.{any?};
 ghost use Rattle.queue.specs.paper.Sound.{among?};
 
-use crate::bytes::view::{cmp_id, id_at, size};
+use crate::bytes::view::{View, compare_ids};
 use crate::check::scan::has_id;
-use crate::check::suspects::{Order, in_order, order_rows, row_at};
+use crate::check::suspects::{in_order, order_rows, row_at};
 use crate::layout::forms::after_in;
-use crate::layout::frame::{Seen, id_read, rec_at};
+use crate::layout::frame::{Seen, record_at};
 use crate::layout::records::Records;
+use std::cmp::Ordering;
 
-// The order of a row's id and an id. 0: the row's is lower; 1: the same; 2: higher.
-fn cmp_row(ids: &[u8], x: u64, id: [u8; 32]) -> u8
-    ensures { result ≡ cmp_l (id_r false ids.now x) id }
+// The order of a row's id and an id. A row too near the end has no id.
+fn cmp_row(ids: &[u8], x: u64, id: [u8; 32]) -> Ordering
+    ensures { order_number result ≡ cmp_l (id_r false ids.now x) id }
 {
-    let p = (x / 4294967296) as usize;
-    if size(ids, false, p) < 32 {
-        return 0;
+    let v = View::new(ids, false, (x / 4294967296) as usize);
+    if v.len() < 32 {
+        return Ordering::Less;
     }
-    let y = id_at(ids, false, p, 0);
-    cmp_id(y, id)
+    compare_ids(v.id(0), id)
 }
 
 // A row for each of the m ids.
@@ -38,34 +38,28 @@ fn place_rows(ids: &[u8], m: u64, v: &mut [u64]) -> usize
     ensures { RowsOf ids.now m (take result v.new) × (result ≤ length v.old) × (length v.new ≡ length v.old) }
 {
     let mut i: usize = 0;
-    let mut left = m;
     let mut k: usize = 0;
-    while 0 < left {
-        let x = id_read(ids, false, 0, i);
+    for _left in (0..m).rev() {
         v[k] = row_at(ids, false, 0, i, 0);
-        k = k + 1;
-        i = x.next;
-        left = left - 1;
+        k += 1;
+        i += 32;
     }
     k
+}
+
+// Is the row's id lower?
+fn is_below(ids: &[u8], x: u64, id: [u8; 32]) -> bool
+    ensures { result ≡ below_row ids.now id x }
+{
+    cmp_row(ids, x, id).is_lt()
 }
 
 // How many rows have a lower id.
 fn bisect_id(ids: &[u8], v: &[u64], id: [u8; 32]) -> usize
     requires { InOrder false ids.now v.now }
-    ensures { CutId ids.now v.now id result result }
+    ensures { CutId ids.now v.now id result }
 {
-    let mut lo: usize = 0;
-    let mut hi = v.len();
-    while lo < hi {
-        let m = lo + (hi - lo) / 2;
-        if cmp_row(ids, v[m], id) == 0 {
-            lo = m + 1;
-        } else {
-            hi = m;
-        }
-    }
-    lo
+    v.partition_point(|x| is_below(ids, *x, id))
 }
 
 // Has a row the id?
@@ -77,7 +71,7 @@ fn has_row(ids: &[u8], v: &[u64], id: [u8; 32]) -> bool
     if v.len() <= b {
         return false;
     }
-    cmp_row(ids, v[b], id) == 1
+    cmp_row(ids, v[b], id).is_eq()
 }
 
 // Is the id one of the m lent ones? Without an order, which there never is, each is compared.
@@ -88,33 +82,21 @@ fn is_lent(ids: &[u8], m: u64, v: &[u64], ordered: bool, id: [u8; 32]) -> bool
     if ordered {
         return has_row(ids, v, id);
     }
-    has_id(ids, false, 0, 0, m, id)
+    has_id(&View::new(ids, false, 0), 0, m, id)
 }
 
-// Is one of the c ids at offset `at` of the frame at base one of the m lent ones?
-fn any_lent(
-    s: &[u8],
-    base: usize,
-    at: usize,
-    c: u64,
-    ids: &[u8],
-    m: u64,
-    v: &[u64],
-    ordered: bool,
-) -> bool
-    requires { (at ≤ length (view false s.now base)) × (whole id_c c (view false s.now base) at ≡ true) × IdsIn ids.now m × RowsOf ids.now m v.now × (ordered ≡ true → InOrder false ids.now v.now) }
-    ensures { result ≡ any_of (ids_at ids.now m) (list_at id_c c (view false s.now base) at) }
+// Is one of the c ids at offset `at` of a frame one of the m lent ones?
+fn any_lent(frame: &View, at: usize, c: u64, ids: &[u8], m: u64, v: &[u64], ordered: bool) -> bool
+    requires { (at ≤ length frame.now) × (whole id_c c frame.now at ≡ true) × IdsIn ids.now m × RowsOf ids.now m v.now × (ordered ≡ true → InOrder false ids.now v.now) }
+    ensures { result ≡ any_of (ids_at ids.now m) (list_at id_c c frame.now at) }
 {
     let mut i = at;
-    let mut left = c;
-    while 0 < left {
-        let x = id_read(s, false, base, i);
-        let id = x.id;
+    for _left in (0..c).rev() {
+        let id = frame.id(i);
         if is_lent(ids, m, v, ordered, id) {
             return true;
         }
-        i = x.next;
-        left = left - 1;
+        i += 32;
     }
     false
 }
@@ -134,10 +116,11 @@ fn meets(
     ensures { MeetsIs s.now base x read (ids_at ids.now m) result }
 {
     let f = x.facts;
+    let frame = View::new(s, false, base);
     if read {
-        return any_lent(s, base, x.reads, f.reads, ids, m, v, ordered);
+        return any_lent(&frame, x.reads, f.reads, ids, m, v, ordered);
     }
-    any_lent(s, base, x.at, f.ins, ids, m, v, ordered)
+    any_lent(&frame, x.at, f.ins, ids, m, v, ordered)
 }
 
 // The same of one of the records.
@@ -154,14 +137,12 @@ fn any_meets(
     ensures { result ≡ meets_ids read (ids_at ids.now m) (recs_at (form_c false rec_c) s.now recs) }
 {
     let mut i = recs.start;
-    let mut left = recs.count;
-    while 0 < left {
-        let x = rec_at(s, i);
+    for _left in (0..recs.count).rev() {
+        let x = record_at(s, i);
         if meets(s, i, x, read, ids, m, v, ordered) {
             return true;
         }
         i = after_in(s, false, i, x.size);
-        left = left - 1;
     }
     false
 }
@@ -171,7 +152,7 @@ fn clash_by(ids: &[u8], m: u64, s: &[u8], recs: Records, read: bool, v: &mut [u6
     requires { RecordsIn (form_c false rec_c) s.now recs × IdsIn ids.now m × RowsOf ids.now m v.old }
     ensures { result ≡ clashes read (ids_at ids.now m) (recs_at (form_c false rec_c) s.now recs) }
 {
-    order_rows(ids, Order::Ids(false), v);
+    order_rows(ids, false, v);
     let o = in_order(ids, false, v);
     any_meets(s, recs, read, ids, m, v, o)
 }

@@ -12,15 +12,15 @@ ghost use Rattle.queue.specs.read.FindAs.{recs_in};
 ghost use Rattle.queue.specs.change.PlanAs.{Planned, ended_l};
 ghost use Rattle.queue.specs.change.FinishAs.{picked_s, picked, end_what};
 ghost use Rattle.queue.specs.check.NumbersAs.{above};
+ghost use Rattle.queue.specs.change.VerdictAs.{verdict_code};
 
-use crate::bytes::logic::one_if;
-use crate::bytes::view::cmp_id;
-use crate::change::plan::{Plan, Row, fate_of, push_row};
-use crate::change::verdict;
+use crate::bytes::view::same_id;
+use crate::change::plan::{Plan, Row, fate_of, is_kept, push_row};
+use crate::change::verdict::Verdict;
 use crate::check::area::Area;
 use crate::check::numbers::{floor_in, gather};
 use crate::check::rules::{Query, is_due};
-use crate::layout::frame::{AREA, Finish, Height, Seen, Time, rec_at};
+use crate::layout::frame::{AREA, Finish, Height, Seen, Time, record_at};
 use crate::layout::records::Records;
 
 // Which records a call finishes: the one of an id, or those that are due.
@@ -36,7 +36,7 @@ pub fn picks(c: Change, id: [u8; 32], x: Seen) -> bool
     match c {
         Change::Named => {
             let rid = x.id;
-            cmp_id(id, rid) == 1
+            same_id(id, rid)
         }
         Change::Due(t, h) => {
             let f = x.facts;
@@ -46,15 +46,15 @@ pub fn picks(c: Change, id: [u8; 32], x: Seen) -> bool
 }
 
 // What becomes of a record that is picked, and of one that is not.
-fn ends_as(c: Change, hit: bool) -> u64
-    ensures { (result ≡ (if hit then end_what c else 0)) × (result < 7) }
+fn ends_as(c: Change, hit: bool) -> Verdict
+    ensures { verdict_code result ≡ (if hit then end_what c else 0) }
 {
     if !hit {
-        return verdict::STAYS;
+        return Verdict::Stays;
     }
     match c {
-        Change::Named => verdict::CANCELLED,
-        Change::Due(t, h) => verdict::EXPIRED,
+        Change::Named => Verdict::Cancelled,
+        Change::Due(t, h) => Verdict::Expired,
     }
 }
 
@@ -75,13 +75,11 @@ pub fn hits(s: &[u8], recs: Records, c: Change, id: [u8; 32]) -> u64
     ensures { (result ≡ count (picked c id) (recs_at (form_c false rec_c) s.now recs)) × (result ≤ recs.count) }
 {
     let mut i = recs.start;
-    let mut left = recs.count;
     let mut total: u64 = 0;
-    while 0 < left {
-        let x = rec_at(s, i);
-        total = total + one_if(picks(c, id, x));
+    for _left in (0..recs.count).rev() {
+        let x = record_at(s, i);
+        total += u64::from(picks(c, id, x));
         i = i + x.size;
-        left = left - 1;
     }
     total
 }
@@ -114,16 +112,16 @@ pub fn plan_ended(
     let p = a.open;
     let h = p.head;
     let mut i = p.start;
-    let mut left = h.count;
     let mut k: usize = 0;
     let mut kept: u64 = 0;
     let mut given: u64 = 0;
-    while 0 < left {
-        let x = rec_at(s, i);
+    for _left in (0..h.count).rev() {
+        let x = record_at(s, i);
         let f = x.facts;
         let hit = picks(c, id, x);
         let rank = rank_next(hit, given);
-        let what = fate_of(ends_as(c, hit), rank, h.counter, floor, f);
+        let ended = ends_as(c, hit);
+        let what = fate_of(ended, Verdict::Forgotten, rank, h.counter, floor, f);
         k = push_row(
             rows,
             k,
@@ -134,10 +132,9 @@ pub fn plan_ended(
                 what: what,
             },
         );
-        kept = kept + one_if(what != verdict::FORGOTTEN);
-        given = given + one_if(hit);
+        kept += u64::from(is_kept(what));
+        given += u64::from(hit);
         i = i + x.size;
-        left = left - 1;
     }
     Plan {
         rows: k,

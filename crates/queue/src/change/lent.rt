@@ -6,23 +6,20 @@ ghost use Rattle.queue.specs.change.LentAs.{EntriesAre, IdsAre, ReconcileAsked};
 ghost use Rattle.queue.specs.change.ReopenAs.{IdsIn, ids_at, IdsRise};
 ghost use Rattle.queue.specs.paper.Sound.{among?};
 
-use crate::bytes::logic::both;
-use crate::bytes::view::{cmp_at, cmp_id, id_at, size};
-use crate::layout::frame::id_read;
+use crate::bytes::view::{View, compare_ids};
 
 // Do the ids of k entries rise strictly?
 pub fn entries_rise(t: &[u8], k: u64) -> bool
     requires { length t.now ≡ k * 68 }
     ensures { result ≡ rise? (entry_ids t.now k) }
 {
+    let v = View::new(t, false, 0);
     let mut i: usize = 0;
-    let mut left = k;
-    while 1 < left {
-        if cmp_at(t, false, 0, i, 0, i + 68) != 0 {
+    for _left in (1..k).rev() {
+        if !v.compare_at(i, &v, i + 68).is_lt() {
             return false;
         }
-        i = i + 68;
-        left = left - 1;
+        i += 68;
     }
     true
 }
@@ -31,7 +28,7 @@ pub fn entries_rise(t: &[u8], k: u64) -> bool
 fn entries_ask(t: &[u8]) -> bool
     ensures { EntriesAre t.now result }
 {
-    let n = size(t, false, 0);
+    let n = View::new(t, false, 0).len();
     if n % 68 != 0 {
         return false;
     }
@@ -42,7 +39,7 @@ fn entries_ask(t: &[u8]) -> bool
 fn ids_ask(ids: &[u8]) -> bool
     ensures { IdsAre ids.now result }
 {
-    let n = size(ids, false, 0);
+    let n = View::new(ids, false, 0).len();
     if n % 32 != 0 {
         return false;
     }
@@ -53,11 +50,11 @@ fn ids_ask(ids: &[u8]) -> bool
 pub fn reconcile_asks(tip: &[u8], flag: u64, t: &[u8], ids: &[u8]) -> bool
     ensures { ReconcileAsked tip.now flag t.now ids.now result }
 {
-    let n = size(tip, false, 0);
-    let a = both(n == 32, flag <= 1);
+    let n = View::new(tip, false, 0).len();
+    let a = (n == 32) & (flag <= 1);
     let b = entries_ask(t);
     let c = ids_ask(ids);
-    both(a, both(b, c))
+    a & (b & c)
 }
 
 // Do n lent ids rise strictly?
@@ -68,42 +65,25 @@ pub fn rise(ids: &[u8], n: u64) -> bool
     if n == 0 {
         return true;
     }
-    let y = id_read(ids, false, 0, 0);
-    let mut prev = y.id;
-    let mut i = y.next;
-    let mut left = n - 1;
-    while 0 < left {
-        let x = id_read(ids, false, 0, i);
-        let id = x.id;
-        if cmp_id(prev, id) != 0 {
+    let v = View::new(ids, false, 0);
+    let mut prev = v.id(0);
+    let mut i: usize = 32;
+    for _left in (0..n - 1).rev() {
+        let id = v.id(i);
+        if !compare_ids(prev, id).is_lt() {
             return false;
         }
         prev = id;
-        i = x.next;
-        left = left - 1;
+        i += 32;
     }
     true
 }
 
-// Is the id one of k lent ids, which rise? Those before lo are lower, those from hi on are higher.
+// Is the id one of k lent ids, which rise?
 pub fn find_lent(ids: &[u8], k: u64, id: [u8; 32]) -> bool
     requires { IdsRise ids.now k }
     ensures { result ≡ among? id (ids_at ids.now k) }
 {
-    let mut lo: usize = 0;
-    let mut hi = k as usize;
-    while lo < hi {
-        let m = lo + (hi - lo) / 2;
-        let y = id_at(ids, false, 0, 32 * m);
-        let c = cmp_id(id, y);
-        if c == 1 {
-            return true;
-        }
-        if c == 0 {
-            hi = m;
-        } else {
-            lo = m + 1;
-        }
-    }
-    false
+    let (rows, _) = ids[..32 * k as usize].as_chunks::<32>();
+    rows.binary_search(&id).is_ok()
 }

@@ -18,14 +18,14 @@ ghost use Rattle.queue.specs.paper.Lists.{any?, all?};
 ghost use Rattle.queue.specs.paper.Sound.{among?};
 ghost use Rattle.queue.specs.paper.Changing.{queued_outputs};
 
-use crate::bytes::logic::both;
+use crate::bytes::view::View;
 use crate::change::lent::find_lent;
-use crate::check::filter::{bit, hash, mark, seen};
-use crate::check::suspects::{Order, any_later, in_order, order_rows, row_at};
+use crate::check::filter::{Filter, bit, hash};
+use crate::check::suspects::{any_later, in_order, order_rows, row_at};
 use crate::layout::forms::after_in;
-use crate::layout::frame::{Seen, id_read, rec_at};
+use crate::layout::frame::{Seen, record_at};
 use crate::layout::records::Records;
-use crate::layout::state;
+use crate::layout::state::State;
 use crate::read::links::clear;
 
 // How many ids the records want.
@@ -34,14 +34,12 @@ pub fn count_wanted(s: &[u8], recs: Records) -> u64
     ensures { (result ≡ length (wanted_of (recs_at (form_c false rec_c) s.now recs))) × (result ≤ recs.count * 131070) }
 {
     let mut i = recs.start;
-    let mut left = recs.count;
     let mut total: u64 = 0;
-    while 0 < left {
-        let x = rec_at(s, i);
+    for _left in (0..recs.count).rev() {
+        let x = record_at(s, i);
         let f = x.facts;
         total = total + (f.ins + f.reads);
         i = after_in(s, false, i, x.size);
-        left = left - 1;
     }
     total
 }
@@ -72,75 +70,68 @@ pub fn all_set(flags: &[u64], g: usize, c: u64) -> bool
     ensures { result ≡ all? set? (take c (drop g (bits_in flags.now))) }
 {
     let mut i = g;
-    let mut left = c;
-    while 0 < left {
+    for _left in (0..c).rev() {
         if !flag_at(flags, i) {
             return false;
         }
         i += 1;
-        left = left - 1;
     }
     true
 }
 
 // The flag of an available id, or the id into the filter.
-fn note_id(flags: &mut [u64], g: usize, t: &mut [u64], id: [u8; 32], found: bool)
-    requires { (g < 64 * length flags.old) × (0 < length t.old) }
+fn note_id(flags: &mut [u64], g: usize, t: &mut Filter, id: [u8; 32], found: bool)
+    requires { (g < 64 * length flags.old) }
     ensures { ((bits_in flags.new) ≡ (if found then slice_set (bits_in flags.old) g 1 else bits_in flags.old)) × (t.new ≡ (if found then t.old else mark_l t.old (hash_l id))) }
 {
     if found {
         set_flag(flags, g);
         return;
     }
-    mark(t, hash(id));
+    t.mark(hash(id));
 }
 
-// The flags from `from` on of those of the c ids at offset `at` of the frame at base that are available; the others into the filter.
+// The flags from `from` on of those of the c ids at offset `at` of a frame that are available; the others into the filter.
 fn note_ids(
-    s: &[u8],
-    base: usize,
+    frame: &View,
     at: usize,
     c: u64,
     ids: &[u8],
     m: u64,
     flags: &mut [u64],
     from: usize,
-    t: &mut [u64],
+    t: &mut Filter,
 )
-    requires { (at ≤ length (view false s.now base)) × (whole id_c c (view false s.now base) at ≡ true) × IdsRise ids.now m × Fits (from + c) flags.old × (0 < length t.old) }
-    ensures { ((bits_in flags.new) ≡ mark_all_value (λ z. among? z (ids_at ids.now m)) (list_at id_c c (view false s.now base) at) (bits_in flags.old) from) × (t.new ≡ miss_all (λ z. among? z (ids_at ids.now m)) (list_at id_c c (view false s.now base) at) t.old) }
+    requires { (at ≤ length frame.now) × (whole id_c c frame.now at ≡ true) × IdsRise ids.now m × Fits (from + c) flags.old }
+    ensures { ((bits_in flags.new) ≡ mark_all_value (λ z. among? z (ids_at ids.now m)) (list_at id_c c frame.now at) (bits_in flags.old) from) × (t.new ≡ miss_all (λ z. among? z (ids_at ids.now m)) (list_at id_c c frame.now at) t.old) }
 {
     let mut i = at;
-    let mut left = c;
     let mut g = from;
-    while 0 < left {
-        let x = id_read(s, false, base, i);
-        let id = x.id;
+    for _left in (0..c).rev() {
+        let id = frame.id(i);
         let found = find_lent(ids, m, id);
         note_id(flags, g, t, id, found);
-        i = x.next;
-        left = left - 1;
+        i += 32;
         g += 1;
     }
 }
 
 // The flags of all wanted ids of the records that are available; the others into the filter.
-fn note_all(s: &[u8], recs: Records, ids: &[u8], m: u64, flags: &mut [u64], t: &mut [u64])
-    requires { RecordsIn (form_c false rec_c) s.now recs × IdsRise ids.now m × Fits (length (wanted_of (recs_at (form_c false rec_c) s.now recs))) flags.old × (0 < length t.old) }
+fn note_all(s: &[u8], recs: Records, ids: &[u8], m: u64, flags: &mut [u64], t: &mut Filter)
+    requires { RecordsIn (form_c false rec_c) s.now recs × IdsRise ids.now m × Fits (length (wanted_of (recs_at (form_c false rec_c) s.now recs))) flags.old }
     ensures { ((bits_in flags.new) ≡ mark_all_value (λ z. among? z (ids_at ids.now m)) (wanted_of (recs_at (form_c false rec_c) s.now recs)) (bits_in flags.old) 0) × (t.new ≡ miss_all (λ z. among? z (ids_at ids.now m)) (wanted_of (recs_at (form_c false rec_c) s.now recs)) t.old) }
 {
     let mut i = recs.start;
-    let mut left = recs.count;
     let mut g: usize = 0;
-    while 0 < left {
-        let x = rec_at(s, i);
+    for _left in (0..recs.count).rev() {
+        let x = record_at(s, i);
         let f = x.facts;
-        note_ids(s, i, x.at, f.ins, ids, m, flags, g, t);
+        let frame = View::new(s, false, i);
+        note_ids(&frame, x.at, f.ins, ids, m, flags, g, t);
         g = g + f.ins as usize;
-        note_ids(s, i, x.reads, f.reads, ids, m, flags, g, t);
+        note_ids(&frame, x.reads, f.reads, ids, m, flags, g, t);
         g = g + f.reads as usize;
         i = after_in(s, false, i, x.size);
-        left = left - 1;
     }
 }
 
@@ -173,13 +164,10 @@ fn mark_ids(
     ensures { (bits_in flags.new) ≡ mark_all_value (λ z. any? (later false s.now z 0) v.now) (list_at id_c c (view false s.now base) at) (bits_in flags.old) from }
 {
     let mut i = at;
-    let mut left = c;
     let mut g = from;
-    while 0 < left {
-        let x = id_read(s, false, base, i);
+    for _left in (0..c).rev() {
         mark_id(s, base, i, v, ordered, flags, g);
-        i = x.next;
-        left = left - 1;
+        i += 32;
         g += 1;
     }
 }
@@ -190,17 +178,15 @@ fn mark_all(s: &[u8], recs: Records, v: &[u64], ordered: bool, flags: &mut [u64]
     ensures { (bits_in flags.new) ≡ mark_all_value (λ z. any? (later false s.now z 0) v.now) (wanted_of (recs_at (form_c false rec_c) s.now recs)) (bits_in flags.old) 0 }
 {
     let mut i = recs.start;
-    let mut left = recs.count;
     let mut g: usize = 0;
-    while 0 < left {
-        let x = rec_at(s, i);
+    for _left in (0..recs.count).rev() {
+        let x = record_at(s, i);
         let f = x.facts;
         mark_ids(s, i, x.at, f.ins, v, ordered, flags, g);
         g = g + f.ins as usize;
         mark_ids(s, i, x.reads, f.reads, v, ordered, flags, g);
         g = g + f.reads as usize;
         i = after_in(s, false, i, x.size);
-        left = left - 1;
     }
 }
 
@@ -209,7 +195,7 @@ fn flag_rows(s: &[u8], recs: Records, v: &mut [u64], flags: &mut [u64])
     requires { RecordsIn (form_c false rec_c) s.now recs × (length s.now < 4294967296) × Fits (length (wanted_of (recs_at (form_c false rec_c) s.now recs))) flags.old }
     ensures { Settled s.now (wanted_of (recs_at (form_c false rec_c) s.now recs)) (bits_in flags.old) v.old (bits_in flags.new) v.new }
 {
-    order_rows(s, Order::Ids(false), v);
+    order_rows(s, false, v);
     let o = in_order(s, false, v);
     mark_all(s, recs, v, o, flags);
 }
@@ -221,15 +207,15 @@ fn add_output(
     recs: Records,
     v: &mut [u64],
     flags: &mut [u64],
-    t: &[u64],
+    t: &Filter,
     k: usize,
     w: u64,
     h: u64,
 ) -> usize
-    requires { RecordsIn (form_c false rec_c) s.now recs × (length s.now < 4294967296) × Fits (length (wanted_of (recs_at (form_c false rec_c) s.now recs))) flags.old × (k ≤ length v.old) × (0 < length v.old) × (0 < length t.now) × (h ≡ hash_l (id_r false s.now w)) }
+    requires { RecordsIn (form_c false rec_c) s.now recs × (length s.now < 4294967296) × Fits (length (wanted_of (recs_at (form_c false rec_c) s.now recs))) flags.old × (k ≤ length v.old) × (0 < length v.old) × (h ≡ hash_l (id_r false s.now w)) }
     ensures { Taken s.now (wanted_of (recs_at (form_c false rec_c) s.now recs)) t.now (bits_in flags.old) (take k v.old) (λ z. later false s.now z 0 w) (bits_in flags.new) (take result v.new) × (result ≤ length v.old) }
 {
-    if !seen(t, h) {
+    if !t.seen(h) {
         return k;
     }
     if k < v.len() {
@@ -247,25 +233,23 @@ fn add_rows(
     recs: Records,
     v: &mut [u64],
     flags: &mut [u64],
-    t: &[u64],
+    t: &Filter,
     k: usize,
     base: usize,
     outs: usize,
     c: u64,
 ) -> usize
-    requires { RecordsIn (form_c false rec_c) s.now recs × (length s.now < 4294967296) × Fits (length (wanted_of (recs_at (form_c false rec_c) s.now recs))) flags.old × (k ≤ length v.old) × (0 < length v.old) × (0 < length t.now) × (outs ≤ length (view false s.now base)) × (whole id_c c (view false s.now base) outs ≡ true) }
+    requires { RecordsIn (form_c false rec_c) s.now recs × (length s.now < 4294967296) × Fits (length (wanted_of (recs_at (form_c false rec_c) s.now recs))) flags.old × (k ≤ length v.old) × (0 < length v.old) × (outs ≤ length (view false s.now base)) × (whole id_c c (view false s.now base) outs ≡ true) }
     ensures { Taken s.now (wanted_of (recs_at (form_c false rec_c) s.now recs)) t.now (bits_in flags.old) (take k v.old) (λ z. among? z (list_at id_c c (view false s.now base) outs)) (bits_in flags.new) (take result v.new) × (result ≤ length v.old) }
 {
+    let frame = View::new(s, false, base);
     let mut i = outs;
-    let mut left = c;
     let mut h = k;
-    while 0 < left {
-        let x = id_read(s, false, base, i);
-        let id = x.id;
+    for _left in (0..c).rev() {
+        let id = frame.id(i);
         let w = row_at(s, false, base, i, 1);
         h = add_output(s, recs, v, flags, t, h, w, hash(id));
-        i = x.next;
-        left = left - 1;
+        i += 32;
     }
     h
 }
@@ -276,34 +260,32 @@ fn add_outputs(
     recs: Records,
     v: &mut [u64],
     flags: &mut [u64],
-    t: &[u64],
+    t: &Filter,
     k: usize,
     base: usize,
     x: Seen,
 ) -> usize
-    requires { RecordsIn (form_c false rec_c) s.now recs × (length s.now < 4294967296) × Fits (length (wanted_of (recs_at (form_c false rec_c) s.now recs))) flags.old × (k ≤ length v.old) × (0 < length v.old) × (0 < length t.now) × (x.outs ≤ length (view false s.now base)) × (whole id_c x.facts.outs (view false s.now base) x.outs ≡ true) }
+    requires { RecordsIn (form_c false rec_c) s.now recs × (length s.now < 4294967296) × Fits (length (wanted_of (recs_at (form_c false rec_c) s.now recs))) flags.old × (k ≤ length v.old) × (0 < length v.old) × (x.outs ≤ length (view false s.now base)) × (whole id_c x.facts.outs (view false s.now base) x.outs ≡ true) }
     ensures { Taken s.now (wanted_of (recs_at (form_c false rec_c) s.now recs)) t.now (bits_in flags.old) (take k v.old) (λ z. (x.facts.state == 0) && among? z (list_at id_c x.facts.outs (view false s.now base) x.outs)) (bits_in flags.new) (take result v.new) × (result ≤ length v.old) }
 {
     let f = x.facts;
-    if f.state != state::QUEUED {
+    if f.state != State::Queued as u64 {
         return k;
     }
     add_rows(s, recs, v, flags, t, k, base, x.outs, f.outs)
 }
 
 // The outputs of the Queued ones of the records, those that the filter has; returns how many rows are left.
-fn add_queued(s: &[u8], recs: Records, v: &mut [u64], flags: &mut [u64], t: &[u64]) -> usize
-    requires { RecordsIn (form_c false rec_c) s.now recs × (length s.now < 4294967296) × Fits (length (wanted_of (recs_at (form_c false rec_c) s.now recs))) flags.old × (0 < length v.old) × (0 < length t.now) }
+fn add_queued(s: &[u8], recs: Records, v: &mut [u64], flags: &mut [u64], t: &Filter) -> usize
+    requires { RecordsIn (form_c false rec_c) s.now recs × (length s.now < 4294967296) × Fits (length (wanted_of (recs_at (form_c false rec_c) s.now recs))) flags.old × (0 < length v.old) }
     ensures { Taken s.now (wanted_of (recs_at (form_c false rec_c) s.now recs)) t.now (bits_in flags.old) [] (λ z. among? z (queued_outputs (recs_at (form_c false rec_c) s.now recs))) (bits_in flags.new) (take result v.new) × (result ≤ length v.old) }
 {
     let mut i = recs.start;
-    let mut left = recs.count;
     let mut k: usize = 0;
-    while 0 < left {
-        let x = rec_at(s, i);
+    for _left in (0..recs.count).rev() {
+        let x = record_at(s, i);
         k = add_outputs(s, recs, v, flags, t, k, i, x);
         i = after_in(s, false, i, x.size);
-        left = left - 1;
     }
     k
 }
@@ -317,16 +299,17 @@ pub fn note_flags(
     go: bool,
     total: u64,
     flags: &mut [u64],
-    t: &mut [u64],
+    t: &mut Filter,
 ) -> bool
     requires { RecordsIn (form_c false rec_c) s.now recs × IdsRise ids.now m × (go ≡ true → total ≡ length (wanted_of (recs_at (form_c false rec_c) s.now recs))) × (total ≤ 524288) }
     ensures { (result ≡ true → go ≡ true) × (result ≡ true → Noted (λ z. among? z (ids_at ids.now m)) (wanted_of (recs_at (form_c false rec_c) s.now recs)) flags.new t.new) }
 {
     let words = (total + 63) / 64;
-    if !both(go, both(words <= flags.len() as u64, 0 < t.len())) {
+    if !(go & (words <= flags.len() as u64)) {
         return false;
     }
     clear(flags, true);
+    let _size = t.len();
     note_all(s, recs, ids, m, flags, t);
     true
 }
@@ -339,9 +322,9 @@ pub fn own_flags(
     total: u64,
     v: &mut [u64],
     flags: &mut [u64],
-    t: &[u64],
+    t: &Filter,
 ) -> bool
-    requires { RecordsIn (form_c false rec_c) s.now recs × (length s.now < 4294967296) × Fits (length (wanted_of (recs_at (form_c false rec_c) s.now recs))) flags.old × (total ≡ length (wanted_of (recs_at (form_c false rec_c) s.now recs))) × (0 < length t.now) }
+    requires { RecordsIn (form_c false rec_c) s.now recs × (length s.now < 4294967296) × Fits (length (wanted_of (recs_at (form_c false rec_c) s.now recs))) flags.old × (total ≡ length (wanted_of (recs_at (form_c false rec_c) s.now recs))) }
     ensures { result ≡ true → (own : List Id) → Noted (λ z. among? z own) (wanted_of (recs_at (form_c false rec_c) s.now recs)) flags.old t.now → FlagsAre (λ z. among? z (own_ids own (recs_at (form_c false rec_c) s.now recs))) (wanted_of (recs_at (form_c false rec_c) s.now recs)) (bits_in flags.new) }
 {
     if v.len() == 0 {

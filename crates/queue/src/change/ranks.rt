@@ -9,27 +9,24 @@ ghost use Rattle.queue.specs.change.RanksAs.{RankRows, Ranked, kept_in};
 ghost use Rattle.queue.specs.paper.Lists.{map};
 ghost use Rattle.queue.specs.paper.Changing.{place_in};
 
-use crate::bytes::logic::one_if;
-use crate::bytes::view::{cmp_id, id_at};
-use crate::change::plan::{Plan, Row, fate_of, push_row};
-use crate::change::verdict;
+use crate::bytes::view::{View, same_id};
+use crate::change::plan::{Plan, Row, fate_of, is_kept, push_row};
+use crate::change::verdict::Verdict;
 use crate::check::area::Area;
-use crate::check::suspects::{Order, bisect, cmp_rows, in_order, order_rows, row_at};
-use crate::layout::frame::{Finish, rec_at};
+use crate::check::suspects::{bisect, cmp_rows, in_order, order_rows, row_at};
+use crate::layout::frame::{Finish, record_at};
 
 // The place of an id among the ids of the records at these places, from 1 on; 0 where it is none of them.
 fn rank_in(s: &[u8], gone: &[usize], id: [u8; 32]) -> u64
     requires { All (λ p. p + 33 ≤ length s.now) gone.now × (length gone.now ≤ 2048) }
     ensures { (result ≡ place_in id (map (id_at s.now) gone.now)) × (result ≤ length gone.now) }
 {
-    let mut j: usize = 0;
-    while j < gone.len() {
-        let p = gone[j];
-        let y = id_at(s, false, 0, p + 1);
-        if cmp_id(id, y) == 1 {
+    let v = View::new(s, false, 0);
+    for (j, p) in gone.iter().enumerate() {
+        let y = v.id(*p + 1);
+        if same_id(id, y) {
             return (j as u64) + 1;
         }
-        j += 1;
     }
     0
 }
@@ -39,11 +36,9 @@ fn rank_rows(s: &[u8], gone: &[usize], rows: &mut [u64])
     requires { All (λ p. p + 33 ≤ length s.now) gone.now × (length gone.now ≤ 2048) × (length s.now < 4294967296) × (length rows.old ≡ length gone.now) }
     ensures { RankRows s.now gone.now rows.new }
 {
-    let mut j: usize = 0;
-    while j < gone.len() {
-        let w = row_at(s, false, gone[j], 1, j as u64 + 1);
+    for (j, p) in gone.iter().enumerate() {
+        let w = row_at(s, false, *p, 1, j as u64 + 1);
         put_rank(rows, j, w);
-        j += 1;
     }
 }
 
@@ -66,7 +61,7 @@ pub fn order_ranks(s: &[u8], gone: &[usize], rows: &mut [u64]) -> bool
         return false;
     }
     rank_rows(s, gone, rows);
-    order_rows(s, Order::Ids(false), rows);
+    order_rows(s, false, rows);
     in_order(s, false, rows)
 }
 
@@ -84,7 +79,7 @@ fn rank_of(s: &[u8], gone: &[usize], rows: &[u64], ordered: bool, base: usize, i
         return 0;
     }
     let w = rows[b];
-    if cmp_rows(s, false, y, w) != 1 {
+    if !cmp_rows(s, false, y, w).is_eq() {
         return 0;
     }
     w % 4294967296
@@ -108,16 +103,16 @@ pub fn plan_judged(
     let p = a.open;
     let h = p.head;
     let mut i = p.start;
-    let mut left = h.count;
     let mut j: usize = 0;
     let mut k: usize = 0;
     let mut kept: u64 = 0;
-    while 0 < left {
-        let x = rec_at(s, i);
+    for _left in (0..h.count).rev() {
+        let x = record_at(s, i);
         let f = x.facts;
         let id = x.id;
         let rank = rank_of(s, gone, ranks, ordered, i, id);
-        let what = fate_of(vs[j] % 4, rank, h.counter, floor, f);
+        let verdict = Verdict::of_number(vs[j] % 4);
+        let what = fate_of(verdict, Verdict::Forgotten, rank, h.counter, floor, f);
         k = push_row(
             rows,
             k,
@@ -128,9 +123,8 @@ pub fn plan_judged(
                 what: what,
             },
         );
-        kept = kept + one_if(what != verdict::FORGOTTEN);
+        kept += u64::from(is_kept(what));
         i = i + x.size;
-        left = left - 1;
         j += 1;
     }
     Plan {

@@ -1,20 +1,21 @@
 // Reconciliation: confirmations, verdicts on pending records, releases. Everything that can refuse is decided before a byte is written.
 ghost use Rattle.std.specs.Prelude.{◌≡◌, ◌+◌, ◌*◌, ◌<◌, ◌≤◌, min, true, false, [], ◌∷◌, length, take, nat_le};
+ghost use Rattle.queue.specs.Refusal.{answer_of};
 ghost use Rattle.queue.specs.Codec.{All};
 ghost use Rattle.queue.specs.layout.FrameCodec.{id_c};
 ghost use Rattle.queue.specs.bytes.PutAs.{Put};
 ghost use Rattle.queue.specs.check.AreaAs.{limits, AreaIn};
-ghost use Rattle.queue.specs.read.SelectAs.{rows, Even, ahead?};
+ghost use Rattle.queue.specs.read.SelectAs.{row_of, Standing, ahead?};
 ghost use Rattle.queue.specs.change.ReleaseAs.{StandsAt, walk_r};
 ghost use Rattle.queue.specs.change.ReconcileAs.{asked, LentTo, JudgedIn, GoneAre, DecidedAre, ChangedIs, WholePlan, WholeTo, gone_bytes, FloorFor, CursorTold, ReconcileTold};
-ghost use Rattle.queue.specs.paper.Lists.{one, sort};
+ghost use Rattle.queue.specs.paper.Lists.{one, map, sort};
 ghost use Rattle.queue.specs.paper.Changing.{top_height};
 ghost use Rattle.queue.specs.Checked.{outcome, reconcile_of};
 ghost use Rattle.queue.specs.paper.Calls.{reconcile_args};
 
-use crate::bytes::logic::either;
+use crate::Kind;
 use crate::bytes::put::{put_be, put_u8};
-use crate::bytes::view::id_at;
+use crate::bytes::view::View;
 use crate::change::block::Block;
 use crate::change::finish::floor;
 use crate::change::lent::reconcile_asks;
@@ -24,34 +25,33 @@ use crate::change::release::{Walked, gather_mined, release};
 use crate::change::touch::any_touched;
 use crate::change::verdicts::judge;
 use crate::change::write::{put_moved, put_planned};
-use crate::check::area::{Area, area_at};
+use crate::check::area::Area;
 use crate::layout::frame::{Finish, Height};
 use crate::layout::head::Marks;
 use crate::layout::records::Records;
-use crate::read::select::{order, put_ids};
-use crate::{Answer, Kind, refusal};
+use crate::read::select::{NO_ROW, Ranked, order_ranked, put_ids};
+use crate::refusal::Refusal;
 
 // The rows in order, then the walk.
 fn release_rows(
     s: &[u8],
-    ranks: &mut [u64],
-    times: &mut [u64],
-    places: &mut [usize],
+    rows: &mut [Ranked],
     height: Height,
     window: u64,
     p: u64,
     b: u64,
     gone: &mut [usize],
 ) -> Walked
-    requires { Even (length ranks.old) ranks.old times.old places.old × (length ranks.old ≤ 2048) × (length gone.old ≡ 2048) × All (StandsAt s.now) (rows ranks.old times.old places.old) }
-    ensures { (result.gone ≤ length ranks.old) × (take result.gone gone.new ≡ walk_r (limits p b 0 0) height.0 window s.now 0 0 (sort ahead? (rows ranks.old times.old places.old))) × (length gone.new ≡ length gone.old) × (result.decided ≡ length ranks.old) }
+    requires { Standing (map row_of rows.old) × (length rows.old ≤ 2048) × (length gone.old ≡ 2048) × All (StandsAt s.now) (map row_of rows.old) }
+    ensures { (result.gone ≤ length rows.old) × (take result.gone gone.new ≡ walk_r (limits p b 0 0) height.0 window s.now 0 0 (sort ahead? (map row_of rows.old))) × (length gone.new ≡ length gone.old) × (result.decided ≡ length rows.old) }
 {
-    order(ranks, times, places);
-    release(s, ranks, places, height, window, p, b, gone)
+    order_ranked(rows);
+    release(s, rows, height, window, p, b, gone)
 }
 
 // The one pass over the confirmations: the Mined holders after their verdicts in a table, in order, and walked. It says how many it
-// decided, and leaves the places of the released in gone.
+// decided, and leaves the places of the released in gone. The table stands in this frame alone.
+#[inline(never)]
 fn release_all(
     s: &[u8],
     a: Area,
@@ -59,12 +59,9 @@ fn release_all(
     t: &[u8],
     ids: &[u8],
     vs: &[u64],
-    ranks: &mut [u64],
-    times: &mut [u64],
-    places: &mut [usize],
     gone: &mut [usize],
 ) -> Walked
-    requires { AreaIn s.now a × LentTo b t.now ids.now × JudgedIn s.now a b t.now ids.now vs.now × Even 2048 ranks.old times.old places.old × (length gone.old ≡ 2048) }
+    requires { AreaIn s.now a × LentTo b t.now ids.now × JudgedIn s.now a b t.now ids.now vs.now × (length gone.old ≡ 2048) }
     ensures { (result.gone ≤ 2048) × GoneAre s.now (asked b t.now ids.now) (take result.gone gone.new) × (length gone.new ≡ 2048) × DecidedAre s.now (asked b t.now ids.now) result.decided }
 {
     let o = a.open;
@@ -74,18 +71,9 @@ fn release_all(
         start: o.start,
         count: h.count,
     };
-    let c = gather_mined(s, recs, t, vs, ranks, times, places);
-    release_rows(
-        s,
-        &mut ranks[..c],
-        &mut times[..c],
-        &mut places[..c],
-        b.height,
-        b.window,
-        l.p,
-        l.b,
-        gone,
-    )
+    let mut rows = [NO_ROW; 2048];
+    let c = gather_mined(s, recs, t, vs, &mut rows);
+    release_rows(s, &mut rows[..c], b.height, b.window, l.p, l.b, gone)
 }
 
 // The lowest finish number that stays once g records are released; 0 where none is.
@@ -155,11 +143,11 @@ fn put_whole(
         persisted: height,
         revision: std::num::wrapping_add_u64(h.revision, 1),
         cursor: height,
-        tip: true,
+        tip: Some(tip),
         counter: Finish(n.0 + g),
         count: p.kept,
     };
-    put_planned(src, a, marks, tip, t, vs, &rows[..p.rows], dst);
+    put_planned(src, a, marks, t, vs, &rows[..p.rows], dst);
 }
 
 // The answer: whether anything changed, and the ids of the released.
@@ -195,17 +183,23 @@ fn is_far(persisted: Height, height: Height) -> bool
 }
 
 // No record changed and none is released: the cursor moves.
-fn put_cursor(cur: &[u8], next: &mut [u8], a: Area, height: Height, tip: [u8; 32]) -> Answer
+fn put_cursor(
+    cur: &[u8],
+    next: &mut [u8],
+    a: Area,
+    height: Height,
+    tip: [u8; 32],
+) -> Result<Kind, Refusal>
     requires { AreaIn cur.now a × (height.0 < 4294967296) × id_c.ok tip × (a.need ≤ length next.old) }
-    ensures { CursorTold cur.now height.0 tip result next.old next.new }
+    ensures { CursorTold cur.now height.0 tip (answer_of result) next.old next.new }
 {
     let p = a.persisted;
     if is_far(p, height) {
-        put_moved(cur, a, height, height, true, tip, next);
-        return Answer::Done(Kind::Cursor);
+        put_moved(cur, a, height, height, Some(tip), next);
+        return Ok(Kind::Cursor);
     }
-    put_moved(cur, a, p, height, true, tip, next);
-    Answer::Done(Kind::Memory)
+    put_moved(cur, a, p, height, Some(tip), next);
+    Ok(Kind::Memory)
 }
 
 // With the released known. Refusals 15 and 4.
@@ -220,30 +214,30 @@ fn reconcile_gone(
     gone: &[usize],
     rows: &mut [u64],
     out: &mut [u8],
-) -> Answer
+) -> Result<Kind, Refusal>
     requires { AreaIn cur.now a × LentTo b t.now ids.now × JudgedIn cur.now a b t.now ids.now vs.now × GoneAre cur.now (asked b t.now ids.now) gone.now × (a.need ≤ length next.old) }
-    ensures { ReconcileTold cur.now (asked b t.now ids.now) (outcome result next.new out.new) next.old out.old }
+    ensures { ReconcileTold cur.now (asked b t.now ids.now) (outcome (answer_of result) next.new out.new) next.old out.old }
 {
     let o = a.open;
     let h = o.head;
     let c = h.counter;
     let g = gone.len();
     if 18446744073709551615 - c.0 < g as u64 {
-        return Answer::Refused(refusal::COUNTER_EXHAUSTED);
+        return Err(Refusal::CounterExhausted);
     }
     if out.len() < 5 + 32 * g {
-        return Answer::Refused(refusal::OUTPUT_TOO_SHORT);
+        return Err(Refusal::OutputTooShort);
     }
-    let changed = either(any_touched(vs), 0 < g);
+    let changed = any_touched(vs) | (0 < g);
     put_gone(cur, changed, gone, out);
     if changed {
         // Two calls that differ, so that the compiler does not take put_whole in here together with its table.
         if g == 0 {
             put_whole(cur, a, b, t, ids, vs, gone, 0, rows, next);
-            return Answer::Done(Kind::Whole);
+            return Ok(Kind::Whole);
         }
         put_whole(cur, a, b, t, ids, vs, gone, g as u64, rows, next);
-        return Answer::Done(Kind::Whole);
+        return Ok(Kind::Whole);
     }
     let tip = b.tip;
     put_cursor(cur, next, a, b.height, tip)
@@ -258,9 +252,9 @@ fn reconcile_lent(
     t: &[u8],
     ids: &[u8],
     out: &mut [u8],
-) -> Answer
+) -> Result<Kind, Refusal>
     requires { AreaIn cur.now a × LentTo b t.now ids.now × (a.need ≤ length next.old) }
-    ensures { ReconcileTold cur.now (asked b t.now ids.now) (outcome result next.new out.new) next.old out.old }
+    ensures { ReconcileTold cur.now (asked b t.now ids.now) (outcome (answer_of result) next.new out.new) next.old out.old }
 {
     let o = a.open;
     let h = o.head;
@@ -272,21 +266,8 @@ fn reconcile_lent(
     };
     judge(cur, recs, t, b, ids, &mut vs);
     let mut ranks = [0u64; 2048];
-    let mut times = [0u64; 2048];
-    let mut places = [0usize; 2048];
     let mut gone = [0usize; 2048];
-    let w = release_all(
-        cur,
-        a,
-        b,
-        t,
-        ids,
-        &vs[..n],
-        &mut ranks,
-        &mut times,
-        &mut places,
-        &mut gone,
-    );
+    let w = release_all(cur, a, b, t, ids, &vs[..n], &mut gone);
     reconcile_gone(
         cur,
         next,
@@ -312,20 +293,17 @@ pub fn reconcile(
     ids: &[u8],
     window: u32,
     out: &mut [u8],
-) -> Answer
-    ensures { outcome result next.new out.new ≡ reconcile_of cur.now next.old out.old (reconcile_args height tip.now applied.now flag ids.now window) }
+) -> Result<Kind, Refusal>
+    ensures { outcome (answer_of result) next.new out.new ≡ reconcile_of cur.now next.old out.old (reconcile_args height tip.now applied.now flag ids.now window) }
 {
-    let a = area_at(cur);
-    if !a.ok {
-        return Answer::Refused(refusal::AREA_NOT_SOUND);
-    }
+    let a = Area::read(cur)?;
     if next.len() < a.need {
-        return Answer::Refused(refusal::AREA_TOO_SHORT);
+        return Err(Refusal::AreaTooShort);
     }
     if !reconcile_asks(tip, flag as u64, applied, ids) {
-        return Answer::Refused(refusal::MALFORMED);
+        return Err(Refusal::Malformed);
     }
-    let i = id_at(tip, false, 0, 0);
+    let i = View::new(tip, false, 0).id(0);
     let b = Block {
         height: Height(height as u64),
         tip: i,

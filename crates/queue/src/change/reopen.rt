@@ -1,26 +1,29 @@
 // Reopening: Mined records whose ids are listed lose their place. Everything that can refuse is decided before a byte is written.
 ghost use Rattle.std.specs.Prelude.{◌≡◌, ◌+◌, ◌≤◌, true, false, [], length, take, if◌then◌else◌};
+ghost use Rattle.queue.specs.Refusal.{answer_of};
 ghost use Rattle.queue.specs.layout.FrameCodec.{rec_c};
 ghost use Rattle.queue.specs.layout.RecordsAs.{RecordsIn, recs_at};
 ghost use Rattle.queue.specs.layout.FormsCodec.{form_c};
 ghost use Rattle.queue.specs.check.AreaAs.{AreaIn};
 ghost use Rattle.queue.specs.change.ReopenAs.{IdsRise, ids_at, listed_s, again, AgainFrom, AgainTo, ReopenTold};
 ghost use Rattle.queue.specs.change.PlanAs.{Planned};
+ghost use Rattle.queue.specs.change.VerdictAs.{verdict_code};
 ghost use Rattle.queue.specs.read.FindAs.{recs_in};
 ghost use Rattle.queue.specs.paper.Lists.{any?, map};
 ghost use Rattle.queue.specs.paper.Changing.{listed?};
 ghost use Rattle.queue.specs.Checked.{outcome, reopen_of};
 
-use crate::bytes::view::size;
+use crate::Kind;
+use crate::bytes::view::View;
 use crate::change::lent::{find_lent, rise};
 use crate::change::plan::{Plan, Row, push_row};
-use crate::change::verdict;
+use crate::change::verdict::Verdict;
 use crate::change::write::{marks_next, put_plain, tip_at};
-use crate::check::area::{Area, area_at};
-use crate::layout::frame::{Seen, rec_at};
+use crate::check::area::Area;
+use crate::layout::frame::{Seen, record_at};
 use crate::layout::records::Records;
-use crate::layout::state;
-use crate::{Answer, Kind, refusal};
+use crate::layout::state::State;
+use crate::refusal::Refusal;
 
 // Is a record Mined, and one of k lent ids its own?
 fn listed(ids: &[u8], k: u64, x: Seen) -> bool
@@ -28,7 +31,7 @@ fn listed(ids: &[u8], k: u64, x: Seen) -> bool
     ensures { result ≡ listed_s (ids_at ids.now k) x }
 {
     let f = x.facts;
-    if f.state != state::MINED {
+    if f.state != State::Mined as u64 {
         return false;
     }
     let id = x.id;
@@ -41,26 +44,24 @@ fn any_listed(s: &[u8], recs: Records, ids: &[u8], k: u64) -> bool
     ensures { result ≡ any? (listed? (ids_at ids.now k)) (recs_at (form_c false rec_c) s.now recs) }
 {
     let mut i = recs.start;
-    let mut left = recs.count;
-    while 0 < left {
-        let x = rec_at(s, i);
+    for _left in (0..recs.count).rev() {
+        let x = record_at(s, i);
         if listed(ids, k, x) {
             return true;
         }
         i = i + x.size;
-        left = left - 1;
     }
     false
 }
 
 // What becomes of a record that is listed, and of one that is not.
-fn opens_as(hit: bool) -> u64
-    ensures { result ≡ (if hit then 4 else 0) }
+fn opens_as(hit: bool) -> Verdict
+    ensures { verdict_code result ≡ (if hit then 4 else 0) }
 {
     if hit {
-        return verdict::REOPENED;
+        return Verdict::Reopened;
     }
-    verdict::STAYS
+    Verdict::Stays
 }
 
 // Rows for those listed.
@@ -71,10 +72,9 @@ fn plan_listed(s: &[u8], a: Area, ids: &[u8], k: u64, rows: &mut [u64]) -> Plan
     let p = a.open;
     let h = p.head;
     let mut i = p.start;
-    let mut left = h.count;
     let mut c: usize = 0;
-    while 0 < left {
-        let x = rec_at(s, i);
+    for _left in (0..h.count).rev() {
+        let x = record_at(s, i);
         let hit = listed(ids, k, x);
         c = push_row(
             rows,
@@ -87,7 +87,6 @@ fn plan_listed(s: &[u8], a: Area, ids: &[u8], k: u64, rows: &mut [u64]) -> Plan
             },
         );
         i = i + x.size;
-        left = left - 1;
     }
     Plan {
         rows: c,
@@ -105,14 +104,14 @@ fn put_opened(src: &[u8], a: Area, ids: &[u8], k: u64, dst: &mut [u8])
     let tip = tip_at(src, h);
     let mut rows = [0u64; 3072];
     let p = plan_listed(src, a, ids, k, &mut rows);
-    let marks = marks_next(h, 0, p.kept);
-    put_plain(src, a, marks, tip, &rows[..p.rows], dst);
+    let marks = marks_next(h, tip, 0, p.kept);
+    put_plain(src, a, marks, &rows[..p.rows], dst);
 }
 
 // No Mined id is kind 0.
-fn reopen_those(cur: &[u8], next: &mut [u8], a: Area, ids: &[u8], k: u64) -> Answer
+fn reopen_those(cur: &[u8], next: &mut [u8], a: Area, ids: &[u8], k: u64) -> Result<Kind, Refusal>
     requires { AreaIn cur.now a × IdsRise ids.now k × (a.need ≤ length next.old) }
-    ensures { ReopenTold cur.now (ids_at ids.now k) (outcome result next.new []) next.old }
+    ensures { ReopenTold cur.now (ids_at ids.now k) (outcome (answer_of result) next.new []) next.old }
 {
     let o = a.open;
     let h = o.head;
@@ -121,30 +120,27 @@ fn reopen_those(cur: &[u8], next: &mut [u8], a: Area, ids: &[u8], k: u64) -> Ans
         count: h.count,
     };
     if !any_listed(cur, recs, ids, k) {
-        return Answer::Done(Kind::Nothing);
+        return Ok(Kind::Nothing);
     }
     put_opened(cur, a, ids, k, next);
-    Answer::Done(Kind::Whole)
+    Ok(Kind::Whole)
 }
 
 // Reopening. Refusals 3, 2, 5.
-pub fn reopen(cur: &[u8], next: &mut [u8], ids: &[u8]) -> Answer
-    ensures { outcome result next.new [] ≡ reopen_of cur.now next.old ids.now }
+pub fn reopen(cur: &[u8], next: &mut [u8], ids: &[u8]) -> Result<Kind, Refusal>
+    ensures { outcome (answer_of result) next.new [] ≡ reopen_of cur.now next.old ids.now }
 {
-    let a = area_at(cur);
-    if !a.ok {
-        return Answer::Refused(refusal::AREA_NOT_SOUND);
-    }
+    let a = Area::read(cur)?;
     if next.len() < a.need {
-        return Answer::Refused(refusal::AREA_TOO_SHORT);
+        return Err(Refusal::AreaTooShort);
     }
-    let n = size(ids, false, 0);
+    let n = View::new(ids, false, 0).len();
     if n % 32 != 0 {
-        return Answer::Refused(refusal::MALFORMED);
+        return Err(Refusal::Malformed);
     }
     let k = (n / 32) as u64;
     if !rise(ids, k) {
-        return Answer::Refused(refusal::MALFORMED);
+        return Err(Refusal::Malformed);
     }
     reopen_those(cur, next, a, ids, k)
 }

@@ -1,5 +1,5 @@
 // What a reconciliation makes of one record, before anything is released.
-ghost use Rattle.std.specs.Prelude.{◌≡◌, ◌+◌, ◌<◌, ◌≤◌, true, false, ◌&&◌, length, take, ◌==◌};
+ghost use Rattle.std.specs.Prelude.{◌≡◌, ◌+◌, ◌<◌, ◌≤◌, true, false, ◌&&◌, length, take, ◌==◌, MatchOption};
 ghost use Rattle.queue.specs.layout.FrameCodec.{rec_c, id_c};
 ghost use Rattle.queue.specs.bytes.ReaderAs.{whole, list_at};
 ghost use Rattle.queue.specs.layout.RecordsAs.{RecordsIn, recs_at};
@@ -7,48 +7,46 @@ ghost use Rattle.queue.specs.layout.FormsCodec.{form_c};
 ghost use Rattle.queue.specs.bytes.ViewAs.{view};
 ghost use Rattle.queue.specs.change.ReopenAs.{IdsRise, ids_at};
 ghost use Rattle.queue.specs.change.OwnAs.{bits_in, wanted_of, wanted_at, FlagsAre, QuickFor};
-ghost use Rattle.queue.specs.change.TouchAs.{EntriesRise, EntryAs, SeenHere, ConfirmedIs, own_ids, judge_f, verdict_of_value, InEntry, TouchIs, JudgedAt, changed?};
+ghost use Rattle.queue.specs.change.TouchAs.{EntriesRise, EntryAt, NoEntry, SeenHere, ConfirmedIs, own_ids, judge_f, verdict_numbers, verdict_of_value, InEntry, TouchIs, JudgedAt, changed?};
+ghost use Rattle.queue.specs.change.VerdictAs.{verdict_code};
 ghost use Rattle.queue.specs.paper.Lists.{any?, all?};
 ghost use Rattle.queue.specs.paper.Sound.{among?};
 ghost use Rattle.queue.specs.paper.Changing.{queued_outputs};
 
-use crate::bytes::logic::both;
-use crate::bytes::view::{be, cmp_id, id_at};
+use crate::bytes::view::{View, compare_ids, same_id};
 use crate::change::block::Block;
+use crate::change::lent;
 use crate::change::own::all_set;
-use crate::change::{lent, verdict};
+use crate::change::verdict::Verdict;
 use crate::check::rules::pending;
 use crate::check::scan::has_id;
 use crate::layout::forms::after_in;
-use crate::layout::frame::{Facts, Seen, id_read, rec_at};
+use crate::layout::frame::{Facts, Seen, record_at};
+use crate::layout::reason::Reason;
 use crate::layout::records::Records;
-use crate::layout::{reason, state};
-use crate::read::find::Found;
+use crate::layout::state::State;
+use std::cmp::Ordering;
 
 // The number of the applied entry of an id, of k entries, which rise. Those before lo are lower, those from hi on are higher.
-fn find_entry(t: &[u8], k: u64, id: [u8; 32]) -> Found
+// Kept: an entry of 68 bytes is found by its first 32. The library's binary_search takes whole elements, and partition_point with a test of
+// the entry that it leads to is no plainer; a bisection moves one of its two bounds at each turn, which no range does.
+fn find_entry(t: &[u8], k: u64, id: [u8; 32]) -> Option<usize>
     requires { EntriesRise t.now k }
-    ensures { EntryAs t.now k id result }
+    ensures { MatchOption result (NoEntry t.now k id) (EntryAt t.now k id) }
 {
+    let v = View::new(t, false, 0);
     let mut lo: usize = 0;
     let mut hi = k as usize;
     while lo < hi {
         let m = lo + (hi - lo) / 2;
-        let y = id_at(t, false, 0, 68 * m);
-        let c = cmp_id(id, y);
-        if c == 1 {
-            return Found { found: true, at: m };
-        }
-        if c == 0 {
-            hi = m;
-        } else {
-            lo = m + 1;
+        let y = v.id(68 * m);
+        match compare_ids(id, y) {
+            Ordering::Less => hi = m,
+            Ordering::Equal => return Some(m),
+            Ordering::Greater => lo = m + 1,
         }
     }
-    Found {
-        found: false,
-        at: 0,
-    }
+    None
 }
 
 // Is the record read at base Mined in the block of the applied entry at p, at its height?
@@ -57,17 +55,18 @@ fn confirmed(s: &[u8], base: usize, x: Seen, t: &[u8], p: usize) -> bool
     ensures { ConfirmedIs s.now base x t.now p result }
 {
     let f = x.facts;
-    if f.state != state::MINED {
+    if f.state != State::Mined as u64 {
         return false;
     }
-    if !f.placed {
+    let Some(height) = f.mined else {
         return false;
-    }
-    let h = f.mined;
-    let n = be(t, false, 0, p + 32, 4);
-    let a = id_at(s, false, base, x.after + 5);
-    let b = id_at(t, false, 0, p + 36);
-    both(h.0 == n, cmp_id(a, b) == 1)
+    };
+    let entry = View::new(t, false, 0);
+    let n = entry.be(p + 32, 4);
+    let frame = View::new(s, false, base);
+    let a = frame.id(x.after + 5);
+    let b = entry.id(p + 36);
+    (height.0 == n) & same_id(a, b)
 }
 
 // Is the id an output of a Queued one of the records?
@@ -76,14 +75,12 @@ fn is_output(s: &[u8], recs: Records, id: [u8; 32]) -> bool
     ensures { result ≡ among? id (queued_outputs (recs_at (form_c false rec_c) s.now recs)) }
 {
     let mut i = recs.start;
-    let mut left = recs.count;
-    while 0 < left {
-        let x = rec_at(s, i);
+    for _left in (0..recs.count).rev() {
+        let x = record_at(s, i);
         if in_outputs(s, i, x, id) {
             return true;
         }
         i = after_in(s, false, i, x.size);
-        left = left - 1;
     }
     false
 }
@@ -94,10 +91,10 @@ fn in_outputs(s: &[u8], base: usize, x: Seen, id: [u8; 32]) -> bool
     ensures { result ≡ (x.facts.state == 0 && among? id (list_at id_c x.facts.outs (view false s.now base) x.outs)) }
 {
     let f = x.facts;
-    if f.state != state::QUEUED {
+    if f.state != State::Queued as u64 {
         return false;
     }
-    has_id(s, false, base, x.outs, f.outs, id)
+    has_id(&View::new(s, false, base), x.outs, f.outs, id)
 }
 
 // Is the id available, or an output of a Queued record?
@@ -111,21 +108,18 @@ fn owned(s: &[u8], recs: Records, ids: &[u8], m: u64, id: [u8; 32]) -> bool
     is_output(s, recs, id)
 }
 
-// Are the c ids at offset `from` of the frame at base owned?
-fn fine(s: &[u8], recs: Records, base: usize, from: usize, c: u64, ids: &[u8], m: u64) -> bool
-    requires { RecordsIn (form_c false rec_c) s.now recs × IdsRise ids.now m × (from ≤ length (view false s.now base)) × (whole id_c c (view false s.now base) from ≡ true) }
-    ensures { result ≡ all? (λ i. among? i (own_ids (ids_at ids.now m) (recs_at (form_c false rec_c) s.now recs))) (list_at id_c c (view false s.now base) from) }
+// Are the c ids at offset `from` of a frame owned?
+fn fine(s: &[u8], recs: Records, frame: &View, from: usize, c: u64, ids: &[u8], m: u64) -> bool
+    requires { RecordsIn (form_c false rec_c) s.now recs × IdsRise ids.now m × (from ≤ length frame.now) × (whole id_c c frame.now from ≡ true) }
+    ensures { result ≡ all? (λ i. among? i (own_ids (ids_at ids.now m) (recs_at (form_c false rec_c) s.now recs))) (list_at id_c c frame.now from) }
 {
     let mut i = from;
-    let mut left = c;
-    while 0 < left {
-        let y = id_read(s, false, base, i);
-        let id = y.id;
+    for _left in (0..c).rev() {
+        let id = frame.id(i);
         if !owned(s, recs, ids, m, id) {
             return false;
         }
-        i = y.next;
-        left = left - 1;
+        i += 32;
     }
     true
 }
@@ -149,40 +143,39 @@ fn all_owned(
     if quick {
         return all_set(flags, g, f.ins + f.reads);
     }
-    if !fine(s, recs, base, x.at, f.ins, ids, m) {
+    let frame = View::new(s, false, base);
+    if !fine(s, recs, &frame, x.at, f.ins, ids, m) {
         return false;
     }
-    fine(s, recs, base, x.reads, f.reads, ids, m)
+    fine(s, recs, &frame, x.reads, f.reads, ids, m)
 }
 
-// What becomes of a record (`verdict`), and where the applied entry begins that confirms it.
+// What becomes of a record, and where the applied entry begins that confirms it.
 #[derive(Clone, Copy)]
-pub struct Verdict {
-    pub what: u64,
+pub struct Judgement {
+    pub what: Verdict,
     pub at: usize,
 }
 
-fn pending_verdict(fine: bool, f: Facts) -> u64
-    ensures { result ≡ judge_f fine f }
+fn pending_verdict(fine: bool, f: Facts) -> Verdict
+    ensures { verdict_code result ≡ judge_f fine f }
 {
     if fine {
-        if both(f.state == state::QUEUED, f.reason == reason::NONE) {
-            return verdict::STAYS;
+        if (f.state == State::Queued as u64) & (f.reason == Reason::None as u64) {
+            return Verdict::Stays;
         }
-        return verdict::QUEUED;
+        return Verdict::Queued;
     }
-    if both(
-        f.state == state::CONFLICTED,
-        f.reason == reason::INPUTS_UNAVAILABLE,
-    ) {
-        return verdict::STAYS;
+    if (f.state == State::Conflicted as u64) & (f.reason == Reason::InputsUnavailable as u64) {
+        return Verdict::Stays;
     }
-    verdict::CONFLICTED
+    Verdict::Conflicted
 }
 
 // The verdict on the one of the records that was read at base; the flags of the ids that it wants begin at g, where there are
 // flags.
-// In one number: what, and four times the number of the applied entry.
+// Kept: in one number, what and four times the number of the applied entry, since the verdicts on all records lie in a slice of fixed
+// memory, a word for each.
 fn touched(
     s: &[u8],
     recs: Records,
@@ -200,33 +193,32 @@ fn touched(
 {
     let id = x.id;
     let f = x.facts;
-    let e = find_entry(t, b.entries, id);
-    if e.found {
-        if confirmed(s, base, x, t, 68 * e.at) {
-            return 0;
+    if let Some(at) = find_entry(t, b.entries, id) {
+        if confirmed(s, base, x, t, 68 * at) {
+            return Verdict::Stays as u64;
         }
-        return e.at as u64 * 4 + 1;
+        return at as u64 * 4 + Verdict::Confirmed as u64;
     }
-    if !both(b.caught, pending(f.state)) {
-        return 0;
+    if !(b.caught & pending(f.state)) {
+        return Verdict::Stays as u64;
     }
     let a = all_owned(s, recs, base, x, ids, b.available, quick, flags, g);
-    pending_verdict(a, f)
+    u64::from(pending_verdict(a, f))
 }
 
 // A verdict from its number.
-pub fn verdict_of(t: &[u8], c: u64) -> Verdict
+pub fn verdict_of(t: &[u8], c: u64) -> Judgement
     requires { InEntry t.now c }
-    ensures { result ≡ verdict_of_value c }
+    ensures { verdict_numbers result ≡ verdict_of_value c }
 {
-    let what = c % 4;
-    if what == verdict::CONFIRMED {
-        return Verdict {
+    let what = Verdict::of_number(c % 4);
+    match what {
+        Verdict::Confirmed => Judgement {
             what: what,
             at: 68 * (c / 4) as usize,
-        };
+        },
+        _ => Judgement { what: what, at: 0 },
     }
-    Verdict { what: what, at: 0 }
 }
 
 // The verdicts on the records, to the front of vs; quickly where there are flags of all wanted ids.
@@ -244,17 +236,15 @@ pub fn judge_all(
     ensures { JudgedAt s.now recs b t.now ids.now (take recs.count vs.new) }
 {
     let mut i = recs.start;
-    let mut left = recs.count;
     let mut j: usize = 0;
     let mut g: usize = 0;
-    while 0 < left {
-        let x = rec_at(s, i);
+    for _left in (0..recs.count).rev() {
+        let x = record_at(s, i);
         let f = x.facts;
         let c = touched(s, recs, i, x, t, b, ids, quick, flags, g);
         vs[j] = c;
         g = g + (f.ins + f.reads) as usize;
         i = after_in(s, false, i, x.size);
-        left = left - 1;
         j += 1;
     }
 }
@@ -263,12 +253,10 @@ pub fn judge_all(
 pub fn any_touched(vs: &[u64]) -> bool
     ensures { result ≡ any? changed? vs.now }
 {
-    let mut j: usize = 0;
-    while j < vs.len() {
-        if vs[j] % 4 != verdict::STAYS {
+    for v in vs {
+        if *v % 4 != Verdict::Stays as u64 {
             return true;
         }
-        j += 1;
     }
     false
 }

@@ -7,15 +7,14 @@ ghost use Rattle.queue.specs.change.ReopenAs.{IdsRise};
 ghost use Rattle.queue.specs.change.OwnAs.{wanted_of};
 ghost use Rattle.queue.specs.change.TouchAs.{EntriesRise, JudgedAt};
 
-use crate::bytes::logic::both;
 use crate::change::block::Block;
 use crate::change::own::{count_wanted, note_flags, own_flags};
 use crate::change::touch::judge_all;
+use crate::check::filter::Filter;
 use crate::layout::records::Records;
 
-// With flags for all wanted ids, if they are to be, and room for few of these: rows for outputs, flags, a filter. Smaller tables would
-// only cost time.
-fn judge_few(
+// With flags for all wanted ids, if they are to be, and room for so many rows of outputs, words of flags and words of a filter.
+fn judge_within<const ROWS: usize, const FLAGS: usize, const FILTER: usize>(
     s: &[u8],
     recs: Records,
     t: &[u8],
@@ -25,12 +24,15 @@ fn judge_few(
     total: u64,
     vs: &mut [u64],
 )
-    requires { RecordsIn (form_c false rec_c) s.now recs × EntriesRise t.now b.entries × IdsRise ids.now b.available × (recs.count ≤ length vs.old) × (recs.count < 4294967296) × (go ≡ true → length s.now < 4294967296) × (go ≡ true → total ≡ length (wanted_of (recs_at (form_c false rec_c) s.now recs))) × (total ≤ 524288) }
+    requires asked { RecordsIn (form_c false rec_c) s.now recs × EntriesRise t.now b.entries × IdsRise ids.now b.available × (recs.count ≤ length vs.old) × (recs.count < 4294967296) × (go ≡ true → length s.now < 4294967296) × (go ≡ true → total ≡ length (wanted_of (recs_at (form_c false rec_c) s.now recs))) × (total ≤ 524288) }
+    requires some { 0 < FILTER }
+    requires small { (ROWS ≤ 65536) × (FLAGS ≤ 65536) × (FILTER ≤ 65536) }
     ensures { JudgedAt s.now recs b t.now ids.now (take recs.count vs.new) }
 {
-    let mut rows = [0u64; 2048];
-    let mut flags = [0u64; 128];
-    let mut filter = [0u64; 512];
+    let mut rows = [0u64; ROWS];
+    let mut flags = [0u64; FLAGS];
+    let mut words = [0u64; FILTER];
+    let mut filter = Filter::new(&mut words);
     let noted = note_flags(
         s,
         recs,
@@ -49,59 +51,25 @@ fn judge_few(
     judge_all(s, recs, t, b, ids, quick, &flags, vs);
 }
 
-// The same with room for many.
-fn judge_many(
-    s: &[u8],
-    recs: Records,
-    t: &[u8],
-    b: Block,
-    ids: &[u8],
-    go: bool,
-    total: u64,
-    vs: &mut [u64],
-)
-    requires { RecordsIn (form_c false rec_c) s.now recs × EntriesRise t.now b.entries × IdsRise ids.now b.available × (recs.count ≤ length vs.old) × (recs.count < 4294967296) × (go ≡ true → length s.now < 4294967296) × (go ≡ true → total ≡ length (wanted_of (recs_at (form_c false rec_c) s.now recs))) × (total ≤ 524288) }
-    ensures { JudgedAt s.now recs b t.now ids.now (take recs.count vs.new) }
-{
-    let mut rows = [0u64; 65536];
-    let mut flags = [0u64; 8192];
-    let mut filter = [0u64; 16384];
-    let noted = note_flags(
-        s,
-        recs,
-        ids,
-        b.available,
-        go,
-        total,
-        &mut flags,
-        &mut filter,
-    );
-    if !noted {
-        judge_all(s, recs, t, b, ids, false, &flags, vs);
-        return;
-    }
-    let quick = own_flags(s, recs, total, &mut rows, &mut flags, &filter);
-    judge_all(s, recs, t, b, ids, quick, &flags, vs);
-}
-
-// The verdicts on the records, to the front of vs. Each function with tables is called at two places that differ in two
-// values: the compiler then makes no single call of them, which it would take in here together with the tables.
+// The verdicts on the records, to the front of vs, with tables for few or for many wanted ids; smaller ones would only cost time. Each of
+// the two is called at two places that differ in two values: the compiler then makes no single call of them, which it would take in here
+// together with the tables.
 pub fn judge(s: &[u8], recs: Records, t: &[u8], b: Block, ids: &[u8], vs: &mut [u64])
     requires { RecordsIn (form_c false rec_c) s.now recs × EntriesRise t.now b.entries × IdsRise ids.now b.available × (recs.count ≤ length vs.old) × (recs.count < 4294967296) }
     ensures { JudgedAt s.now recs b t.now ids.now (take recs.count vs.new) }
 {
     let total = count_wanted(s, recs);
-    if !both(b.caught, s.len() < 4294967296) {
-        judge_few(s, recs, t, b, ids, false, 0, vs);
+    if !(b.caught & (s.len() < 4294967296)) {
+        judge_within::<2048, 128, 512>(s, recs, t, b, ids, false, 0, vs);
         return;
     }
     if total <= 8192 {
-        judge_few(s, recs, t, b, ids, true, total, vs);
+        judge_within::<2048, 128, 512>(s, recs, t, b, ids, true, total, vs);
         return;
     }
     if total <= 524288 {
-        judge_many(s, recs, t, b, ids, true, total, vs);
+        judge_within::<65536, 8192, 16384>(s, recs, t, b, ids, true, total, vs);
         return;
     }
-    judge_many(s, recs, t, b, ids, false, 0, vs);
+    judge_within::<65536, 8192, 16384>(s, recs, t, b, ids, false, 0, vs);
 }

@@ -9,147 +9,157 @@ ghost use Rattle.queue.specs.read.FindAs.{recs_in};
 ghost use Rattle.queue.specs.check.RulesAs.{sum};
 ghost use Rattle.queue.specs.check.AreaAs.{AreaIn};
 ghost use Rattle.queue.specs.check.NumbersAs.{above};
-ghost use Rattle.queue.specs.change.PlanAs.{state_f, reason_f, state_n, reason_n, mark_n, place_n, place_len, tail_n, tail_len, lead_bytes, next_bytes, next_len, step_n, verdict_in_value, EntryFit, PartsIn, RowsIn, planned_in, planned_q, PlanFor};
+ghost use Rattle.queue.specs.change.PlanAs.{state_f, reason_f, state_n, reason_n, state_j, reason_j, mark_n, row_numbers, place_n, place_len, tail_n, tail_len, lead_bytes, next_bytes, next_len, step_n, verdict_in_value, EntryFit, PartsIn, RowsIn, planned_in, planned_q, PlanFor};
 ghost use Rattle.queue.specs.change.WriteAs.{TipIs, HeadIn, MovedFrom, MovedTo, marks_after, EndedFrom, EndedTo};
+ghost use Rattle.queue.specs.change.TouchAs.{verdict_numbers};
+ghost use Rattle.queue.specs.change.VerdictAs.{verdict_code};
 ghost use Rattle.queue.specs.paper.Area.{area_bytes, over};
+ghost use Rattle.queue.specs.paper.Changing.{withdrawn_mark};
+ghost use Rattle.queue.specs.layout.StateAs.{state_code};
+ghost use Rattle.queue.specs.layout.ReasonAs.{reason_code};
 
-use crate::bytes::logic::{both, either};
 use crate::bytes::put::{copy_part, fill_zero, put_be, put_id, put_u8};
-use crate::bytes::view::id_at;
+use crate::bytes::view::View;
 use crate::change::finish::{Change, floor, plan_ended};
 use crate::change::plan::{Row, number_of, row_of};
-use crate::change::touch::{Verdict, verdict_of};
-use crate::change::verdict;
+use crate::change::touch::{Judgement, verdict_of};
+use crate::change::verdict::Verdict;
 use crate::check::area::Area;
 use crate::check::rules::Query;
-use crate::layout::frame::{Facts, Finish, HeadR, Height, Seen, TERMS, rec_at};
+use crate::layout::frame::{Facts, Finish, Head, Height, Seen, TERMS, record_at};
 use crate::layout::head::{FRONT, Marks, put_front, tip_len};
+use crate::layout::reason::Reason;
 use crate::layout::records::Records;
-use crate::layout::{reason, state};
+use crate::layout::state::State;
 
-// The tip of an area's cursor; zeros where there is none.
-pub fn tip_at(s: &[u8], h: HeadR) -> [u8; 32]
+// The tip of an area's cursor, where there is one.
+pub fn tip_at(s: &[u8], h: Head) -> Option<[u8; 32]>
     requires { HeadIn s.now h }
     ensures { TipIs s.now h result }
 {
     if h.tip {
-        return id_at(s, false, 4, 94);
+        return Some(View::new(s, false, 4).id(94));
     }
-    [0u8; 32]
+    None
 }
 
 // The state and the reason of a record that is reopened.
-fn state_again(f: Facts) -> u64
-    ensures { (result ≡ state_f f) × (result < 256) }
+fn state_again(f: Facts) -> State
+    ensures { state_code result ≡ state_f f }
 {
     if f.mark == 0 {
         if f.holder {
-            return state::QUEUED;
+            return State::Queued;
         }
-        return state::EXPIRED;
+        return State::Expired;
     }
-    if f.mark == state::CANCELLED {
-        state::CANCELLED
+    if f.mark == State::Cancelled as u64 {
+        State::Cancelled
     } else {
-        state::EXPIRED
+        State::Expired
     }
 }
 
-fn reason_again(f: Facts) -> u64
-    ensures { (result ≡ reason_f f) × (result < 256) }
+fn reason_again(f: Facts) -> Reason
+    ensures { reason_code result ≡ reason_f f }
 {
     if f.mark == 0 {
         if f.holder {
-            return reason::ROLLED_BACK;
+            return Reason::RolledBack;
         }
-        return reason::ROLLED_BACK_AFTER_RELEASE;
+        return Reason::RolledBackAfterRelease;
     }
-    if f.mark == state::CANCELLED {
-        return reason::CANCELLED;
+    if f.mark == State::Cancelled as u64 {
+        return Reason::Cancelled;
     }
-    if f.mark == state::EXPIRED {
-        reason::DEADLINE_ELAPSED
+    if f.mark == State::Expired as u64 {
+        Reason::DeadlineElapsed
     } else {
-        reason::ROLLED_BACK_AFTER_RELEASE
+        Reason::RolledBackAfterRelease
     }
 }
 
 // State, reason and mark after a verdict; n is the finish number that the record gets, else 0.
-fn state_next(what: u64, n: Finish, f: Facts) -> u64
+// Kept: a number, since a record that stays has the state that was read of it, and areas that are not sound are read too.
+fn state_next(what: Verdict, n: Finish, f: Facts) -> u64
     requires { f.state < 256 }
-    ensures { (result ≡ state_n what n.0 f) × (result < 256) }
+    ensures { (result ≡ state_n (verdict_code what) n.0 f) × (result < 256) }
 {
-    if what == verdict::REOPENED {
-        return state_again(f);
-    }
-    if what == verdict::CANCELLED {
-        return state::CANCELLED;
-    }
-    if what == verdict::EXPIRED {
-        return state::EXPIRED;
-    }
-    if n.0 != 0 {
-        return state::MINED;
-    }
-    if what == verdict::STAYS {
-        return f.state;
-    }
-    if what == verdict::CONFIRMED {
-        return state::MINED;
-    }
-    if what == verdict::QUEUED {
-        state::QUEUED
-    } else {
-        state::CONFLICTED
+    match what {
+        Verdict::Reopened => u64::from(state_again(f)),
+        Verdict::Cancelled => State::Cancelled as u64,
+        Verdict::Expired => State::Expired as u64,
+        _ => state_judged(what, n, f),
     }
 }
 
-fn reason_next(what: u64, n: Finish, f: Facts) -> u64
+// The same after a reconciliation's verdict: a record that is released is Mined.
+// Kept: a number, as in state_next.
+fn state_judged(what: Verdict, n: Finish, f: Facts) -> u64
+    requires { f.state < 256 }
+    ensures { (result ≡ state_j (verdict_code what) n.0 f) × (result < 256) }
+{
+    if n.0 != 0 {
+        return State::Mined as u64;
+    }
+    match what {
+        Verdict::Stays => f.state,
+        Verdict::Confirmed => State::Mined as u64,
+        Verdict::Queued => State::Queued as u64,
+        _ => State::Conflicted as u64,
+    }
+}
+
+// Kept: a number, as in state_next.
+fn reason_next(what: Verdict, n: Finish, f: Facts) -> u64
     requires { f.reason < 256 }
-    ensures { (result ≡ reason_n what n.0 f) × (result < 256) }
+    ensures { (result ≡ reason_n (verdict_code what) n.0 f) × (result < 256) }
 {
-    if what == verdict::REOPENED {
-        return reason_again(f);
-    }
-    if what == verdict::CANCELLED {
-        return reason::CANCELLED;
-    }
-    if what == verdict::EXPIRED {
-        return reason::DEADLINE_ELAPSED;
-    }
-    if n.0 != 0 {
-        return reason::NONE;
-    }
-    if what == verdict::STAYS {
-        return f.reason;
-    }
-    if what == verdict::CONFIRMED {
-        return reason::NONE;
-    }
-    if what == verdict::QUEUED {
-        reason::NONE
-    } else {
-        reason::INPUTS_UNAVAILABLE
+    match what {
+        Verdict::Reopened => u64::from(reason_again(f)),
+        Verdict::Cancelled => Reason::Cancelled as u64,
+        Verdict::Expired => Reason::DeadlineElapsed as u64,
+        _ => reason_judged(what, n, f),
     }
 }
 
-fn mark_next(what: u64, f: Facts) -> u64
-    requires { (f.state < 256) × (f.mark < 256) }
-    ensures { (result ≡ mark_n what f) × (result < 256) }
+// Kept: a number, as in state_next.
+fn reason_judged(what: Verdict, n: Finish, f: Facts) -> u64
+    requires { f.reason < 256 }
+    ensures { (result ≡ reason_j (verdict_code what) n.0 f) × (result < 256) }
 {
-    if what == verdict::REOPENED {
-        return 0;
+    if n.0 != 0 {
+        return Reason::None as u64;
     }
-    if what != verdict::CONFIRMED {
-        return f.mark;
+    match what {
+        Verdict::Stays => f.reason,
+        Verdict::Confirmed => Reason::None as u64,
+        Verdict::Queued => Reason::None as u64,
+        _ => Reason::InputsUnavailable as u64,
     }
-    if both(
-        f.state == state::EXPIRED,
-        f.reason == reason::ROLLED_BACK_AFTER_RELEASE,
-    ) {
+}
+
+fn mark_next(what: Verdict, f: Facts) -> u64
+    requires { (f.state < 256) × (f.mark < 256) }
+    ensures { (result ≡ mark_n (verdict_code what) f) × (result < 256) }
+{
+    match what {
+        Verdict::Reopened => 0,
+        Verdict::Confirmed => mark_confirmed(f),
+        _ => f.mark,
+    }
+}
+
+// The mark of a record that is confirmed: what it was finished as before.
+fn mark_confirmed(f: Facts) -> u64
+    requires { (f.state < 256) × (f.mark < 256) }
+    ensures { (result ≡ withdrawn_mark f.state f.reason f.mark) × (result < 256) }
+{
+    let released = f.reason == Reason::RolledBackAfterRelease as u64;
+    if (f.state == State::Expired as u64) & released {
         return 3;
     }
-    if either(f.state == state::CANCELLED, f.state == state::EXPIRED) {
+    if (f.state == State::Cancelled as u64) | (f.state == State::Expired as u64) {
         return f.state;
     }
     f.mark
@@ -180,22 +190,24 @@ fn put_place(
     base: usize,
     x: Seen,
     t: &[u8],
-    v: Verdict,
+    v: Judgement,
     dst: &mut [u8],
     at: usize,
 ) -> usize
-    requires { PartsIn src.now base x × (v.what ≡ 1 → v.at + 68 ≤ length t.now) × (at + place_len x v ≤ length dst.old) }
-    ensures { Put dst.old at (place_n src.now base x t.now v) (place_len x v) result dst.new }
+    requires { PartsIn src.now base x × (verdict_code v.what ≡ 1 → v.at + 68 ≤ length t.now) × (at + place_len x (verdict_numbers v) ≤ length dst.old) }
+    ensures { Put dst.old at (place_n src.now base x t.now (verdict_numbers v)) (place_len x (verdict_numbers v)) result dst.new }
 {
-    if v.what == verdict::CONFIRMED {
-        let a = put_u8(dst, at, 1);
-        return copy_part(t, v.at + 32, 36, dst, a);
+    match v.what {
+        Verdict::Confirmed => {
+            let a = put_u8(dst, at, 1);
+            copy_part(t, v.at + 32, 36, dst, a)
+        }
+        Verdict::Reopened => put_u8(dst, at, 0),
+        _ => {
+            let p = x.after;
+            copy_part(src, base + p, x.mark - p, dst, at)
+        }
     }
-    if v.what == verdict::REOPENED {
-        return put_u8(dst, at, 0);
-    }
-    let p = x.after;
-    copy_part(src, base + p, x.mark - p, dst, at)
 }
 
 // Finish number and body: the record's own, or those of one that is finished.
@@ -217,13 +229,13 @@ fn put_next(
     base: usize,
     x: Seen,
     t: &[u8],
-    v: Verdict,
+    v: Judgement,
     n: Finish,
     dst: &mut [u8],
     at: usize,
 ) -> usize
-    requires { PartsIn src.now base x × (v.what ≡ 1 → v.at + 68 ≤ length t.now) × ((x.facts.state < 256) × (x.facts.reason < 256) × (x.facts.mark < 256)) × (at + next_len x v n.0 ≤ length dst.old) }
-    ensures { Put dst.old at (next_bytes src.now base x t.now v n.0) (next_len x v n.0) result dst.new }
+    requires { PartsIn src.now base x × (verdict_code v.what ≡ 1 → v.at + 68 ≤ length t.now) × ((x.facts.state < 256) × (x.facts.reason < 256) × (x.facts.mark < 256)) × (at + next_len x (verdict_numbers v) n.0 ≤ length dst.old) }
+    ensures { Put dst.old at (next_bytes src.now base x t.now (verdict_numbers v) n.0) (next_len x (verdict_numbers v) n.0) result dst.new }
 {
     let f = x.facts;
     let id = x.id;
@@ -248,32 +260,34 @@ fn put_step(
     base: usize,
     x: Seen,
     t: &[u8],
-    v: Verdict,
+    v: Judgement,
     n: Finish,
     dst: &mut [u8],
     at: usize,
 ) -> usize
-    requires { PartsIn src.now base x × (v.what ≡ 1 → v.at + 68 ≤ length t.now) × ((x.facts.state < 256) × (x.facts.reason < 256) × (x.facts.mark < 256)) × (at + length (step_n src.now base x t.now v n.0) ≤ length dst.old) }
-    ensures { Put dst.old at (step_n src.now base x t.now v n.0) (length (step_n src.now base x t.now v n.0)) result dst.new }
+    requires { PartsIn src.now base x × (verdict_code v.what ≡ 1 → v.at + 68 ≤ length t.now) × ((x.facts.state < 256) × (x.facts.reason < 256) × (x.facts.mark < 256)) × (at + length (step_n src.now base x t.now (verdict_numbers v) n.0) ≤ length dst.old) }
+    ensures { Put dst.old at (step_n src.now base x t.now (verdict_numbers v) n.0) (length (step_n src.now base x t.now (verdict_numbers v) n.0)) result dst.new }
 {
-    if v.what == verdict::FORGOTTEN {
-        return at;
+    match v.what {
+        Verdict::Forgotten => at,
+        _ => put_next(src, base, x, t, v, n, dst, at),
     }
-    put_next(src, base, x, t, v, n, dst, at)
 }
 
 // A row's verdict; where an applied entry confirms its record, the record's own verdict has the entry's number.
-fn verdict_in(t: &[u8], vs: &[u64], x: Row) -> Verdict
-    requires { EntryFit t.now vs.now x }
-    ensures { (result ≡ verdict_in_value vs.now x) × (result.what ≡ 1 → result.at + 68 ≤ length t.now) }
+fn verdict_in(t: &[u8], vs: &[u64], x: Row) -> Judgement
+    requires { EntryFit t.now vs.now (row_numbers x) }
+    ensures { (verdict_numbers result ≡ verdict_in_value vs.now (row_numbers x)) × (verdict_code result.what ≡ 1 → result.at + 68 ≤ length t.now) }
 {
-    if x.what == verdict::CONFIRMED {
-        let i = x.index;
-        return verdict_of(t, vs[i]);
-    }
-    Verdict {
-        what: x.what,
-        at: 0,
+    match x.what {
+        Verdict::Confirmed => {
+            let i = x.index;
+            verdict_of(t, vs[i])
+        }
+        _ => Judgement {
+            what: x.what,
+            at: 0,
+        },
     }
 }
 
@@ -292,19 +306,17 @@ fn put_rows(
 {
     let p = a.open;
     let h = p.head;
-    let mut k: usize = 0;
     let mut from = p.start;
     let mut o = to;
-    while k < rows.len() {
+    for k in 0..rows.len() {
         let w = row_of(rows[k]);
         let at = w.place;
         let e = copy_part(src, from, at - from, dst, o);
-        let x = rec_at(src, at);
+        let x = record_at(src, at);
         let v = verdict_in(t, vs, w);
         let n = number_of(h.counter, w.rank);
         o = put_step(src, at, x, t, v, n, dst, e);
         from = at + x.size;
-        k += 1;
     }
     copy_part(src, from, p.next - from, dst, o)
 }
@@ -314,30 +326,30 @@ pub fn put_planned(
     src: &[u8],
     a: Area,
     m: Marks,
-    tip: [u8; 32],
     t: &[u8],
     vs: &[u64],
     rows: &[u64],
     dst: &mut [u8],
 )
-    requires { PlanFor src.now a m tip t.now vs.now rows.now × (a.need ≤ length dst.old) }
-    ensures { dst.new ≡ over (area_bytes (planned_q src.now a m tip t.now vs.now rows.now)) dst.old }
+    requires { PlanFor src.now a m t.now vs.now rows.now × (a.need ≤ length dst.old) }
+    ensures { dst.new ≡ over (area_bytes (planned_q src.now a m t.now vs.now rows.now)) dst.old }
 {
     let p = a.open;
     let h = p.head;
     let l = h.limits;
-    let to = FRONT + tip_len(m.tip);
+    let tip = m.tip;
+    let to = FRONT + tip_len(tip);
     let e = put_rows(src, a, t, vs, rows, dst, to);
-    put_front(l, m, tip, dst);
+    put_front(l, m, dst);
     fill_zero(dst, e, a.need);
 }
 
 // The same for a plan without verdicts.
-pub fn put_plain(src: &[u8], a: Area, m: Marks, tip: [u8; 32], rows: &[u64], dst: &mut [u8])
-    requires { PlanFor src.now a m tip [] [] rows.now × (a.need ≤ length dst.old) }
-    ensures { dst.new ≡ over (area_bytes (planned_q src.now a m tip [] [] rows.now)) dst.old }
+pub fn put_plain(src: &[u8], a: Area, m: Marks, rows: &[u64], dst: &mut [u8])
+    requires { PlanFor src.now a m [] [] rows.now × (a.need ≤ length dst.old) }
+    ensures { dst.new ≡ over (area_bytes (planned_q src.now a m [] [] rows.now)) dst.old }
 {
-    put_planned(src, a, m, tip, &src[..0], &rows[..0], rows, dst);
+    put_planned(src, a, m, &src[..0], &rows[..0], rows, dst);
 }
 
 // The queue of src with another persisted height and cursor.
@@ -346,12 +358,11 @@ pub fn put_moved(
     a: Area,
     persisted: Height,
     cursor: Height,
-    has: bool,
-    tip: [u8; 32],
+    tip: Option<[u8; 32]>,
     dst: &mut [u8],
 )
-    requires { MovedFrom src.now a persisted cursor has tip × (a.need ≤ length dst.old) }
-    ensures { MovedTo src.now a persisted cursor has tip dst.old dst.new }
+    requires { MovedFrom src.now a persisted cursor tip × (a.need ≤ length dst.old) }
+    ensures { MovedTo src.now a persisted cursor tip dst.old dst.new }
 {
     let x = a.open;
     let h = x.head;
@@ -360,12 +371,12 @@ pub fn put_moved(
         persisted: persisted,
         revision: h.revision,
         cursor: cursor,
-        tip: has,
+        tip: tip,
         counter: n,
         count: h.count,
     };
     let none = [0u64; 1];
-    put_plain(src, a, m, tip, &none[..0], dst);
+    put_plain(src, a, m, &none[..0], dst);
 }
 
 // The floor where m more records are finished; what the check counted says whether any is forgotten.
@@ -389,9 +400,9 @@ fn floor_of(s: &[u8], a: Area, m: u64) -> Finish
 }
 
 // The front of a queue that is committed with m records finished and so many kept, under the cursor that it has.
-pub fn marks_next(h: HeadR, m: u64, kept: u64) -> Marks
+pub fn marks_next(h: Head, tip: Option<[u8; 32]>, m: u64, kept: u64) -> Marks
     requires { h.counter.0 + m < 18446744073709551616 }
-    ensures { result ≡ marks_after h m kept }
+    ensures { result ≡ marks_after h tip m kept }
 {
     let n = h.counter;
     let cursor = h.cursor;
@@ -399,7 +410,7 @@ pub fn marks_next(h: HeadR, m: u64, kept: u64) -> Marks
         persisted: cursor,
         revision: std::num::wrapping_add_u64(h.revision, 1),
         cursor: cursor,
-        tip: h.tip,
+        tip: tip,
         counter: Finish(n.0 + m),
         count: kept,
     }
@@ -416,6 +427,6 @@ pub fn put_ended(src: &[u8], a: Area, c: Change, id: [u8; 32], m: u64, dst: &mut
     let f = floor_of(src, a, m);
     let mut rows = [0u64; 3072];
     let p = plan_ended(src, a, c, id, f, &mut rows);
-    let marks = marks_next(h, m, p.kept);
-    put_plain(src, a, marks, tip, &rows[..p.rows], dst);
+    let marks = marks_next(h, tip, m, p.kept);
+    put_plain(src, a, marks, &rows[..p.rows], dst);
 }

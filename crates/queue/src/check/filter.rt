@@ -1,9 +1,11 @@
 // A filter: numbers marked in a table of bits. It can only say yes too often, so that only speed depends on what is marked where.
-ghost use Rattle.std.specs.Prelude.{◌≡◌, ◌^◌, ◌<◌, length};
+ghost use Rattle.std.specs.Prelude.{◌≡◌, ◌^◌, ◌<◌, List, ℕ, false, length};
 ghost use Rattle.queue.specs.check.FilterAs.{slot_l, mask_l, hash_l, hash_n, marked, mark_l, hash_all_value};
 
-use crate::bytes::view::be;
+use crate::bytes::view::word;
+use std::marker::Model;
 
+/// The bit k of a word.
 pub fn bit(k: u64) -> u64
     requires { k < 64 }
     ensures { result ≡ 2 ^ k }
@@ -22,6 +24,7 @@ fn mask(h: u64) -> u64
     a | b | c | d
 }
 
+/// The place of a number in a table of n words.
 pub fn slot(n: usize, h: u64) -> usize
     requires { 0 < n }
     ensures { (result ≡ slot_l n h) × (result < n) }
@@ -29,50 +32,97 @@ pub fn slot(n: usize, h: u64) -> usize
     h as usize % n
 }
 
-pub fn seen(t: &[u64], h: u64) -> bool
-    requires { 0 < length t.now }
-    ensures { result ≡ marked t.now h }
-{
-    let i = slot(t.len(), h);
-    let m = mask(h);
-    let w = t[i];
-    (w | m) == w
+/// Words of bits, at least one: whatever they hold, it only costs time.
+#[derive(Drop)]
+pub struct Filter<'a> {
+    words: &'a mut [u64],
 }
 
-pub fn mark(t: &mut [u64], h: u64)
-    requires { 0 < length t.old }
-    ensures { t.new ≡ mark_l t.old h }
-{
-    let i = slot(t.len(), h);
-    let m = mask(h);
-    let w = t[i];
-    t[i] = w | m;
+// What its words are.
+impl<'a> Model for Filter<'a> {
+    ghost Value = { List ℕ };
+
+    ghost view = { λ t. t.words.now };
+
+    ghost invariant = { λ t. 0 < length t.words.now };
 }
 
-// A number of an id: its first and its last 8 bytes added, modulo the largest prime below 2 ^ 38.
+impl<'a> Filter<'a> {
+    /// A filter with these words.
+    #[inline(always)]
+    pub fn new(words: &'a mut [u64]) -> Filter<'a>
+        requires { 0 < length words.old }
+        ensures { result ≡ words.old }
+    {
+        Filter { words }
+    }
+
+    /// How many words it has.
+    #[inline(always)]
+    pub(crate) fn len(&self) -> usize
+        ensures { (result ≡ length self.now) × (0 < result) }
+    {
+        self.words.len()
+    }
+
+    /// Is the number marked? So may be one that never was.
+    #[inline(always)]
+    pub fn seen(&self, h: u64) -> bool
+        ensures is { result ≡ marked self.now h }
+        ensures some { 0 < length self.now }
+    {
+        let i = slot(self.words.len(), h);
+        let m = mask(h);
+        let w = self.words[i];
+        (w | m) == w
+    }
+
+    /// Marks the number.
+    #[inline(always)]
+    pub fn mark(&mut self, h: u64)
+        ensures is { self.new ≡ mark_l self.old h }
+        ensures some { 0 < length self.old }
+    {
+        let i = slot(self.words.len(), h);
+        let m = mask(h);
+        let w = self.words[i];
+        self.words[i] = w | m;
+    }
+
+    /// Sets all bits to 0, if they are to be.
+    pub(crate) fn clear(&mut self, go: bool)
+        ensures { go ≡ false → self.new ≡ self.old }
+    {
+        if go {
+            self.words.fill(0);
+        }
+    }
+}
+
+/// A number of an id: its first and its last 8 bytes added, modulo the largest prime below 2 ^ 38.
 pub fn hash(id: [u8; 32]) -> u64
     ensures { result ≡ hash_l id }
 {
-    let a = be(&id, false, 0, 0, 8);
-    let b = be(&id, false, 0, 24, 8);
+    let a = word(&id, 0);
+    let b = word(&id, 24);
     std::num::wrapping_add_u64(a, b) % 274877906899
 }
 
-// A number of a number, spread over 38 bits, so that numbers that count up seldom meet in a filter.
+/// A number of a number, spread over 38 bits, so that numbers that count up seldom meet in a filter.
 pub fn hash_number(n: u64) -> u64
     ensures { result ≡ hash_n n }
 {
     n % 4294967291 * 2654435769 % 274877906899
 }
 
-// Another number of an id: its four words of 8 bytes added, and spread, so that ids that count up are far from each other.
+/// Another number of an id: its four words of 8 bytes added, and spread, so that ids that count up are far from each other.
 pub fn hash_all(id: [u8; 32]) -> u64
     ensures { result ≡ hash_all_value id }
 {
-    let a = be(&id, false, 0, 0, 8);
-    let b = be(&id, false, 0, 8, 8);
-    let c = be(&id, false, 0, 16, 8);
-    let d = be(&id, false, 0, 24, 8);
+    let a = word(&id, 0);
+    let b = word(&id, 8);
+    let c = word(&id, 16);
+    let d = word(&id, 24);
     let x = std::num::wrapping_add_u64(a, b);
     let y = std::num::wrapping_add_u64(c, d);
     let h = std::num::wrapping_add_u64(x, y) % 274877906899;

@@ -1,173 +1,107 @@
-// The frames of a header and of a record, read from a view. Every reader is total: what is short or bad has `ok` false.
-ghost use Rattle.std.specs.Prelude.{◌≡◌, ◌+◌, ◌^◌, ◌<◌, ◌≤◌, true, false, length, slice_index};
+// The frames of a header and of a record, read from a view. Every reader is total: of what is short or bad it gives none.
+ghost use Rattle.std.specs.Prelude.{◌≡◌, ◌+◌, ◌^◌, ◌<◌, ◌≤◌, true, false, length, slice_index, IfSome};
+ghost use Rattle.queue.specs.layout.FrameCodec.{id_c, four_c, shares_c, limits_k, label_c, widen, priority_c, terms_k, place_c, reads_c, body_k, mark_c, rest_k, caller_c, rec_k, rec_c};
+ghost use Rattle.queue.specs.bytes.ReaderAs.{Found, Reads, reads?};
 ghost use Rattle.queue.specs.Codec.{be_c, opt_c};
-ghost use Rattle.queue.specs.layout.FrameCodec.{id_c, label_c, widen, terms_k, place_c, reads_c, body_k, rest_k, rec_k, rec_c, four_c, limits_k, head_k};
-ghost use Rattle.queue.specs.bytes.ReaderAs.{Reads, Span, OptSpan, Counted, flag_c};
-ghost use Rattle.queue.specs.layout.FrameAs.{TagAt, MarkAt, CallerAt, PriorityAt, ReadsAt, NumAt, OptAt, PlaceAs, TermsAs, BodyAs, RestAs, SeenUnder, SeenAs, LimAs, SharesAt, LimitsAs, HeadUnder};
+ghost use Rattle.queue.specs.layout.FrameAs.{times, heights, mined_at, ListAs, TermsAs, BodyAs, RestAs, SeenAs, SeenUnder, SeenAt, FourAs, SharesAs, LimitsAs, HeadAt};
 ghost use Rattle.queue.specs.paper.Sound.{label_len};
-ghost use Rattle.queue.specs.paper.Kinds.{kind?};
-ghost use Rattle.queue.specs.layout.NearAs.{Near};
-ghost use Rattle.queue.specs.bytes.ViewAs.{view};
+ghost use Rattle.queue.specs.paper.Lists.{is_some};
+ghost use Rattle.queue.specs.paper.Kinds.{newest, has_reads, kind?};
+ghost use Rattle.queue.specs.bytes.ViewAs.{view as frame_at};
 
-use crate::bytes::logic::{all4, all8, both, either};
 use crate::bytes::put::{copy_view, put_be};
-use crate::bytes::view::{be, fetch, id_at, size};
+use crate::bytes::view::{Items, Read, View};
 use crate::layout::limits::Limits;
-use crate::layout::near::rec_near;
 
-// Milliseconds.
+/// Milliseconds.
 #[derive(Clone, Copy)]
 pub struct Time(pub u64);
 
-// A block's height.
+/// A block's height.
 #[derive(Clone, Copy)]
 pub struct Height(pub u64);
 
-// A finish number.
+/// A finish number.
 #[derive(Clone, Copy)]
 pub struct Finish(pub u64);
 
-// How the frames of a queue stand: as bytes or as lines of text, and under which header kind.
+/// How the frames of a queue stand: as bytes or as lines of text, and under which header kind.
 #[derive(Clone, Copy)]
 pub struct Form {
     pub hex: bool,
     pub kind: u8,
 }
 
-// The header kind that is written.
+/// The header kind that is written.
 pub const NEWEST: u8 = 6;
 
 // The header kind that brought the withdrawn mark 3.
 const MARK_3: u8 = 3;
 
-// The header kind that brought the caller and the shares.
+/// The header kind that brought the caller and the shares.
 pub const CALLERS: u8 = 4;
 
-// The header kind that brought the read ids.
+/// The header kind that brought the read ids.
 pub const READS: u8 = 5;
 
-// The header kind that brought priorities of 64 bits.
+/// The header kind that brought priorities of 64 bits.
 pub const WIDE: u8 = 6;
 
-// The frames of an area.
+/// The frames of an area.
 pub const AREA: Form = Form {
     hex: false,
     kind: NEWEST,
 };
 
+/// The terms of a record, without its fee and its cost.
 #[derive(Clone, Copy)]
-pub struct Part {
-    pub ok: bool,
-    pub next: usize,
-}
-
-#[derive(Clone, Copy)]
-pub struct NumR {
-    pub ok: bool,
-    pub value: u64,
-    pub next: usize,
-}
-
-#[derive(Clone, Copy)]
-pub struct IdR {
-    pub ok: bool,
-    pub id: [u8; 32],
-    pub next: usize,
-}
-
-#[derive(Clone, Copy)]
-pub struct Opt {
-    pub ok: bool,
-    pub has: bool,
-    pub next: usize,
-}
-
-#[derive(Clone, Copy)]
-pub struct OptN {
-    pub ok: bool,
-    pub has: bool,
-    pub value: u64,
-    pub next: usize,
-}
-
-#[derive(Clone, Copy)]
-pub struct Items {
-    pub ok: bool,
-    pub len: u64,
-    pub start: usize,
-    pub next: usize,
-}
-
-// Terms, and `at`, where the priority begins.
-#[derive(Clone, Copy)]
-pub struct TermsR {
-    pub ok: bool,
+pub struct Terms {
     pub created: Time,
-    pub timed: bool,
-    pub due: Time,
-    pub heighted: bool,
-    pub dueheight: Height,
+    pub due: Option<Time>,
+    pub due_height: Option<Height>,
     pub priority: u64,
     pub label: u64,
     pub size: u64,
-    pub at: usize,
-    pub next: usize,
 }
 
+/// What a holder has; where there is none, its lists are empty.
+// Kept: the lists of a record without a holder are empty and not absent, so that what counts or copies them asks nothing first.
 #[derive(Clone, Copy)]
-pub struct PlaceR {
-    pub ok: bool,
-    pub has: bool,
-    pub height: Height,
-    pub next: usize,
-}
-
-// What a holder has: how many inputs, outputs, read ids and signed bytes, and where they start.
-#[derive(Clone, Copy)]
-pub struct BodyR {
-    pub ok: bool,
+pub struct Body {
     pub holder: bool,
-    pub ins: u64,
-    pub outs: u64,
-    pub reads: u64,
-    pub bytes: u64,
-    pub at: usize,
-    pub to: usize,
-    pub seen: usize,
-    pub content: usize,
-    pub next: usize,
+    pub inputs: Items,
+    pub outputs: Items,
+    pub reads: Items,
+    pub signed: Items,
 }
 
-// What stands behind the terms, with where the mark and the holder flag stand.
+/// What stands behind the terms, with where the mark and the holder flag stand.
 #[derive(Clone, Copy)]
-pub struct RestR {
-    pub ok: bool,
-    pub placed: bool,
-    pub mined: Height,
+pub struct Rest {
+    pub mined: Option<Height>,
     pub mark: u64,
     pub finish: Finish,
-    pub held: BodyR,
+    pub held: Body,
     pub marks: usize,
     pub body: usize,
-    pub next: usize,
 }
 
-// What the rules look at in a record; what is absent is 0.
+// Kept: numbers for state, reason and mark, since any byte may stand there in an area that is not sound; `holder`, since the counts of a record
+// without a holder are 0 and not absent, so that sums ask nothing first.
+/// What the rules look at in a record.
+// Kept as numbers: state, reason and mark, since any byte may stand there in an area that is not sound.
 #[derive(Clone, Copy)]
 pub struct Facts {
     pub caller: u64,
     pub state: u64,
     pub reason: u64,
     pub created: Time,
-    pub timed: bool,
-    pub due: Time,
-    pub heighted: bool,
-    pub dueheight: Height,
+    pub due: Option<Time>,
+    pub due_height: Option<Height>,
     pub priority: u64,
     pub label: u64,
     pub size: u64,
-    pub placed: bool,
-    pub mined: Height,
+    pub mined: Option<Height>,
     pub mark: u64,
     pub finish: Finish,
     pub holder: bool,
@@ -177,14 +111,13 @@ pub struct Facts {
     pub bytes: u64,
 }
 
-// Where the terms of a record of an area start: behind its kind, id, caller, state and reason.
+/// Where the terms of a record of an area start: behind its kind, id, caller, state and reason.
 pub const TERMS: usize = 36;
 
-// A record read. Its terms end at after, its place at after..mark, its withdrawn mark at mark, its holder flag at
-// body, its inputs at at, its outputs at outs, its read ids at reads, its signed bytes at content; the frame ends at size.
+/// A record read. Its terms end at after, its place at after..mark, its withdrawn mark at mark, its holder flag at
+/// body, its inputs at at, its outputs at outs, its read ids at reads, its signed bytes at content; the frame ends at size.
 #[derive(Clone, Copy)]
 pub struct Seen {
-    pub ok: bool,
     pub id: [u8; 32],
     pub facts: Facts,
     pub after: usize,
@@ -197,35 +130,19 @@ pub struct Seen {
     pub size: usize,
 }
 
+/// P, B, T and K.
 #[derive(Clone, Copy)]
-pub struct Lim {
-    pub ok: bool,
+pub struct Numbers {
     pub p: u64,
     pub b: u64,
     pub t: u64,
     pub k: u64,
-    pub next: usize,
 }
 
-// The shares as their bytes.
+// Kept: the tip is passed over; where it stands is said by the two places, and is read where it is wanted (`write::tip_at`).
+/// A header read. Its cursor height and tip stand at marks..after, its counter at after; the frame ends at size.
 #[derive(Clone, Copy)]
-pub struct SharesR {
-    pub ok: bool,
-    pub bytes: [u8; 64],
-    pub next: usize,
-}
-
-#[derive(Clone, Copy)]
-pub struct LimitsR {
-    pub ok: bool,
-    pub limits: Limits,
-    pub next: usize,
-}
-
-// A header read. Its cursor height and tip stand at marks..after, its counter at after; the frame ends at size.
-#[derive(Clone, Copy)]
-pub struct HeadR {
-    pub ok: bool,
+pub struct Head {
     pub limits: Limits,
     pub revision: u64,
     pub cursor: Height,
@@ -237,585 +154,409 @@ pub struct HeadR {
     pub size: usize,
 }
 
-// Do n bytes stand at `at`?
-pub fn span(s: &[u8], hex: bool, base: usize, at: usize, n: usize) -> Part
-    ensures { Span (view hex s.now base) at n result.ok result.next }
-{
-    let m = size(s, hex, base);
-    if m < at {
-        return Part { ok: false, next: 0 };
-    }
-    if m - at < n {
-        return Part { ok: false, next: 0 };
-    }
-    Part {
-        ok: true,
-        next: at + n,
-    }
-}
-
-// A number of n bytes.
-pub fn num(s: &[u8], hex: bool, base: usize, at: usize, n: usize) -> NumR
-    requires { n ≤ 8 }
-    ensures { NumAt n (view hex s.now base) at result.ok result.next result.value }
-{
-    let p = span(s, hex, base, at, n);
-    if p.ok {
-        let v = be(s, hex, base, at, n);
-        return NumR {
-            ok: true,
-            value: v,
-            next: p.next,
-        };
-    }
-    NumR {
-        ok: false,
-        value: 0,
-        next: 0,
-    }
-}
-
-pub fn id_read(s: &[u8], hex: bool, base: usize, at: usize) -> IdR
-    ensures { Reads id_c (view hex s.now base) at result.ok result.next (λ v. v ≡ result.id) }
-{
-    let p = span(s, hex, base, at, 32);
-    if p.ok {
-        let v = id_at(s, hex, base, at);
-        return IdR {
-            ok: true,
-            id: v,
-            next: p.next,
-        };
-    }
-    IdR {
-        ok: false,
-        id: [0u8; 32],
-        next: 0,
-    }
-}
-
-// The byte n, which says what stands behind it.
-pub fn tag_at(s: &[u8], hex: bool, base: usize, at: usize, n: u8) -> Part
-    ensures { TagAt n (view hex s.now base) at result.ok result.next }
-{
-    if size(s, hex, base) <= at {
-        return Part { ok: false, next: 0 };
-    }
-    let b = fetch(s, hex, base, at);
-    if b == n {
-        return Part {
-            ok: true,
-            next: at + 1,
-        };
-    }
-    Part { ok: false, next: 0 }
-}
-
-pub fn flag_at(s: &[u8], hex: bool, base: usize, at: usize) -> Opt
-    ensures { Reads flag_c (view hex s.now base) at result.ok result.next (λ b. result.has ≡ b) }
-{
-    if size(s, hex, base) <= at {
-        return Opt {
-            ok: false,
-            has: false,
-            next: 0,
-        };
-    }
-    let b = fetch(s, hex, base, at);
-    if b == 0 {
-        return Opt {
-            ok: true,
-            has: false,
-            next: at + 1,
-        };
-    }
-    if b == 1 {
-        return Opt {
-            ok: true,
-            has: true,
-            next: at + 1,
-        };
-    }
-    Opt {
-        ok: false,
-        has: false,
-        next: 0,
-    }
-}
-
-// A flag, and n bytes if it is 1.
-pub fn opt_span(s: &[u8], hex: bool, base: usize, at: usize, n: usize) -> Opt
-    ensures { OptSpan (view hex s.now base) at n result.ok result.has result.next }
-{
-    let f = flag_at(s, hex, base, at);
-    if f.has {
-        let p = span(s, hex, base, f.next, n);
-        let ok = both(f.ok, p.ok);
-        return Opt {
-            ok: ok,
-            has: true,
-            next: p.next,
-        };
-    }
-    Opt {
-        ok: f.ok,
-        has: false,
-        next: f.next,
-    }
-}
-
-// A flag, and a number of n bytes if it is 1.
-pub fn opt_num(s: &[u8], hex: bool, base: usize, at: usize, n: usize) -> OptN
-    requires { n ≤ 8 }
-    ensures { OptAt n (view hex s.now base) at result.ok result.next result.has result.value }
-{
-    let f = flag_at(s, hex, base, at);
-    if f.has {
-        let p = num(s, hex, base, f.next, n);
-        let ok = both(f.ok, p.ok);
-        return OptN {
-            ok: ok,
-            has: true,
-            value: p.value,
-            next: p.next,
-        };
-    }
-    OptN {
-        ok: f.ok,
-        has: false,
-        value: 0,
-        next: f.next,
-    }
-}
-
-// A count of w bytes, and as many items of `each` bytes.
-pub fn counted(s: &[u8], hex: bool, base: usize, at: usize, w: usize, each: u64) -> Items
-    requires { (w ≤ 4) × (each ≤ 32) }
-    ensures { Counted (view hex s.now base) at w each result.ok result.len result.start result.next }
-{
-    let c = num(s, hex, base, at, w);
-    let n = c.value * each;
-    let p = span(s, hex, base, c.next, n as usize);
-    let ok = both(c.ok, p.ok);
-    Items {
-        ok: ok,
-        len: c.value,
-        start: c.next,
-        next: p.next,
-    }
-}
-
 // The label's length, 0 if there is none.
-pub fn label_at(s: &[u8], hex: bool, base: usize, at: usize) -> NumR
-    ensures { Reads label_c (view hex s.now base) at result.ok result.next (λ o. (label_len o ≡ result.value) × (result.value < 256)) }
+#[inline(always)]
+pub fn label_at(v: &View, at: usize) -> Option<Read<u64>>
+    ensures { Reads label_c v.now at result (λ x o. label_len o ≡ x.value) }
 {
-    let f = flag_at(s, hex, base, at);
-    if f.has {
-        let p = counted(s, hex, base, f.next, 1, 1);
-        let ok = both(f.ok, p.ok);
-        return NumR {
-            ok: ok,
-            value: p.len,
-            next: p.next,
-        };
+    let flag = v.flag(at)?;
+    if !flag.value {
+        return Some(Read {
+            value: 0,
+            next: flag.next,
+        });
     }
-    NumR {
-        ok: f.ok,
-        value: 0,
-        next: f.next,
-    }
+    let label = v.counted(flag.next, 1, 1)?;
+    Some(Read {
+        value: label.value.len,
+        next: label.next,
+    })
 }
 
 // A number of 32 bits as one of 64, both two's complement.
+#[inline(always)]
 fn widened(v: u64) -> u64
     requires { v < 4294967296 }
     ensures { result ≡ widen v }
 {
     if v < 2147483648 {
-        return v;
+        v
+    } else {
+        v + 18446744069414584320
     }
-    v + 18446744069414584320
 }
 
 // A priority as the kind has it: 8 bytes, or 4 with their sign.
-fn priority_at(s: &[u8], form: Form, base: usize, at: usize) -> NumR
-    ensures { PriorityAt form.kind (view form.hex s.now base) at result.ok result.next result.value }
+#[inline(always)]
+fn priority_at(v: &View, kind: u8, at: usize) -> Option<Read<u64>>
+    ensures { Reads (priority_c kind) v.now at result (λ x a. a ≡ x.value) }
 {
-    if WIDE <= form.kind {
-        return num(s, form.hex, base, at, 8);
+    if WIDE <= kind {
+        return v.number(at, 8);
     }
-    let p = num(s, form.hex, base, at, 4);
-    let v = widened(p.value);
-    NumR {
-        ok: p.ok,
-        value: v,
-        next: p.next,
-    }
+    let low = v.number(at, 4)?;
+    Some(Read {
+        value: widened(low.value),
+        next: low.next,
+    })
 }
 
-fn terms_at(s: &[u8], form: Form, base: usize, at: usize) -> TermsR
-    ensures { Reads (terms_k form.kind) (view form.hex s.now base) at result.ok result.next (TermsAs result) }
+// A deadline, if there is one.
+#[inline(always)]
+fn time_at(v: &View, at: usize) -> Option<Read<Option<Time>>>
+    ensures { Reads (opt_c (be_c 8)) v.now at result (λ x o. times o ≡ x.value) }
 {
-    let hex = form.hex;
-    let a = num(s, hex, base, at, 8);
-    let b = opt_num(s, hex, base, a.next, 8);
-    let c = opt_num(s, hex, base, b.next, 4);
-    let d = priority_at(s, form, base, c.next);
-    let e = label_at(s, hex, base, d.next);
-    let f = span(s, hex, base, e.next, 8);
-    let g = num(s, hex, base, f.next, 4);
-    let h = span(s, hex, base, g.next, 8);
-    let ok = all8(a.ok, b.ok, c.ok, d.ok, e.ok, f.ok, g.ok, h.ok);
-    TermsR {
-        ok: ok,
-        created: Time(a.value),
-        timed: b.has,
-        due: Time(b.value),
-        heighted: c.has,
-        dueheight: Height(c.value),
-        priority: d.value,
-        label: e.value,
-        size: g.value,
-        at: c.next,
-        next: h.next,
-    }
+    let time = v.optional(at, 8)?;
+    Some(Read {
+        value: time.value.map(Time),
+        next: time.next,
+    })
 }
 
-// The mined place: the height, 0 if there is none; the block's id is passed over.
-pub fn place_at(s: &[u8], hex: bool, base: usize, at: usize) -> PlaceR
-    ensures { Reads place_c (view hex s.now base) at result.ok result.next (PlaceAs result) }
+#[inline(always)]
+fn height_at(v: &View, at: usize) -> Option<Read<Option<Height>>>
+    ensures { Reads (opt_c (be_c 4)) v.now at result (λ x o. heights o ≡ x.value) }
 {
-    let f = flag_at(s, hex, base, at);
-    if f.has {
-        let h = num(s, hex, base, f.next, 4);
-        let p = span(s, hex, base, h.next, 32);
-        let ok = both(f.ok, both(h.ok, p.ok));
-        return PlaceR {
-            ok: ok,
-            has: true,
-            height: Height(h.value),
-            next: p.next,
-        };
+    let height = v.optional(at, 4)?;
+    Some(Read {
+        value: height.value.map(Height),
+        next: height.next,
+    })
+}
+
+#[inline(always)]
+fn terms_at(v: &View, kind: u8, at: usize) -> Option<Read<Terms>>
+    ensures { Reads (terms_k kind) v.now at result (λ x t. TermsAs x.value t) }
+{
+    let created = v.number(at, 8)?;
+    let due = time_at(v, created.next)?;
+    let due_height = height_at(v, due.next)?;
+    let priority = priority_at(v, kind, due_height.next)?;
+    let label = label_at(v, priority.next)?;
+    let fee = v.skip(label.next, 8)?;
+    let size = v.number(fee, 4)?;
+    let next = v.skip(size.next, 8)?;
+    Some(Read {
+        value: Terms {
+            created: Time(created.value),
+            due: due.value,
+            due_height: due_height.value,
+            priority: priority.value,
+            label: label.value,
+            size: size.value,
+        },
+        next,
+    })
+}
+
+// The mined place: the height; the block's id is passed over.
+#[inline(always)]
+pub fn place_at(v: &View, at: usize) -> Option<Read<Option<Height>>>
+    ensures { Reads place_c v.now at result (λ x o. mined_at o ≡ x.value) }
+{
+    let flag = v.flag(at)?;
+    if !flag.value {
+        return Some(Read {
+            value: None,
+            next: flag.next,
+        });
     }
-    PlaceR {
-        ok: f.ok,
-        has: false,
-        height: Height(0),
-        next: f.next,
-    }
+    let height = v.number(flag.next, 4)?;
+    let next = v.skip(height.next, 32)?;
+    Some(Read {
+        value: Some(Height(height.value)),
+        next,
+    })
 }
 
 // The read ids where the kind has them; else none.
-fn reads_at(s: &[u8], form: Form, base: usize, at: usize) -> Items
-    ensures { ReadsAt form.kind (view form.hex s.now base) at result }
+#[inline(always)]
+fn reads_at(v: &View, kind: u8, at: usize) -> Option<Read<Items>>
+    requires { at ≤ length v.now }
+    ensures read { Reads (reads_c kind) v.now at result (λ x l. ListAs v.now x.value l) }
+    ensures absent { IfSome result (λ x. has_reads kind ≡ false → (x.value.start ≡ at) × (x.next ≡ at)) }
 {
-    if form.kind < READS {
-        return Items {
-            ok: true,
-            len: 0,
-            start: at,
+    if kind < READS {
+        return Some(Read {
+            value: Items { len: 0, start: at },
             next: at,
-        };
+        });
     }
-    counted(s, form.hex, base, at, 2, 32)
+    v.counted(at, 2, 32)
 }
 
-fn body_at(s: &[u8], form: Form, base: usize, at: usize) -> BodyR
-    ensures { Reads (body_k form.kind) (view form.hex s.now base) at result.ok result.next (BodyAs form.kind (view form.hex s.now base) result) }
+#[inline(always)]
+fn body_at(v: &View, kind: u8, at: usize) -> Option<Read<Body>>
+    ensures { Reads (body_k kind) v.now at result (λ x o. BodyAs kind v.now x.value x.next o) }
 {
-    let hex = form.hex;
-    let f = flag_at(s, hex, base, at);
-    if f.has {
-        let i = counted(s, hex, base, f.next, 2, 32);
-        let o = counted(s, hex, base, i.next, 2, 32);
-        let d = reads_at(s, form, base, o.next);
-        let b = counted(s, hex, base, d.next, 4, 1);
-        let ok = all4(f.ok, i.ok, o.ok, both(d.ok, b.ok));
-        return BodyR {
-            ok: ok,
-            holder: true,
-            ins: i.len,
-            outs: o.len,
-            reads: d.len,
-            bytes: b.len,
-            at: i.start,
-            to: o.start,
-            seen: d.start,
-            content: b.start,
-            next: b.next,
+    let flag = v.flag(at)?;
+    if !flag.value {
+        let none = Items {
+            len: 0,
+            start: flag.next,
         };
+        return Some(Read {
+            value: Body {
+                holder: false,
+                inputs: none,
+                outputs: none,
+                reads: none,
+                signed: none,
+            },
+            next: flag.next,
+        });
     }
-    BodyR {
-        ok: f.ok,
-        holder: false,
-        ins: 0,
-        outs: 0,
-        reads: 0,
-        bytes: 0,
-        at: f.next,
-        to: f.next,
-        seen: f.next,
-        content: f.next,
-        next: f.next,
-    }
+    let inputs = v.counted(flag.next, 2, 32)?;
+    let outputs = v.counted(inputs.next, 2, 32)?;
+    let reads = reads_at(v, kind, outputs.next)?;
+    let signed = v.counted(reads.next, 4, 1)?;
+    Some(Read {
+        value: Body {
+            holder: true,
+            inputs: inputs.value,
+            outputs: outputs.value,
+            reads: reads.value,
+            signed: signed.value,
+        },
+        next: signed.next,
+    })
 }
 
 // The withdrawn mark, if the kind has it.
-fn mark_at(s: &[u8], form: Form, base: usize, at: usize) -> NumR
-    ensures { MarkAt form.kind (view form.hex s.now base) at result.ok result.next result.value }
+#[inline(always)]
+fn mark_at(v: &View, kind: u8, at: usize) -> Option<Read<u64>>
+    ensures { Reads (mark_c kind) v.now at result (λ x a. a ≡ x.value) }
 {
-    let m = num(s, form.hex, base, at, 1);
-    let said = either(MARK_3 <= form.kind, m.value != 3);
-    let ok = both(m.ok, said);
-    NumR {
-        ok: ok,
-        value: m.value,
-        next: m.next,
+    let mark = v.number(at, 1)?;
+    if kind < MARK_3 && mark.value == 3 {
+        None
+    } else {
+        Some(mark)
     }
 }
 
-fn rest_at(s: &[u8], form: Form, base: usize, at: usize) -> RestR
-    ensures { Reads (rest_k form.kind) (view form.hex s.now base) at result.ok result.next (RestAs form.kind (view form.hex s.now base) at result) }
+#[inline(always)]
+fn rest_at(v: &View, kind: u8, at: usize) -> Option<Read<Rest>>
+    ensures { Reads (rest_k kind) v.now at result (λ x t. RestAs kind v.now at x.value x.next t) }
 {
-    let hex = form.hex;
-    let a = place_at(s, hex, base, at);
-    let b = mark_at(s, form, base, a.next);
-    let c = num(s, hex, base, b.next, 8);
-    let d = body_at(s, form, base, c.next);
-    let ok = all4(a.ok, b.ok, c.ok, d.ok);
-    let mined = a.height;
-    RestR {
-        ok: ok,
-        placed: a.has,
-        mined: mined,
-        mark: b.value,
-        finish: Finish(c.value),
-        held: d,
-        marks: a.next,
-        body: c.next,
-        next: d.next,
-    }
+    let place = place_at(v, at)?;
+    let mark = mark_at(v, kind, place.next)?;
+    let finish = v.number(mark.next, 8)?;
+    let body = body_at(v, kind, finish.next)?;
+    Some(Read {
+        value: Rest {
+            mined: place.value,
+            mark: mark.value,
+            finish: Finish(finish.value),
+            held: body.value,
+            marks: place.next,
+            body: finish.next,
+        },
+        next: body.next,
+    })
 }
 
 // The caller where the kind has it; else 0.
-fn caller_at(s: &[u8], form: Form, base: usize, at: usize) -> NumR
-    ensures { CallerAt form.kind (view form.hex s.now base) at result.ok result.next result.value }
+#[inline(always)]
+fn caller_at(v: &View, kind: u8, at: usize) -> Option<Read<u64>>
+    requires { at ≤ length v.now }
+    ensures { Reads (caller_c kind) v.now at result (λ x a. a ≡ x.value) }
 {
-    if form.kind < CALLERS {
-        return NumR {
-            ok: true,
-            value: 0,
-            next: at,
-        };
+    if kind < CALLERS {
+        return Some(Read { value: 0, next: at });
     }
-    num(s, form.hex, base, at, 1)
+    v.number(at, 1)
 }
 
-fn rec_any(s: &[u8], form: Form, base: usize) -> Seen
-    ensures { Reads (rec_k form.kind) (view form.hex s.now base) 0 result.ok result.size (SeenUnder form.kind (view form.hex s.now base) result) }
+// The record at the start of a view. Its code stands once for areas and once for the rest, so that the compiler makes it part of
+// `read_record`, where form and kind are known.
+fn record_of<const AREA: bool>(v: &View, kind: u8) -> Option<Seen>
+    ensures { SeenAt kind v.now result }
 {
-    let hex = form.hex;
-    let a = tag_at(s, hex, base, 0, 2);
-    let b = id_read(s, hex, base, a.next);
-    let w = caller_at(s, form, base, b.next);
-    let c = num(s, hex, base, w.next, 1);
-    let d = num(s, hex, base, c.next, 1);
-    let t = terms_at(s, form, base, d.next);
-    let e = rest_at(s, form, base, t.next);
-    let h = e.held;
-    let created = t.created;
-    let due = t.due;
-    let dueheight = t.dueheight;
-    let mined = e.mined;
-    let finish = e.finish;
-    let facts = Facts {
-        caller: w.value,
-        state: c.value,
-        reason: d.value,
-        created: created,
-        timed: t.timed,
-        due: due,
-        heighted: t.heighted,
-        dueheight: dueheight,
-        priority: t.priority,
-        label: t.label,
-        size: t.size,
-        placed: e.placed,
-        mined: mined,
-        mark: e.mark,
-        finish: finish,
-        holder: h.holder,
-        ins: h.ins,
-        outs: h.outs,
-        reads: h.reads,
-        bytes: h.bytes,
-    };
-    let ok = all4(a.ok, b.ok, w.ok, all4(c.ok, d.ok, t.ok, e.ok));
-    let id = b.id;
-    Seen {
-        ok: ok,
-        id: id,
-        facts: facts,
-        after: t.next,
-        mark: e.marks,
-        body: e.body,
-        at: h.at,
-        outs: h.to,
-        reads: h.seen,
-        content: h.content,
-        size: e.next,
-    }
+    let start = v.tag(0, 2)?;
+    let id = v.read_id(start)?;
+    let caller = caller_at(v, kind, id.next)?;
+    let state = v.number(caller.next, 1)?;
+    let reason = v.number(state.next, 1)?;
+    let terms = terms_at(v, kind, reason.next)?;
+    let rest = rest_at(v, kind, terms.next)?;
+    let t = terms.value;
+    let r = rest.value;
+    let held = r.held;
+    let id = id.value;
+    Some(Seen {
+        id,
+        facts: Facts {
+            caller: caller.value,
+            state: state.value,
+            reason: reason.value,
+            created: t.created,
+            due: t.due,
+            due_height: t.due_height,
+            priority: t.priority,
+            label: t.label,
+            size: t.size,
+            mined: r.mined,
+            mark: r.mark,
+            finish: r.finish,
+            holder: held.holder,
+            ins: held.inputs.len,
+            outs: held.outputs.len,
+            reads: held.reads.len,
+            bytes: held.signed.len,
+        },
+        after: terms.next,
+        mark: r.marks,
+        body: r.body,
+        at: held.inputs.start,
+        outs: held.outputs.start,
+        reads: held.reads.start,
+        content: held.signed.start,
+        size: rest.next,
+    })
 }
 
-// Can the record of an area at base be read the short way? Most can.
-fn is_near(s: &[u8], base: usize) -> bool
-    ensures { result ≡ true → Near (view false s.now base) 0 400 × (slice_index (view false s.now base) 0 ≡ 2) }
+/// The record of an area at base, if one stands there.
+pub fn read_record(s: &[u8], base: usize) -> Option<Seen>
+    ensures { SeenAt newest (frame_at false s.now base) result }
 {
-    if size(s, false, base) < 400 {
-        return false;
-    }
-    fetch(s, false, base, 0) == 2
+    record_of::<true>(&View::new(s, false, base), NEWEST)
 }
 
-// A record of an area.
-pub fn rec_at(s: &[u8], base: usize) -> Seen
-    ensures { Reads rec_c (view false s.now base) 0 result.ok result.size (SeenAs (view false s.now base) result) }
+/// The record in any form at base, if one stands there.
+pub fn read_record_in(s: &[u8], form: Form, base: usize) -> Option<Seen>
+    ensures { SeenAt form.kind (frame_at form.hex s.now base) result }
 {
-    if is_near(s, base) {
-        return rec_near(s, base);
+    if !form.hex && form.kind == NEWEST {
+        return read_record(s, base);
     }
-    rec_any(s, AREA, base)
+    record_of::<false>(&View::new(s, form.hex, base), form.kind)
 }
 
-// A record in any form.
-pub fn rec_in(s: &[u8], form: Form, base: usize) -> Seen
-    ensures { Reads (rec_k form.kind) (view form.hex s.now base) 0 result.ok result.size (SeenUnder form.kind (view form.hex s.now base) result) }
+/// The record of an area that is known to stand at base.
+#[inline(always)]
+pub fn record_at(s: &[u8], base: usize) -> Seen
+    requires { reads? rec_c (frame_at false s.now base) 0 ≡ true }
+    ensures { Found rec_c (frame_at false s.now base) 0 result.size (SeenAs (frame_at false s.now base) result) }
 {
-    if form.hex {
-        return rec_any(s, form, base);
-    }
-    if form.kind != NEWEST {
-        return rec_any(s, form, base);
-    }
-    if is_near(s, base) {
-        return rec_near(s, base);
-    }
-    rec_any(s, form, base)
+    read_record(s, base).unwrap()
 }
 
-// P, B, T and K.
-fn limits_at(s: &[u8], hex: bool, base: usize, at: usize) -> Lim
-    ensures { Reads four_c (view hex s.now base) at result.ok result.next (LimAs result) }
+/// The record in any form that is known to stand at base.
+#[inline(always)]
+pub fn record_in(s: &[u8], form: Form, base: usize) -> Seen
+    requires { reads? (rec_k form.kind) (frame_at form.hex s.now base) 0 ≡ true }
+    ensures { Found (rec_k form.kind) (frame_at form.hex s.now base) 0 result.size (SeenUnder form.kind (frame_at form.hex s.now base) result) }
 {
-    let a = num(s, hex, base, at, 4);
-    let b = num(s, hex, base, a.next, 4);
-    let c = num(s, hex, base, b.next, 4);
-    let d = num(s, hex, base, c.next, 4);
-    let ok = all4(a.ok, b.ok, c.ok, d.ok);
-    Lim {
-        ok: ok,
-        p: a.value,
-        b: b.value,
-        t: c.value,
-        k: d.value,
-        next: d.next,
-    }
+    read_record_in(s, form, base).unwrap()
+}
+
+fn numbers_at(v: &View, at: usize) -> Option<Read<Numbers>>
+    ensures { Reads four_c v.now at result (λ x m. FourAs x.value m) }
+{
+    let p = v.number(at, 4)?;
+    let b = v.number(p.next, 4)?;
+    let t = v.number(b.next, 4)?;
+    let k = v.number(t.next, 4)?;
+    Some(Read {
+        value: Numbers {
+            p: p.value,
+            b: b.value,
+            t: t.value,
+            k: k.value,
+        },
+        next: k.next,
+    })
 }
 
 // The sixteen shares where the kind has them; else P and fifteen zeros.
-fn shares_at(s: &[u8], form: Form, base: usize, at: usize, p: u64) -> SharesR
-    ensures { SharesAt form.kind p (view form.hex s.now base) at result }
+fn shares_at(v: &View, kind: u8, at: usize, p: u64) -> Option<Read<[u8; 64]>>
+    requires inside { at ≤ length v.now }
+    requires small { p < 4294967296 }
+    ensures { Reads (shares_c kind p) v.now at result (λ x l. SharesAs x.value l) }
 {
-    let mut v = [0u8; 64];
-    if form.kind < CALLERS {
-        put_be(&mut v, 0, 4, p);
-        return SharesR {
-            ok: true,
-            bytes: v,
+    let mut shares = [0; 64];
+    if kind < CALLERS {
+        put_be(&mut shares, 0, 4, p);
+        return Some(Read {
+            value: shares,
             next: at,
-        };
+        });
     }
-    let q = span(s, form.hex, base, at, 64);
-    if q.ok {
-        copy_view(s, form.hex, base, at, 64, &mut v, 0);
-        return SharesR {
-            ok: true,
-            bytes: v,
-            next: q.next,
-        };
-    }
-    SharesR {
-        ok: false,
-        bytes: v,
-        next: 0,
-    }
+    let next = v.skip(at, 64)?;
+    copy_view(v, at, 64, &mut shares, 0);
+    Some(Read {
+        value: shares,
+        next,
+    })
 }
 
 // The limits with the shares.
-fn limits_in(s: &[u8], form: Form, base: usize, at: usize) -> LimitsR
-    ensures { Reads (limits_k form.kind) (view form.hex s.now base) at result.ok result.next (LimitsAs result) }
+fn limits_at(v: &View, kind: u8, at: usize) -> Option<Read<Limits>>
+    ensures { Reads (limits_k kind) v.now at result (λ x m. LimitsAs x.value m) }
 {
-    let m = limits_at(s, form.hex, base, at);
-    let q = shares_at(s, form, base, m.next, m.p);
-    let ok = both(m.ok, q.ok);
-    let v = q.bytes;
-    let l = Limits {
-        p: m.p,
-        b: m.b,
-        t: m.t,
-        k: m.k,
-        shares: v,
-    };
-    LimitsR {
-        ok: ok,
-        limits: l,
-        next: q.next,
-    }
+    let numbers = numbers_at(v, at)?;
+    let n = numbers.value;
+    let read = shares_at(v, kind, numbers.next, n.p)?;
+    let shares = read.value;
+    Some(Read {
+        value: Limits {
+            p: n.p,
+            b: n.b,
+            t: n.t,
+            k: n.k,
+            shares,
+        },
+        next: read.next,
+    })
 }
 
-// The first byte of the frame at base, which tells the header kind; 0 if there is none.
-pub fn kind_at(s: &[u8], hex: bool, base: usize) -> u8
-    ensures { result ≡ slice_index (view hex s.now base) 0 }
+// Is there a tip? Its id is passed over.
+fn tip_at(v: &View, at: usize) -> Option<Read<bool>>
+    ensures { Reads (opt_c id_c) v.now at result (λ x o. is_some o ≡ x.value) }
 {
-    if size(s, hex, base) == 0 {
-        return 0;
+    let flag = v.flag(at)?;
+    if !flag.value {
+        return Some(flag);
     }
-    fetch(s, hex, base, 0)
+    let next = v.skip(flag.next, 32)?;
+    Some(Read { value: true, next })
 }
 
-// Is it a header kind?
-pub fn known(kind: u8) -> bool
+/// The first byte of a frame, which tells the header kind; 0 if there is none.
+pub fn kind_of(v: &View) -> u8
+    ensures { result ≡ slice_index v.now 0 }
+{
+    if v.len() == 0 { 0 } else { v.byte(0) }
+}
+
+/// Is it a header kind?
+pub fn is_known(kind: u8) -> bool
     ensures { result ≡ kind? kind }
 {
-    either(
-        kind == 1,
-        either(kind == 3, either(kind == 4, either(kind == 5, kind == 6))),
-    )
+    matches!(kind, 1 | 3 | 4 | 5 | 6)
 }
 
-pub fn head_at(s: &[u8], form: Form, base: usize) -> HeadR
-    ensures { Reads (head_k form.kind) (view form.hex s.now base) 0 result.ok result.size (HeadUnder form.kind (view form.hex s.now base) result) }
+/// The header at the start of a view.
+pub fn head_of(v: &View, kind: u8) -> Option<Head>
+    ensures { HeadAt kind v.now result }
 {
-    let hex = form.hex;
-    let a = tag_at(s, hex, base, 0, form.kind);
-    let m = limits_in(s, form, base, a.next);
-    let r = num(s, hex, base, m.next, 8);
-    let c = num(s, hex, base, r.next, 4);
-    let i = opt_span(s, hex, base, c.next, 32);
-    let f = num(s, hex, base, i.next, 8);
-    let n = num(s, hex, base, f.next, 4);
-    let ok = all4(a.ok, m.ok, r.ok, all4(c.ok, i.ok, f.ok, n.ok));
-    let l = m.limits;
-    HeadR {
-        ok: ok,
-        limits: l,
-        revision: r.value,
-        cursor: Height(c.value),
-        tip: i.has,
-        counter: Finish(f.value),
-        count: n.value,
-        marks: r.next,
-        after: i.next,
-        size: n.next,
-    }
+    let start = v.tag(0, kind)?;
+    let limits = limits_at(v, kind, start)?;
+    let revision = v.number(limits.next, 8)?;
+    let cursor = v.number(revision.next, 4)?;
+    let tip = tip_at(v, cursor.next)?;
+    let counter = v.number(tip.next, 8)?;
+    let count = v.number(counter.next, 4)?;
+    Some(Head {
+        limits: limits.value,
+        revision: revision.value,
+        cursor: Height(cursor.value),
+        tip: tip.value,
+        counter: Finish(counter.value),
+        count: count.value,
+        marks: revision.next,
+        after: tip.next,
+        size: count.next,
+    })
 }

@@ -1,86 +1,89 @@
 // Where the record of an id stands among the records of an area, or would stand.
-ghost use Rattle.std.specs.Prelude.{true, false};
+ghost use Rattle.std.specs.Prelude.{◌≡◌, true, false, MatchOption};
+ghost use Rattle.std.proofs.Math.Option.{none};
 ghost use Rattle.queue.specs.layout.FrameCodec.{rec_c};
 ghost use Rattle.queue.specs.layout.FormsCodec.{form_c};
 ghost use Rattle.queue.specs.layout.RecordsAs.{RecordsIn, recs_at};
-ghost use Rattle.queue.specs.read.ReadingAs.{FoundAs, FoundEnd};
+ghost use Rattle.queue.specs.read.ReadingAs.{StandsAt};
 ghost use Rattle.queue.specs.paper.Lists.{find};
 ghost use Rattle.queue.specs.paper.Changing.{named?};
-ghost use Rattle.queue.specs.read.FindAs.{SpotAs};
+ghost use Rattle.queue.specs.read.FindAs.{SpotAs, spot_numbers};
 
-use crate::bytes::view::cmp_id;
+use crate::bytes::view::compare_ids;
 use crate::layout::forms::after_in;
-use crate::layout::frame::rec_at;
+use crate::layout::frame::record_at;
 use crate::layout::records::Records;
+use std::cmp::Ordering;
 
-#[derive(Clone, Copy)]
-pub struct Found {
-    pub found: bool,
-    pub at: usize,
-}
-
-// The record with this id among the records of an area.
-pub fn find_id(s: &[u8], recs: Records, id: [u8; 32]) -> Found
+/// The place of the record with this id among the records of an area.
+pub fn find_id(s: &[u8], recs: Records, id: [u8; 32]) -> Option<usize>
     requires { RecordsIn (form_c false rec_c) s.now recs }
-    ensures { FoundAs s.now result (find (named? id) (recs_at (form_c false rec_c) s.now recs)) × FoundEnd id recs.start (recs_at (form_c false rec_c) s.now recs) result }
+    ensures { MatchOption result (find (named? id) (recs_at (form_c false rec_c) s.now recs) ≡ none) (StandsAt s.now id recs.start (recs_at (form_c false rec_c) s.now recs)) }
 {
     let mut i = recs.start;
-    let mut left = recs.count;
-    while 0 < left {
-        let x = rec_at(s, i);
-        let y = x.id;
-        if cmp_id(id, y) == 1 {
-            return Found { found: true, at: i };
+    for _left in (0..recs.count).rev() {
+        let x = record_at(s, i);
+        if compare_ids(id, x.id).is_eq() {
+            return Some(i);
         }
         i = after_in(s, false, i, x.size);
-        left = left - 1;
     }
-    Found {
-        found: false,
-        at: 0,
-    }
+    None
 }
 
-// Where the record of an id stands, and where the next one begins; or, not found, where it would stand: both places are the same then.
+// The spot of an id among records: where its record stands, and where the next one begins; or where it would stand.
 #[derive(Clone, Copy)]
-pub struct Spot {
-    pub found: bool,
-    pub at: usize,
-    pub next: usize,
+pub enum Spot {
+    Occupied { at: usize, next: usize },
+    Vacant { at: usize },
+}
+
+impl Spot {
+    /// Does a record stand there?
+    pub(crate) fn is_occupied(self) -> bool
+        ensures { result ≡ (spot_numbers self).found }
+    {
+        match self {
+            Spot::Occupied { .. } => true,
+            Spot::Vacant { .. } => false,
+        }
+    }
+
+    /// Where the record stands, or would stand.
+    pub(crate) fn at(self) -> usize
+        ensures { result ≡ (spot_numbers self).at }
+    {
+        match self {
+            Spot::Occupied { at, .. } => at,
+            Spot::Vacant { at } => at,
+        }
+    }
+
+    /// Where the next record begins.
+    pub(crate) fn next(self) -> usize
+        ensures { result ≡ (spot_numbers self).next }
+    {
+        match self {
+            Spot::Occupied { next, .. } => next,
+            Spot::Vacant { at } => at,
+        }
+    }
 }
 
 // The spot of this id among the records of an area, whose ids rise.
 pub fn find_spot(s: &[u8], recs: Records, id: [u8; 32]) -> Spot
     requires { RecordsIn (form_c false rec_c) s.now recs }
-    ensures { SpotAs s.now id recs.start (recs_at (form_c false rec_c) s.now recs) result }
+    ensures { SpotAs s.now id recs.start (recs_at (form_c false rec_c) s.now recs) (spot_numbers result) }
 {
     let mut i = recs.start;
-    let mut left = recs.count;
-    while 0 < left {
-        let x = rec_at(s, i);
-        let y = x.id;
+    for _left in (0..recs.count).rev() {
+        let x = record_at(s, i);
         let next = after_in(s, false, i, x.size);
-        let c = cmp_id(id, y);
-        if c == 0 {
-            return Spot {
-                found: false,
-                at: i,
-                next: i,
-            };
+        match compare_ids(id, x.id) {
+            Ordering::Less => return Spot::Vacant { at: i },
+            Ordering::Equal => return Spot::Occupied { at: i, next },
+            Ordering::Greater => i = next,
         }
-        if c == 1 {
-            return Spot {
-                found: true,
-                at: i,
-                next: next,
-            };
-        }
-        i = next;
-        left = left - 1;
     }
-    Spot {
-        found: false,
-        at: i,
-        next: i,
-    }
+    Spot::Vacant { at: i }
 }

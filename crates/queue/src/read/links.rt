@@ -2,7 +2,7 @@
 // The ids that records want go into a table, a block of records at a time: each id into its slot, or behind others where the slot is
 // taken. Its row names who wants it: those behind others are joined, so that one names up to 16 records. Then every output is looked
 // up: in its slot, and by bisection among the others, if a filter says so. Slots and filter only cost or save time, whatever the ids are.
-ghost use Rattle.std.specs.Prelude.{◌≡◌, ◌+◌, ◌*◌, ◌/◌, ◌%◌, ◌<◌, ◌≤◌, true, false, ◌&&◌, length, take, nat_le, nat_lt};
+ghost use Rattle.std.specs.Prelude.{◌≡◌, ◌+◌, ◌*◌, ◌/◌, ◌%◌, ◌<◌, ◌≤◌, true, false, ◌&&◌, List, ℕ, length, take, get_or, set, nat_le, nat_lt};
 ghost use Rattle.queue.specs.Codec.{All};
 ghost use Rattle.queue.specs.layout.FrameCodec.{id_c};
 ghost use Rattle.queue.specs.bytes.ViewAs.{view};
@@ -12,13 +12,13 @@ ghost use Rattle.queue.specs.read.FeesAs.{Known};
 ghost use Rattle.queue.specs.read.LinksAs.{wants_at, group_mask_value, names, Others, OutsTo, Short, Joined, hit, in_line, Zero, Cleared, Slotted, RowsHold, Rowed, Begins, Again, Thinner, Thinned, Linked, outputs_linked, LinksIn};
 ghost use Rattle.queue.specs.paper.Lists.{any?};
 ghost use Rattle.queue.specs.paper.Sound.{among?};
-ghost use Rattle.queue.specs.check.FilterAs.{hash_all_value};
+ghost use Rattle.queue.specs.check.FilterAs.{slot_l, hash_all_value};
 
-use crate::bytes::logic::both;
-use crate::bytes::view::{id_at, same_id, size};
-use crate::check::filter::{bit, hash_all, mark, seen, slot};
-use crate::check::suspects::{Order, bisect, cmp_rows, in_order, order_rows, row_at};
-use crate::layout::frame::{id_read, rec_at};
+use crate::bytes::view::{View, same_id};
+use crate::check::filter::{Filter, bit, hash_all, slot};
+use crate::check::suspects::{bisect, cmp_rows, in_order, order_rows, row_at};
+use crate::layout::frame::record_at;
+use std::marker::Model;
 
 // The line of a row: its bits, in `width` words from `start` on.
 #[derive(Clone, Copy)]
@@ -42,25 +42,71 @@ pub fn clear(v: &mut [u64], go: bool)
     if !go {
         return;
     }
-    let n = v.len();
-    let mut i: usize = 0;
-    while i < n {
-        v[i] = 0;
-        i += 1;
+    v.fill(0);
+}
+
+/// The slots, at least one: a row in each, or 0.
+#[derive(Drop)]
+pub struct Slots<'a> {
+    rows: &'a mut [u64],
+}
+
+// What its rows are.
+impl<'a> Model for Slots<'a> {
+    ghost Value = { List ℕ };
+
+    ghost view = { λ s. s.rows.now };
+
+    ghost invariant = { λ s. 0 < length s.rows.now };
+}
+
+impl<'a> Slots<'a> {
+    /// As many slots as there are rows.
+    #[inline(always)]
+    pub fn new(rows: &'a mut [u64]) -> Slots<'a>
+        requires { 0 < length rows.old }
+        ensures { result ≡ rows.old }
+    {
+        Slots { rows }
+    }
+
+    // The row in the slot of the number h.
+    #[inline(always)]
+    fn row(&self, h: u64) -> u64
+        ensures is { result ≡ get_or self.now (slot_l (length self.now) h) 0 }
+        ensures some { 0 < length self.now }
+    {
+        let i = slot(self.rows.len(), h);
+        self.rows[i]
+    }
+
+    // The row w into the slot of the number h.
+    #[inline(always)]
+    fn put(&mut self, h: u64, w: u64)
+        ensures { self.new ≡ set self.old (slot_l (length self.old) h) w }
+    {
+        let i = slot(self.rows.len(), h);
+        self.rows[i] = w;
+    }
+
+    // All set to 0, if they are to be.
+    fn clear(&mut self, go: bool)
+        ensures { Cleared go self.old self.new }
+    {
+        clear(self.rows, go);
     }
 }
 
 // The row w into its slot, or behind the k rows of v; returns how many there are then.
-fn keep_row(slots: &mut [u64], t: &mut [u64], v: &mut [u64], k: usize, h: u64, w: u64) -> usize
-    requires { (0 < length slots.old) × (0 < length t.old) × (k < length v.old) }
+fn keep_row(slots: &mut Slots, t: &mut Filter, v: &mut [u64], k: usize, h: u64, w: u64) -> usize
+    requires { k < length v.old }
     ensures { Slotted h w k slots.old t.old v.old result slots.new t.new v.new }
 {
-    let i = slot(slots.len(), h);
-    if slots[i] == 0 {
-        slots[i] = w;
+    if slots.row(h) == 0 {
+        slots.put(h, w);
         return k;
     }
-    mark(t, h);
+    t.mark(h);
     v[k] = w;
     k + 1
 }
@@ -80,26 +126,23 @@ fn keep_ids(
     at: usize,
     c: u64,
     m: u64,
-    slots: &mut [u64],
-    t: &mut [u64],
+    slots: &mut Slots,
+    t: &mut Filter,
     v: &mut [u64],
     k: usize,
 ) -> usize
-    requires { (at ≤ length (view false s.now base)) × (whole id_c c (view false s.now base) at ≡ true) × (length s.now < 4294967296) × (m < 2048) × (0 < length slots.old) × (0 < length t.old) × (k + c ≤ length v.old) }
+    requires { (at ≤ length (view false s.now base)) × (whole id_c c (view false s.now base) at ≡ true) × (length s.now < 4294967296) × (m < 2048) × (k + c ≤ length v.old) }
     ensures { Rowed s.now m (list_at id_c c (view false s.now base) at) slots.old t.old (take k v.old) slots.new t.new (take result v.new) × (result ≤ k + c) }
 {
+    let frame = View::new(s, false, base);
     let mut i = at;
-    let mut left = c;
     let mut n = k;
     let g = group_mask(m);
-    while 0 < left {
-        let x = id_read(s, false, base, i);
-        let id = x.id;
-        let h = hash_all(id);
+    for _left in (0..c).rev() {
+        let h = hash_all(frame.id(i));
         let w = row_at(s, false, base, i, g);
         n = keep_row(slots, t, v, n, h, w);
-        i = x.next;
-        left = left - 1;
+        i += 32;
     }
     n
 }
@@ -119,28 +162,29 @@ fn keep_rows(
     at: &[usize],
     a: usize,
     outs: &mut [u64],
-    slots: &mut [u64],
-    t: &mut [u64],
+    slots: &mut Slots,
+    t: &mut Filter,
     v: &mut [u64],
 ) -> Batch
-    requires { All (Known s.now) at.now × All (Short s.now) at.now × (length s.now < 4294967296) × (a < length at.now) × (length at.now ≤ 2048) × (256 ≤ length v.old) × (0 < length slots.old) × (0 < length t.old) × Zero slots.old × (length at.now ≡ length outs.old) × OutsTo s.now at.now outs.old a }
+    requires { All (Known s.now) at.now × All (Short s.now) at.now × (length s.now < 4294967296) × (a < length at.now) × (length at.now ≤ 2048) × (256 ≤ length v.old) × Zero slots.old × (length at.now ≡ length outs.old) × OutsTo s.now at.now outs.old a }
     ensures { RowsHold s.now slots.new t.new (take result.len v.new) (λ j z. (nat_le a j && nat_lt j result.next) && among? z (wants_at s.now at.now j)) × (a < result.next) × (result.next ≤ length at.now) × (result.len ≤ length v.old) × OutsTo s.now at.now outs.new result.next }
 {
-    let mut b = a;
     let mut k: usize = 0;
-    while b < at.len() {
+    for b in a..at.len() {
         if v.len() - k < 256 {
             return Batch { next: b, len: k };
         }
         let p = at[b];
-        let x = rec_at(s, p);
+        let x = record_at(s, p);
         let f = x.facts;
         k = keep_ids(s, p, x.at, f.ins, b as u64, slots, t, v, k);
         k = keep_ids(s, p, x.reads, f.reads, b as u64, slots, t, v, k);
         outs[b] = pack(x.outs, f.outs);
-        b += 1;
     }
-    Batch { next: b, len: k }
+    Batch {
+        next: at.len(),
+        len: k,
+    }
 }
 
 // Where the outputs of the records from row `from` on stand.
@@ -148,12 +192,10 @@ fn note_outs(s: &[u8], at: &[usize], from: usize, outs: &mut [u64])
     requires { All (Known s.now) at.now × (length s.now < 4294967296) × (length at.now ≡ length outs.old) × (length at.now ≤ 2048) × (from ≤ length at.now) × OutsTo s.now at.now outs.old from }
     ensures { OutsTo s.now at.now outs.new (length at.now) }
 {
-    let mut i = from;
-    while i < at.len() {
-        let x = rec_at(s, at[i]);
+    for i in from..at.len() {
+        let x = record_at(s, at[i]);
         let f = x.facts;
         outs[i] = pack(x.outs, f.outs);
-        i += 1;
     }
 }
 
@@ -164,17 +206,15 @@ fn is_row_of(s: &[u8], y: u64, x: u64) -> bool
     if x % 4294967296 == 0 {
         return false;
     }
-    let p = (y / 4294967296) as usize;
-    let q = (x / 4294967296) as usize;
-    if size(s, false, p) < 32 {
-        return cmp_rows(s, false, y, x) == 1;
+    let a = View::new(s, false, (y / 4294967296) as usize);
+    let b = View::new(s, false, (x / 4294967296) as usize);
+    if a.len() < 32 {
+        return cmp_rows(s, false, y, x).is_eq();
     }
-    if size(s, false, q) < 32 {
-        return cmp_rows(s, false, y, x) == 1;
+    if b.len() < 32 {
+        return cmp_rows(s, false, y, x).is_eq();
     }
-    let a = id_at(s, false, p, 0);
-    let b = id_at(s, false, q, 0);
-    same_id(a, b)
+    same_id(a.id(0), b.id(0))
 }
 
 // The bits of the group of n, without that of record number j.
@@ -217,15 +257,13 @@ fn link_run(s: &[u8], v: &[u64], from: usize, ordered: bool, y: u64, bits: &mut 
     requires { Begins ordered s.now v.now y from × (no_r y ≡ 0) × (l.start ≡ l.row * l.width) × (l.start + l.width ≤ length bits.old) }
     ensures { Joined l.width bits.old bits.new (λ i j. any? (hit s.now j (id_r false s.now y)) v.now && in_line l.row i j) }
 {
-    let mut k = from;
-    while k < v.len() {
+    for k in from..v.len() {
         let x = v[k];
         let found = is_row_of(s, y, x);
-        if both(ordered, !found) {
+        if ordered & !found {
             return;
         }
         link_row(bits, l, found, x);
-        k += 1;
     }
 }
 
@@ -247,21 +285,20 @@ fn link_id(
     s: &[u8],
     y: u64,
     h: u64,
-    slots: &[u64],
-    t: &[u64],
+    slots: &Slots,
+    t: &Filter,
     v: &[u64],
     ordered: bool,
     bits: &mut [u64],
     l: Line,
 )
-    requires { (h ≡ hash_all_value (id_r false s.now y)) × (no_r y ≡ 0) × (0 < length slots.now) × (0 < length t.now) × (ordered ≡ true → InOrder false s.now v.now) × (l.start ≡ l.row * l.width) × (l.start + l.width ≤ length bits.old) }
+    requires { (h ≡ hash_all_value (id_r false s.now y)) × (no_r y ≡ 0) × (ordered ≡ true → InOrder false s.now v.now) × (l.start ≡ l.row * l.width) × (l.start + l.width ≤ length bits.old) }
     ensures { Linked l.width s.now slots.now t.now v.now bits.old bits.new (λ own i j. own j (id_r false s.now y) && in_line l.row i j) }
 {
-    let i = slot(slots.len(), h);
-    let x = slots[i];
+    let x = slots.row(h);
     let found = is_row_of(s, y, x);
     link_row(bits, l, found, x);
-    if !seen(t, h) {
+    if !t.seen(h) {
         return;
     }
     link_rows(s, v, ordered, y, bits, l);
@@ -273,26 +310,23 @@ fn link_ids(
     base: usize,
     at: usize,
     c: u64,
-    slots: &[u64],
-    t: &[u64],
+    slots: &Slots,
+    t: &Filter,
     v: &[u64],
     ordered: bool,
     bits: &mut [u64],
     l: Line,
 )
-    requires { (at ≤ length (view false s.now base)) × (whole id_c c (view false s.now base) at ≡ true) × (length s.now < 4294967296) × (0 < length slots.now) × (0 < length t.now) × (ordered ≡ true → InOrder false s.now v.now) × (l.start ≡ l.row * l.width) × (l.start + l.width ≤ length bits.old) }
+    requires { (at ≤ length (view false s.now base)) × (whole id_c c (view false s.now base) at ≡ true) × (length s.now < 4294967296) × (ordered ≡ true → InOrder false s.now v.now) × (l.start ≡ l.row * l.width) × (l.start + l.width ≤ length bits.old) }
     ensures { Linked l.width s.now slots.now t.now v.now bits.old bits.new (λ own i j. any? (own j) (list_at id_c c (view false s.now base) at) && in_line l.row i j) }
 {
+    let frame = View::new(s, false, base);
     let mut i = at;
-    let mut left = c;
-    while 0 < left {
-        let x = id_read(s, false, base, i);
-        let id = x.id;
-        let h = hash_all(id);
+    for _left in (0..c).rev() {
+        let h = hash_all(frame.id(i));
         let y = row_at(s, false, base, i, 0);
         link_id(s, y, h, slots, t, v, ordered, bits, l);
-        i = x.next;
-        left = left - 1;
+        i += 32;
     }
 }
 
@@ -301,19 +335,18 @@ fn link_all(
     s: &[u8],
     at: &[usize],
     outs: &[u64],
-    slots: &[u64],
-    t: &[u64],
+    slots: &Slots,
+    t: &Filter,
     v: &[u64],
     ordered: bool,
     bits: &mut [u64],
     w: usize,
 )
-    requires { OutsTo s.now at.now outs.now (length at.now) × (length at.now ≡ length outs.now) × (length s.now < 4294967296) × (0 < length slots.now) × (0 < length t.now) × (ordered ≡ true → InOrder false s.now v.now) × (length at.now * w ≤ length bits.old) × (length at.now ≤ 2048) }
+    requires { OutsTo s.now at.now outs.now (length at.now) × (length at.now ≡ length outs.now) × (length s.now < 4294967296) × (ordered ≡ true → InOrder false s.now v.now) × (length at.now * w ≤ length bits.old) × (length at.now ≤ 2048) }
     ensures { Linked w s.now slots.now t.now v.now bits.old bits.new (outputs_linked s.now at.now) }
 {
-    let mut i: usize = 0;
     let mut o: usize = 0;
-    while i < at.len() {
+    for i in 0..at.len() {
         let p = at[i];
         let c = outs[i];
         let l = Line {
@@ -334,7 +367,6 @@ fn link_all(
             l,
         );
         o += w;
-        i += 1;
     }
 }
 
@@ -347,10 +379,7 @@ fn is_again(s: &[u8], v: &[u64], k: usize, x: u64) -> bool
         return false;
     }
     let w = v[k - 1];
-    both(
-        cmp_rows(s, false, w, x) == 1,
-        w % 4294967296 / 65536 == x % 4294967296 / 65536,
-    )
+    cmp_rows(s, false, w, x).is_eq() & (w % 4294967296 / 65536 == x % 4294967296 / 65536)
 }
 
 // The row x behind k others, or its number into the last of these; returns how many there are then.
@@ -373,12 +402,10 @@ fn thin(s: &[u8], v: &mut [u64]) -> usize
     ensures { Thinned s.now v.old (take result v.new) × (result ≤ length v.old) }
 {
     let n = v.len();
-    let mut i: usize = 0;
     let mut k: usize = 0;
-    while i < n {
+    for i in 0..n {
         let x = v[i];
         k = add_once(s, v, k, x);
-        i += 1;
     }
     k
 }
@@ -388,13 +415,13 @@ fn link_ordered(
     s: &[u8],
     at: &[usize],
     outs: &[u64],
-    slots: &[u64],
-    t: &[u64],
+    slots: &Slots,
+    t: &Filter,
     v: &[u64],
     bits: &mut [u64],
     w: usize,
 )
-    requires { OutsTo s.now at.now outs.now (length at.now) × (length at.now ≡ length outs.now) × (length s.now < 4294967296) × (0 < length slots.now) × (0 < length t.now) × (length at.now * w ≤ length bits.old) × (length at.now ≤ 2048) }
+    requires { OutsTo s.now at.now outs.now (length at.now) × (length at.now ≡ length outs.now) × (length s.now < 4294967296) × (length at.now * w ≤ length bits.old) × (length at.now ≤ 2048) }
     ensures { Linked w s.now slots.now t.now v.now bits.old bits.new (outputs_linked s.now at.now) }
 {
     let o = in_order(s, false, v);
@@ -406,39 +433,40 @@ fn link_block(
     s: &[u8],
     at: &[usize],
     outs: &[u64],
-    slots: &[u64],
-    t: &[u64],
+    slots: &Slots,
+    t: &Filter,
     v: &mut [u64],
     bits: &mut [u64],
     w: usize,
 )
-    requires { OutsTo s.now at.now outs.now (length at.now) × (length at.now ≡ length outs.now) × (length s.now < 4294967296) × (0 < length slots.now) × (0 < length t.now) × (length at.now * w ≤ length bits.old) × (length at.now ≤ 2048) }
+    requires { OutsTo s.now at.now outs.now (length at.now) × (length at.now ≡ length outs.now) × (length s.now < 4294967296) × (length at.now * w ≤ length bits.old) × (length at.now ≤ 2048) }
     ensures { Linked w s.now slots.now t.now v.old bits.old bits.new (outputs_linked s.now at.now) }
 {
-    order_rows(s, Order::Ids(false), v);
+    order_rows(s, false, v);
     let n = thin(s, v);
     link_ordered(s, at, outs, slots, t, &v[..n], bits, w);
 }
 
 // The bits of all pairs of rows: that of j in the line of i, where another record j wants an output of i. The slots are empty at first; in outs it is noted
 // where outputs stand.
+// Kept: each turn takes as many rows as there was room for, which no range says.
 pub fn links(
     s: &[u8],
     at: &[usize],
     outs: &mut [u64],
-    slots: &mut [u64],
-    t: &mut [u64],
+    slots: &mut Slots,
+    t: &mut Filter,
     v: &mut [u64],
     bits: &mut [u64],
     w: usize,
 )
-    requires { All (Known s.now) at.now × All (Short s.now) at.now × (length s.now < 4294967296) × (length at.now ≤ 2048) × (256 ≤ length v.old) × (0 < length slots.old) × (0 < length t.old) × (length at.now * w ≤ length bits.old) × Zero slots.old × Zero bits.old × (length at.now ≡ length outs.old) }
+    requires { All (Known s.now) at.now × All (Short s.now) at.now × (length s.now < 4294967296) × (length at.now ≤ 2048) × (256 ≤ length v.old) × (length at.now * w ≤ length bits.old) × Zero slots.old × Zero bits.old × (length at.now ≡ length outs.old) }
     ensures { LinksIn w s.now at.now bits.new }
 {
     let mut a: usize = 0;
     while a < at.len() {
-        clear(slots, 0 < a);
-        clear(t, 0 < a);
+        slots.clear(0 < a);
+        t.clear(0 < a);
         let b = keep_rows(s, at, a, outs, slots, t, v);
         note_outs(s, at, b.next, outs);
         let n = b.len;

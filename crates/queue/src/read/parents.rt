@@ -1,41 +1,29 @@
 // Parents first: the selection listed so that each record comes after all that it waits for. One counter a row: 0, it is listed; 1, it
 // is unlisted and waits for nothing unlisted; more, it waits. Again and again the first row that holds 1 is listed, and the counters of
 // those that wait for it fall.
-ghost use Rattle.std.specs.Prelude.{◌≡◌, ◌+◌, ◌-◌, ◌*◌, ◌<◌, ◌≤◌, false, length, take, if◌then◌else◌, slice_index, slice_set};
-ghost use Rattle.queue.specs.Codec.{All};
-ghost use Rattle.queue.specs.layout.FrameCodec.{rec_c};
-ghost use Rattle.queue.specs.layout.FormsCodec.{form_c};
-ghost use Rattle.queue.specs.layout.RecordsAs.{RecordsIn};
-ghost use Rattle.queue.specs.Lists.{Pairwise};
-ghost use Rattle.queue.specs.theorems.SoundParts.{Before};
+ghost use Rattle.std.specs.Prelude.{◌≡◌, ◌+◌, ◌-◌, ◌*◌, ◌<◌, ◌≤◌, length, take, if◌then◌else◌, slice_index, slice_set};
+ghost use Rattle.queue.specs.Refusal.{answer_of};
 ghost use Rattle.queue.specs.Checked.{written};
-ghost use Rattle.queue.specs.read.SelectAs.{rows, Even, ahead?, id_at, chosen};
-ghost use Rattle.queue.specs.read.FeesAs.{rec_at_value, rec_of_row};
+ghost use Rattle.queue.specs.read.FeesAs.{rec_at_value};
 ghost use Rattle.queue.specs.read.parents.Counters.{first_one, raise, lower, counted, picks};
-ghost use Rattle.queue.specs.read.LinksAs.{Ones, Few, Clear, Lowered, ones, word_ones, kids_of, Named, Modest};
-ghost use Rattle.queue.specs.paper.Lists.{map, sort};
-ghost use Rattle.queue.specs.paper.Reading.{first?};
+ghost use Rattle.queue.specs.read.LinksAs.{Ones, Few, Clear, Lowered, ones, word_ones, kids_of, Named};
+ghost use Rattle.queue.specs.paper.Lists.{map};
 ghost use Rattle.queue.specs.paper.Calls.{told_out, ids_bytes};
 ghost use Rattle.queue.specs.paper.Parents.{waits_for?, parents_first_value, parents_first_of};
 
-use crate::bytes::logic::both;
-use crate::bytes::put::put_be;
-use crate::check::area::area_at;
+use crate::Kind;
+use crate::check::area::Area;
+use crate::check::filter::Filter;
 use crate::layout::frame::{Height, Time};
 use crate::layout::records::Records;
-use crate::read::links::links;
-use crate::read::select::{gather, order, put_ids};
-use crate::{Answer, Kind, refusal};
+use crate::read::links::{Slots, links};
+use crate::read::select::{put_listed, select_places};
+use crate::refusal::Refusal;
 
 fn fill_ones(cs: &mut [u64])
     ensures { Ones (length cs.old) cs.new }
 {
-    let n = cs.len();
-    let mut i: usize = 0;
-    while i < n {
-        cs[i] = 1;
-        i += 1;
-    }
+    cs.fill(1);
 }
 
 // One more at k, if it is to be; nothing past the end.
@@ -68,7 +56,7 @@ fn lower_if(cs: &mut [u64], odd: bool, k: usize, from: usize) -> usize
         return from;
     }
     cs[k] = c - 1;
-    if both(c == 2, k < from) {
+    if (c == 2) & (k < from) {
         return k;
     }
     from
@@ -76,6 +64,7 @@ fn lower_if(cs: &mut [u64], odd: bool, k: usize, from: usize) -> usize
 
 // The rows named by the bits of a word rise, the first of them being base. Eight bits that are 0 are passed over at once. No counter is
 // above `most`.
+// Kept: the step is 8 or 1, and the loop ends when no bit is left, so that a word of few bits takes few turns.
 fn raise_word(cs: &mut [u64], x: u64, base: usize, most: u64)
     requires { Few most cs.old × (most + 64 < 4294967296) × (base + 64 < 4294967296) }
     ensures { (cs.new ≡ raise (ones 64 x base) cs.old) × Few (most + 64) cs.new }
@@ -95,6 +84,7 @@ fn raise_word(cs: &mut [u64], x: u64, base: usize, most: u64)
 }
 
 // The rows named by the bits of a word fall, likewise.
+// Kept: as in raise_word.
 fn lower_word(cs: &mut [u64], x: u64, base: usize, from: usize) -> usize
     requires { base + 64 < 4294967296 }
     ensures { Lowered cs.old from (lower (ones 64 x base) cs.old) result cs.new }
@@ -120,12 +110,10 @@ fn raise_line(cs: &mut [u64], bits: &[u64], start: usize, w: usize, most: u64)
     requires { (start + w ≤ length bits.now) × (w ≤ 32) × Few most cs.old × (most + 64 * w < 4294967296) }
     ensures { (cs.new ≡ raise (word_ones bits.now w start 0) cs.old) × Few (most + 64 * w) cs.new }
 {
-    let mut a: usize = 0;
     let mut j: usize = 0;
     let mut top = most;
-    while a < w {
+    for a in 0..w {
         raise_word(cs, bits[start + a], j, top);
-        a += 1;
         j += 64;
         top += 64;
     }
@@ -136,12 +124,10 @@ fn lower_line(cs: &mut [u64], bits: &[u64], start: usize, w: usize, from: usize)
     requires { (start + w ≤ length bits.now) × (w ≤ 32) }
     ensures { Lowered cs.old from (lower (word_ones bits.now w start 0) cs.old) result cs.new }
 {
-    let mut a: usize = 0;
     let mut j: usize = 0;
     let mut f = from;
-    while a < w {
+    for a in 0..w {
         f = lower_word(cs, bits[start + a], j, f);
-        a += 1;
         j += 64;
     }
     f
@@ -153,12 +139,10 @@ fn count_rows(bits: &[u64], w: usize, cs: &mut [u64])
     ensures { cs.new ≡ counted (kids_of bits.now w) 0 (length cs.old) cs.old }
 {
     let n = cs.len();
-    let mut i: usize = 0;
     let mut o: usize = 0;
     let mut top: u64 = 1;
-    while i < n {
+    for i in 0..n {
         raise_line(cs, bits, o, w, top);
-        i += 1;
         o += w;
         top += 64 * w as u64;
     }
@@ -170,12 +154,10 @@ fn first_from(cs: &[u64], from: usize) -> usize
     ensures { result ≡ first_one cs.now }
 {
     let n = cs.len();
-    let mut i = from;
-    while i < n {
+    for i in from..n {
         if cs[i] == 1 {
             return i;
         }
-        i += 1;
     }
     n
 }
@@ -186,9 +168,8 @@ fn list_rows(at: &[usize], bits: &[u64], w: usize, cs: &mut [u64], picked: &mut 
     ensures { (take result picked.new ≡ map (λ i. slice_index at.now i) (picks (kids_of bits.now w) (length cs.old) cs.old)) × (result ≤ length cs.old) }
 {
     let n = cs.len();
-    let mut m: usize = 0;
     let mut from: usize = 0;
-    while m < n {
+    for m in 0..n {
         let i = first_from(cs, from);
         if n <= i {
             return m;
@@ -196,69 +177,30 @@ fn list_rows(at: &[usize], bits: &[u64], w: usize, cs: &mut [u64], picked: &mut 
         picked[m] = at[i];
         cs[i] = 0;
         from = lower_line(cs, bits, i * w, w, i + 1);
-        m += 1;
     }
-    m
+    n
 }
 
-// Refusal 4, or the ids of the records at these places.
-fn put_listed(s: &[u8], picked: &[usize], out: &mut [u8]) -> Answer
-    requires { All (λ p. p + 33 ≤ length s.now) picked.now × (length picked.now ≤ 2048) }
-    ensures { written result out.new ≡ told_out (ids_bytes (map (id_at s.now) picked.now)) out.old }
+// With tables of the given sizes for `links`, bits in lines of w words, and the places that are listed. The counters stand in cs.
+fn parents_within<
+    const SLOTS: usize,
+    const LINKS: usize,
+    const READS: usize,
+    const BITS: usize,
+    const ROWS: usize,
+>(s: &[u8], at: &[usize], cs: &mut [u64], w: usize, out: &mut [u8]) -> Result<Kind, Refusal>
+    requires rows { Named s.now at.now × (length s.now < 4294967296) × (length at.now ≡ length cs.old) × (length at.now ≤ 64 * w) × (w ≤ 32) }
+    requires small { (SLOTS ≤ 65536) × (LINKS ≤ 65536) × (READS ≤ 65536) × (BITS ≤ 65536) }
+    requires sizes { (0 < SLOTS) × (0 < LINKS) × (256 ≤ READS) × (length at.now ≤ ROWS) × (length at.now * w ≤ BITS) × (ROWS ≤ 2048) }
+    ensures { written (answer_of result) out.new ≡ told_out (ids_bytes (map (λ r. r.id) (parents_first_value waits_for? (map (rec_at_value s.now) at.now)))) out.old }
 {
-    let n = picked.len();
-    if out.len() < 4 + 32 * n {
-        return Answer::Refused(refusal::OUTPUT_TOO_SHORT);
-    }
-    let o = put_be(out, 0, 4, n as u64);
-    put_ids(s, picked, out, o);
-    Answer::Done(Kind::Nothing)
-}
-
-// With room for few rows: tables for `links`, bits in lines of w words, and the places that are listed. The counters stand in cs.
-fn parents_few(s: &[u8], at: &[usize], cs: &mut [u64], w: usize, out: &mut [u8]) -> Answer
-    requires { Named s.now at.now × (length s.now < 4294967296) × (length at.now ≡ length cs.old) × (length at.now ≤ 64 * w) × (w ≤ 8) }
-    ensures { written result out.new ≡ told_out (ids_bytes (map (λ r. r.id) (parents_first_value waits_for? (map (rec_at_value s.now) at.now)))) out.old }
-{
-    let mut slots = [0u64; 2048];
-    let mut t = [0u64; 512];
-    let mut v = [0u64; 1024];
-    let mut bits = [0u64; 4096];
-    let mut picked = [0usize; 512];
-    links(s, at, cs, &mut slots, &mut t, &mut v, &mut bits, w);
-    fill_ones(cs);
-    count_rows(&bits, w, cs);
-    let r = list_rows(at, &bits, w, cs, &mut picked);
-    put_listed(s, &picked[..r], out)
-}
-
-// The same with room for as many as there are without rollbacks.
-fn parents_some(s: &[u8], at: &[usize], cs: &mut [u64], w: usize, out: &mut [u8]) -> Answer
-    requires { Named s.now at.now × (length s.now < 4294967296) × (length at.now ≡ length cs.old) × (length at.now ≤ 64 * w) × (w ≤ 16) }
-    ensures { written result out.new ≡ told_out (ids_bytes (map (λ r. r.id) (parents_first_value waits_for? (map (rec_at_value s.now) at.now)))) out.old }
-{
-    let mut slots = [0u64; 32768];
-    let mut t = [0u64; 1024];
-    let mut v = [0u64; 4096];
-    let mut bits = [0u64; 16384];
-    let mut picked = [0usize; 1024];
-    links(s, at, cs, &mut slots, &mut t, &mut v, &mut bits, w);
-    fill_ones(cs);
-    count_rows(&bits, w, cs);
-    let r = list_rows(at, &bits, w, cs, &mut picked);
-    put_listed(s, &picked[..r], out)
-}
-
-// The same with room for all.
-fn parents_many(s: &[u8], at: &[usize], cs: &mut [u64], w: usize, out: &mut [u8]) -> Answer
-    requires { Named s.now at.now × (length s.now < 4294967296) × (length at.now ≡ length cs.old) × (length at.now ≤ 64 * w) × (w ≤ 32) }
-    ensures { written result out.new ≡ told_out (ids_bytes (map (λ r. r.id) (parents_first_value waits_for? (map (rec_at_value s.now) at.now)))) out.old }
-{
-    let mut slots = [0u64; 8192];
-    let mut t = [0u64; 4096];
-    let mut v = [0u64; 32768];
-    let mut bits = [0u64; 65536];
-    let mut picked = [0usize; 2048];
+    let mut rows = [0u64; SLOTS];
+    let mut slots = Slots::new(&mut rows);
+    let mut words = [0u64; LINKS];
+    let mut v = [0u64; READS];
+    let mut bits = [0u64; BITS];
+    let mut picked = [0usize; ROWS];
+    let mut t = Filter::new(&mut words);
     links(s, at, cs, &mut slots, &mut t, &mut v, &mut bits, w);
     fill_ones(cs);
     count_rows(&bits, w, cs);
@@ -268,94 +210,53 @@ fn parents_many(s: &[u8], at: &[usize], cs: &mut [u64], w: usize, out: &mut [u8]
 
 // With tables as large as the rows ask for. Each function with tables is called at two places that differ in a number, and makes its calls by
 // itself: it is then too large for the compiler to take it in here together with its tables.
-fn parents_sized(s: &[u8], at: &[usize], cs: &mut [u64], out: &mut [u8]) -> Answer
+fn parents_sized(s: &[u8], at: &[usize], cs: &mut [u64], out: &mut [u8]) -> Result<Kind, Refusal>
     requires { Named s.now at.now × (length s.now < 4294967296) × (length at.now ≡ length cs.old) × (length at.now ≤ 2048) }
-    ensures { written result out.new ≡ told_out (ids_bytes (map (λ r. r.id) (parents_first_value waits_for? (map (rec_at_value s.now) at.now)))) out.old }
+    ensures { written (answer_of result) out.new ≡ told_out (ids_bytes (map (λ r. r.id) (parents_first_value waits_for? (map (rec_at_value s.now) at.now)))) out.old }
 {
     let n = at.len();
     if n <= 256 {
-        return parents_few(s, at, cs, 4, out);
+        return parents_within::<2048, 512, 1024, 4096, 512>(s, at, cs, 4, out);
     }
     if n <= 512 {
-        return parents_few(s, at, cs, 8, out);
+        return parents_within::<2048, 512, 1024, 4096, 512>(s, at, cs, 8, out);
     }
     if n <= 768 {
-        return parents_some(s, at, cs, 12, out);
+        return parents_within::<32768, 1024, 4096, 16384, 1024>(s, at, cs, 12, out);
     }
     if n <= 1024 {
-        return parents_some(s, at, cs, 16, out);
+        return parents_within::<32768, 1024, 4096, 16384, 1024>(s, at, cs, 16, out);
     }
     if n <= 1536 {
-        return parents_many(s, at, cs, 24, out);
+        return parents_within::<8192, 4096, 32768, 65536, 2048>(s, at, cs, 24, out);
     }
-    parents_many(s, at, cs, 32, out)
-}
-
-// The rows in order first; then their ranks give room for the counters.
-fn parents_rows(
-    s: &[u8],
-    ranks: &mut [u64],
-    times: &mut [u64],
-    at: &mut [usize],
-    out: &mut [u8],
-) -> Answer
-    requires { Even (length ranks.old) ranks.old times.old at.old × (length ranks.old ≤ 2048) × (length s.now < 4294967296) × Named s.now (map (λ w. w.1.1) (rows ranks.old times.old at.old)) }
-    ensures { written result out.new ≡ told_out (ids_bytes (map (λ r. r.id) (parents_first_value waits_for? (map (rec_of_row s.now) (sort ahead? (rows ranks.old times.old at.old)))))) out.old }
-{
-    order(ranks, times, at);
-    parents_sized(s, at, ranks, out)
-}
-
-fn parents_select(
-    s: &[u8],
-    recs: Records,
-    time: Time,
-    height: Height,
-    ranks: &mut [u64],
-    times: &mut [u64],
-    places: &mut [usize],
-    out: &mut [u8],
-) -> Answer
-    requires { RecordsIn (form_c false rec_c) s.now recs × Even 2048 ranks.old times.old places.old × (length (chosen time.0 height.0 s.now recs) ≤ 2048) × Pairwise Before (chosen time.0 height.0 s.now recs) × All Modest (chosen time.0 height.0 s.now recs) × (length s.now < 4294967296) }
-    ensures { written result out.new ≡ told_out (ids_bytes (map (λ r. r.id) (parents_first_value waits_for? (sort first? (chosen time.0 height.0 s.now recs))))) out.old }
-{
-    let m = gather(s, recs, time, height, ranks, times, places);
-    parents_rows(s, &mut ranks[..m], &mut times[..m], &mut places[..m], out)
+    parents_within::<8192, 4096, 32768, 65536, 2048>(s, at, cs, 32, out)
 }
 
 // In an area that is not longer than a place can say.
-fn parents_in(area: &[u8], time: Time, height: Height, out: &mut [u8]) -> Answer
+fn parents_in(area: &[u8], time: Time, height: Height, out: &mut [u8]) -> Result<Kind, Refusal>
     requires { length area.now < 4294967296 }
-    ensures { written result out.new ≡ parents_first_of area.now time.0 height.0 out.old }
+    ensures { written (answer_of result) out.new ≡ parents_first_of area.now time.0 height.0 out.old }
 {
-    let a = area_at(area);
-    if !a.ok {
-        return Answer::Refused(refusal::AREA_NOT_SOUND);
-    }
-    let o = a.open;
-    let h = o.head;
-    let mut ranks = [0u64; 2048];
-    let mut times = [0u64; 2048];
-    let mut places = [0usize; 2048];
+    let a = Area::read(area)?;
     let recs = Records {
-        start: o.start,
-        count: h.count,
+        start: a.open.start,
+        count: a.open.head.count,
     };
-    parents_select(
-        area,
-        recs,
-        time,
-        height,
-        &mut ranks,
-        &mut times,
-        &mut places,
-        out,
-    )
+    let mut places = [0usize; 2048];
+    let mut counters = [0u64; 2048];
+    let n = select_places(area, recs, time, height, &mut places);
+    parents_sized(area, &places[..n], &mut counters[..n], out)
 }
 
 // The ids of the selection, parents first. Refusals 3, 4. No queue stands in more than the first part of a long area.
-pub fn parents_first(area: &[u8], time: Time, height: Height, out: &mut [u8]) -> Answer
-    ensures { written result out.new ≡ parents_first_of area.now time.0 height.0 out.old }
+pub fn parents_first(
+    area: &[u8],
+    time: Time,
+    height: Height,
+    out: &mut [u8],
+) -> Result<Kind, Refusal>
+    ensures { written (answer_of result) out.new ≡ parents_first_of area.now time.0 height.0 out.old }
 {
     if area.len() < 4294967296 {
         return parents_in(area, time, height, out);

@@ -1,5 +1,6 @@
 // The reading calls that write a count and a piece for each record that passes.
 ghost use Rattle.std.specs.Prelude.{◌≡◌, ◌+◌, ◌<◌, ◌≤◌, true, false, [], length, if◌then◌else◌};
+ghost use Rattle.queue.specs.Refusal.{answer_of};
 ghost use Rattle.queue.specs.layout.FrameCodec.{rec_c};
 ghost use Rattle.queue.specs.layout.FormsCodec.{form_c};
 ghost use Rattle.queue.specs.layout.RecordsAs.{RecordsIn, recs_at};
@@ -9,16 +10,16 @@ ghost use Rattle.queue.specs.Checked.{written};
 ghost use Rattle.queue.specs.paper.Reading.{record_ids_value, guarded_ids_value, due_states, confirmations};
 ghost use Rattle.queue.specs.paper.Calls.{counted, entry_bytes, ids_bytes, placed_bytes, due_bytes, read_of};
 
-use crate::bytes::logic::{both, one_if};
+use crate::Kind;
 use crate::bytes::put::{copy_part, put_be};
-use crate::check::area::area_at;
+use crate::check::area::Area;
 use crate::check::rules;
 use crate::layout::forms::after_in;
-use crate::layout::frame::{Facts, Height, Seen, Time, rec_at};
+use crate::layout::frame::{Facts, Height, Seen, Time, record_at};
 use crate::layout::records::Records;
-use crate::layout::state;
+use crate::layout::state::State;
 use crate::read::entry::{entry_len, put_entry};
-use crate::{Answer, Kind, refusal};
+use crate::refusal::Refusal;
 
 // What to write of which records.
 #[derive(Clone, Copy)]
@@ -43,7 +44,7 @@ fn passes(w: What, f: Facts) -> bool
         What::Ids => true,
         What::Guarded => f.holder,
         What::DueBy(t, h) => rules::is_due(t, h, f),
-        What::Confirmed => both(f.state == state::MINED, f.placed),
+        What::Confirmed => (f.state == State::Mined as u64) & f.mined.is_some(),
         What::Entries => true,
     }
 }
@@ -119,17 +120,15 @@ pub fn measure(s: &[u8], recs: Records, w: What) -> Sizes
     ensures { MeasureAs w (recs_at (form_c false rec_c) s.now recs) recs.count result }
 {
     let mut i = recs.start;
-    let mut left = recs.count;
     let mut count: u64 = 0;
     let mut size: usize = 0;
-    while 0 < left {
-        let x = rec_at(s, i);
+    for _left in (0..recs.count).rev() {
+        let x = record_at(s, i);
         let f = x.facts;
         let p = passes(w, f);
-        count = count + one_if(p);
+        count = count + u64::from(p);
         size = size + size_if(p, piece_len(w, x));
         i = after_in(s, false, i, x.size);
-        left = left - 1;
     }
     Sizes {
         count: count,
@@ -142,25 +141,20 @@ pub fn put_pieces(s: &[u8], recs: Records, w: What, dst: &mut [u8], at: usize) -
     ensures { Put dst.old at (pieces_of w (recs_at (form_c false rec_c) s.now recs)) (length (pieces_of w (recs_at (form_c false rec_c) s.now recs))) result dst.new }
 {
     let mut i = recs.start;
-    let mut left = recs.count;
     let mut o = at;
-    while 0 < left {
-        let x = rec_at(s, i);
+    for _left in (0..recs.count).rev() {
+        let x = record_at(s, i);
         o = add_piece(s, i, x, w, dst, o);
         i = after_in(s, false, i, x.size);
-        left = left - 1;
     }
     o
 }
 
 // Refusals 3 and 4, or the count and the pieces.
-fn told(area: &[u8], w: What, out: &mut [u8]) -> Answer
-    ensures { written result out.new ≡ told_pieces w area.now out.old }
+fn told(area: &[u8], w: What, out: &mut [u8]) -> Result<Kind, Refusal>
+    ensures { written (answer_of result) out.new ≡ told_pieces w area.now out.old }
 {
-    let a = area_at(area);
-    if !a.ok {
-        return Answer::Refused(refusal::AREA_NOT_SOUND);
-    }
+    let a = Area::read(area)?;
     let o = a.open;
     let h = o.head;
     let recs = Records {
@@ -169,43 +163,43 @@ fn told(area: &[u8], w: What, out: &mut [u8]) -> Answer
     };
     let m = measure(area, recs, w);
     if out.len() < 4 + m.size {
-        return Answer::Refused(refusal::OUTPUT_TOO_SHORT);
+        return Err(Refusal::OutputTooShort);
     }
     let p = put_be(out, 0, 4, m.count);
     put_pieces(area, recs, w, out, p);
-    Answer::Done(Kind::Nothing)
+    Ok(Kind::Nothing)
 }
 
-pub fn record_ids(area: &[u8], out: &mut [u8]) -> Answer
-    ensures { written result out.new ≡ read_of (λ q. ids_bytes (record_ids_value q)) area.now out.old }
+pub fn record_ids(area: &[u8], out: &mut [u8]) -> Result<Kind, Refusal>
+    ensures { written (answer_of result) out.new ≡ read_of (λ q. ids_bytes (record_ids_value q)) area.now out.old }
 {
     told(area, What::Ids, out)
 }
 
 // The ids of the holders.
-pub fn guarded_ids(area: &[u8], out: &mut [u8]) -> Answer
-    ensures { written result out.new ≡ read_of (λ q. ids_bytes (guarded_ids_value q)) area.now out.old }
+pub fn guarded_ids(area: &[u8], out: &mut [u8]) -> Result<Kind, Refusal>
+    ensures { written (answer_of result) out.new ≡ read_of (λ q. ids_bytes (guarded_ids_value q)) area.now out.old }
 {
     told(area, What::Guarded, out)
 }
 
 // Id and state of each pending record that expiry would finish.
-pub fn due(area: &[u8], time: Time, height: Height, out: &mut [u8]) -> Answer
-    ensures { written result out.new ≡ read_of (λ q. counted due_bytes (due_states time.0 height.0 q)) area.now out.old }
+pub fn due(area: &[u8], time: Time, height: Height, out: &mut [u8]) -> Result<Kind, Refusal>
+    ensures { written (answer_of result) out.new ≡ read_of (λ q. counted due_bytes (due_states time.0 height.0 q)) area.now out.old }
 {
     told(area, What::DueBy(time, height), out)
 }
 
 // Id, mined height and block id of each Mined record.
-pub fn confirmations(area: &[u8], out: &mut [u8]) -> Answer
-    ensures { written result out.new ≡ read_of (λ q. counted placed_bytes (confirmations q)) area.now out.old }
+pub fn confirmations(area: &[u8], out: &mut [u8]) -> Result<Kind, Refusal>
+    ensures { written (answer_of result) out.new ≡ read_of (λ q. counted placed_bytes (confirmations q)) area.now out.old }
 {
     told(area, What::Confirmed, out)
 }
 
 // The entry of each record.
-pub fn list(area: &[u8], out: &mut [u8]) -> Answer
-    ensures { written result out.new ≡ read_of (λ q. counted entry_bytes q.recs) area.now out.old }
+pub fn list(area: &[u8], out: &mut [u8]) -> Result<Kind, Refusal>
+    ensures { written (answer_of result) out.new ≡ read_of (λ q. counted entry_bytes q.recs) area.now out.old }
 {
     told(area, What::Entries, out)
 }

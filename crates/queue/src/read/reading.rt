@@ -1,195 +1,129 @@
 // Reading calls: what each answers of the queue in a lent area.
-ghost use Rattle.std.specs.Prelude.{◌≡◌};
-ghost use Rattle.queue.specs.read.ReadingAs.{LookAs, SignedAs, part_in};
+ghost use Rattle.std.specs.Prelude.{◌≡◌, ℕ, MatchResult};
+ghost use Rattle.queue.specs.read.ReadingAs.{LookedUp, LookRefused, SignedAt, SignedRefused, part_in};
+ghost use Rattle.queue.specs.Refusal.{answer_of, number_told, test_told};
 ghost use Rattle.queue.specs.paper.Lists.{one, is_empty?};
 ghost use Rattle.queue.specs.Checked.{written};
 ghost use Rattle.queue.specs.paper.Reading.{deadline_due?};
 ghost use Rattle.queue.specs.paper.Calls.{cursor_bytes, entry_of, signed_bytes_of, read_of, number_of};
 
-use crate::bytes::logic::one_if;
+use crate::Kind;
 use crate::bytes::put::copy_part;
-use crate::bytes::view::id_at;
-use crate::check::area::area_at;
+use crate::bytes::view::View;
+use crate::check::area::Area;
 use crate::check::rules::Query;
 use crate::check::scan::tally;
-use crate::layout::frame::{Height, Time, rec_at};
+use crate::layout::frame::{Height, Time, record_at};
 use crate::layout::records::Records;
 use crate::read::entry::{entry_len, put_entry};
 use crate::read::find::find_id;
-use crate::{Answer, Kind, refusal};
+use crate::refusal::Refusal;
 
-// A record looked up: the refusal's number, or 0 and where the record stands.
-#[derive(Clone, Copy)]
-pub struct Looked {
-    pub refusal: u64,
-    pub at: usize,
-}
-
-// Refusals 3, 5 and 13.
-pub fn look(area: &[u8], id: &[u8]) -> Looked
-    ensures { LookAs area.now id.now result }
+/// Where the record with this id stands. Refusals 3, 5 and 13.
+pub fn look(area: &[u8], id: &[u8]) -> Result<usize, Refusal>
+    ensures { MatchResult result (LookedUp area.now id.now) (LookRefused area.now id.now) }
 {
-    let a = area_at(area);
-    if !a.ok {
-        return Looked { refusal: 3, at: 0 };
-    }
+    let a = Area::read(area)?;
     if id.len() != 32 {
-        return Looked { refusal: 5, at: 0 };
+        return Err(Refusal::Malformed);
     }
-    let k = id_at(id, false, 0, 0);
-    let o = a.open;
-    let h = o.head;
+    let k = View::new(id, false, 0).id(0);
     let recs = Records {
-        start: o.start,
-        count: h.count,
+        start: a.open.start,
+        count: a.open.head.count,
     };
-    let f = find_id(area, recs, k);
-    if !f.found {
-        return Looked { refusal: 13, at: 0 };
-    }
-    Looked {
-        refusal: 0,
-        at: f.at,
-    }
+    find_id(area, recs, k).ok_or(Refusal::NotFound)
 }
 
-// Where signed bytes stand: start and len are 0 with a refusal.
+/// Where signed bytes stand.
 #[derive(Clone, Copy)]
 pub struct Place {
-    pub answer: Answer,
     pub start: usize,
     pub len: usize,
 }
 
-pub fn signed_place(area: &[u8], id: &[u8]) -> Place
-    ensures { SignedAs area.now id.now result }
+/// The place of a record's signed bytes. Refusals 3, 5 and 13.
+pub fn signed_place(area: &[u8], id: &[u8]) -> Result<Place, Refusal>
+    ensures { MatchResult result (SignedAt area.now id.now) (SignedRefused area.now id.now) }
 {
-    let l = look(area, id);
-    if l.refusal != 0 {
-        return Place {
-            answer: Answer::Refused(l.refusal),
-            start: 0,
-            len: 0,
-        };
-    }
-    let at = l.at;
-    let x = rec_at(area, at);
+    let at = look(area, id)?;
+    let x = record_at(area, at);
     let f = x.facts;
     if !f.holder {
-        return Place {
-            answer: Answer::Refused(refusal::NOT_FOUND),
-            start: 0,
-            len: 0,
-        };
+        return Err(Refusal::NotFound);
     }
-    Place {
-        answer: Answer::Done(Kind::Nothing),
+    Ok(Place {
         start: at + (x.size - f.bytes as usize),
         len: f.bytes as usize,
-    }
+    })
 }
 
-// The part of the area that holds a record's signed bytes; empty with a refusal.
+/// The part of the area that holds a record's signed bytes; empty with a refusal.
 pub fn signed_bytes<'a>(area: &'a [u8], id: &[u8]) -> &'a [u8]
     ensures { result.now ≡ part_in area.now (signed_bytes_of area.now id.now (0, 0)).1 }
 {
-    let p = signed_place(area, id);
-    let a = p.start;
-    let e = a + p.len;
-    &area[a..e]
+    match signed_place(area, id) {
+        Ok(p) => &area[p.start..p.start + p.len],
+        Err(_) => &area[0..0],
+    }
 }
 
-pub fn entry(area: &[u8], id: &[u8], out: &mut [u8]) -> Answer
-    ensures { written result out.new ≡ entry_of area.now id.now out.old }
+/// The entry of the record with this id, in out. Refusals 3, 5, 13 and 4.
+pub fn entry(area: &[u8], id: &[u8], out: &mut [u8]) -> Result<Kind, Refusal>
+    ensures { written (answer_of result) out.new ≡ entry_of area.now id.now out.old }
 {
-    let l = look(area, id);
-    if l.refusal != 0 {
-        return Answer::Refused(l.refusal);
-    }
-    let at = l.at;
-    let x = rec_at(area, at);
+    let at = look(area, id)?;
+    let x = record_at(area, at);
     let n = entry_len(x);
     if out.len() < n {
-        return Answer::Refused(refusal::OUTPUT_TOO_SHORT);
+        return Err(Refusal::OutputTooShort);
     }
     put_entry(area, at, x, out, 0);
-    Answer::Done(Kind::Nothing)
+    Ok(Kind::Nothing)
 }
 
-pub fn revision(area: &[u8], value: &mut u64) -> Answer
-    ensures { (result, value.new) ≡ number_of (λ q. q.revision) area.now value.old }
+/// The revision. Refusal 3.
+pub fn revision(area: &[u8]) -> Result<u64, Refusal>
+    ensures { (old : ℕ) → number_told result old ≡ number_of (λ q. q.revision) area.now old }
 {
-    let a = area_at(area);
-    if !a.ok {
-        return Answer::Refused(refusal::AREA_NOT_SOUND);
-    }
-    let o = a.open;
-    let h = o.head;
-    *value = h.revision;
-    Answer::Done(Kind::Nothing)
+    Ok(Area::read(area)?.open.head.revision)
 }
 
-pub fn observed_height(area: &[u8], value: &mut u64) -> Answer
-    ensures { (result, value.new) ≡ number_of (λ q. q.cursor) area.now value.old }
+/// The height that was last observed. Refusal 3.
+pub fn observed_height(area: &[u8]) -> Result<u64, Refusal>
+    ensures { (old : ℕ) → number_told result old ≡ number_of (λ q. q.cursor) area.now old }
 {
-    let a = area_at(area);
-    if !a.ok {
-        return Answer::Refused(refusal::AREA_NOT_SOUND);
-    }
-    let o = a.open;
-    let h = o.head;
-    let c = h.cursor;
-    *value = c.0;
-    Answer::Done(Kind::Nothing)
+    Ok(Area::read(area)?.open.head.cursor.0)
 }
 
-// 1 without records, else 0.
-pub fn is_empty(area: &[u8], value: &mut u64) -> Answer
-    ensures { (result, value.new) ≡ number_of (λ q. one (is_empty? q.recs)) area.now value.old }
+/// Are there no records? Refusal 3.
+pub fn is_empty(area: &[u8]) -> Result<bool, Refusal>
+    ensures { (old : ℕ) → test_told result old ≡ number_of (λ q. one (is_empty? q.recs)) area.now old }
 {
-    let a = area_at(area);
-    if !a.ok {
-        return Answer::Refused(refusal::AREA_NOT_SOUND);
-    }
-    let o = a.open;
-    let h = o.head;
-    *value = one_if(h.count == 0);
-    Answer::Done(Kind::Nothing)
+    Ok(Area::read(area)?.open.head.count == 0)
 }
 
-// 1 if a pending record's deadline is due, else 0.
-pub fn deadline_due(area: &[u8], time: Time, height: Height, value: &mut u64) -> Answer
-    ensures { (result, value.new) ≡ number_of (λ q. one (deadline_due? time.0 height.0 q)) area.now value.old }
+/// Is a pending record's deadline due? Refusal 3.
+pub fn deadline_due(area: &[u8], time: Time, height: Height) -> Result<bool, Refusal>
+    ensures { (old : ℕ) → test_told result old ≡ number_of (λ q. one (deadline_due? time.0 height.0 q)) area.now old }
 {
-    let a = area_at(area);
-    if !a.ok {
-        return Answer::Refused(refusal::AREA_NOT_SOUND);
-    }
-    let o = a.open;
-    let h = o.head;
+    let a = Area::read(area)?;
     let recs = Records {
-        start: o.start,
-        count: h.count,
+        start: a.open.start,
+        count: a.open.head.count,
     };
-    let n = tally(area, recs, Query::Due(time, height));
-    *value = one_if(0 < n);
-    Answer::Done(Kind::Nothing)
+    Ok(0 < tally(area, recs, Query::Due(time, height)))
 }
 
-// The cursor's height, tip flag and tip, as they stand in the header.
-pub fn observation_cursor(area: &[u8], out: &mut [u8]) -> Answer
-    ensures { written result out.new ≡ read_of cursor_bytes area.now out.old }
+/// The cursor's height, tip flag and tip, as they stand in the header. Refusals 3 and 4.
+pub fn observation_cursor(area: &[u8], out: &mut [u8]) -> Result<Kind, Refusal>
+    ensures { written (answer_of result) out.new ≡ read_of cursor_bytes area.now out.old }
 {
-    let a = area_at(area);
-    if !a.ok {
-        return Answer::Refused(refusal::AREA_NOT_SOUND);
-    }
-    let o = a.open;
-    let h = o.head;
+    let h = Area::read(area)?.open.head;
     let n = h.after - h.marks;
     if out.len() < n {
-        return Answer::Refused(refusal::OUTPUT_TOO_SHORT);
+        return Err(Refusal::OutputTooShort);
     }
     copy_part(area, 4 + h.marks, n, out, 0);
-    Answer::Done(Kind::Nothing)
+    Ok(Kind::Nothing)
 }

@@ -4,7 +4,4 @@ use Rattle.queue.specs.paper.Kinds.{newest}
 use Rattle.image.proofs.frames.put_lines.Given as goal
 
 abbrev pub invariant-loop-left : goal.invariant-loop-left
-invariant-loop-left l = Turning area_form (rec_in_value (text_form newest)) l.s l.initial.left l.initial.i l.initial.dst l.to l.i l.left l.dst l.o
-
-abbrev pub decreases-loop-left : goal.decreases-loop-left
-decreases-loop-left l = l.left
+invariant-loop-left l = Turning area_form (rec_in_value (text_form newest)) l.s l.initial._left l.initial.i l.initial.dst l.to l.i l._left l.dst l.o

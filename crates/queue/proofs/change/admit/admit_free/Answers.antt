@@ -13,10 +13,10 @@ pub tip_for-t-requires : goal.tip_for-t-requires
 tip_for-t-requires c = (head_in_law c.requires.0.0.read, tip_32 c.requires.0.0 c.requires.1)
 
 pub put_with-requires : goal.put_with-requires
-put_with-requires c = ((with_from c.requires.0.0 c.requires.1 c.requires.2 c.tip_for-t.result c.tip_for-t.ensures.0, c.tip_for-t.ensures.1), c.requires.0.1, (terms_fit c.requires.0.0 c.requires.1 c.requires.2, held_fit c.requires.0.0 c.requires.1 c.requires.2), c.requires.3)
+put_with-requires c = (with_from c.requires.0.0 c.requires.1 c.requires.2 c.tip_for-t.result c.tip_for-t.ensures, c.requires.0.1, (terms_fit c.requires.0.0 c.requires.1 c.requires.2, held_fit c.requires.0.0 c.requires.1 c.requires.2), c.requires.3)
 
 pub put_told-requires : goal.put_told-requires
 put_told-requires c = (terms_fit c.requires.0.0 c.requires.1 c.requires.2, held_fit c.requires.0.0 c.requires.1 c.requires.2, omega (arith, c.entry_new_len-n.ensures, c.if-out-n.false))
 
 pub returns : goal.returns
-returns c = new_102 c.requires.0.0 c.requires.1 c.requires.2 c.tip_for-t.result c.tip_for-t.ensures.0 _ _ (omega (arith, c.entry_new_len-n.ensures, c.if-out-n.false)) c.put_with.ensures c.put_told.ensures
+returns c = new_102 c.requires.0.0 c.requires.1 c.requires.2 c.tip_for-t.result c.tip_for-t.ensures _ _ (omega (arith, c.entry_new_len-n.ensures, c.if-out-n.false)) c.put_with.ensures c.put_told.ensures

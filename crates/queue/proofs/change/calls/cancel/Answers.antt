@@ -1,29 +1,31 @@
-use Rattle.queue.proofs.bytes.ViewLaws.{view_long}
-use Rattle.queue.proofs.change.CallsCancelLaws.{cancel_13, cancel_2, cancel_3, cancel_5, cancel_rest, find_asks, found_in}
+use Rattle.std.specs.Prelude.{false, refl}
+use Rattle.queue.specs.bytes.ViewAs.{view_raw}
+use Rattle.queue.proofs.RefusalLaws.{unsound}
+use Rattle.queue.proofs.check.AreaLaws.{recs_stand}
+use Rattle.queue.proofs.change.CallsCancelLaws.{cancel_13, cancel_2, cancel_3, cancel_5, cancel_rest, found_in}
 use Rattle.std.proofs.Common.{arith}
-use Rattle.std.proofs.lemmas.Bool.{not-false, not-true}
 use Rattle.queue.proofs.change.calls.cancel.Goals as goal
 
-pub returns-then-not-a : goal.returns-then-not-a
-returns-then-not-a c = cancel_3 _ _ _ _ (c.area_at-a.ensures.bad (not-true _ c.if-not-a.true))
+pub returns-in_err-a : goal.returns-in_err-a
+returns-in_err-a c = rw (unsound _ c.from_residual.ensures.1 c.in_err-a.ensures) (cancel_3 _ _ _ _ c.in_err-a.ensures.is)
 
 pub returns-then-next-a : goal.returns-then-next-a
-returns-then-next-a c = cancel_2 _ _ _ _ c.area_at-a.ensures (not-false _ c.if-not-a.false) c.if-next-a.true
+returns-then-next-a c = cancel_2 _ _ _ _ c.in_ok-a.ensures c.if-next-a.true
 
 pub returns-then-id-ne32 : goal.returns-then-id-ne32
-returns-then-id-ne32 c = cancel_5 _ _ _ _ c.area_at-a.ensures (not-false _ c.if-not-a.false) c.if-next-a.false c.if-id-ne32.true
+returns-then-id-ne32 c = cancel_5 _ _ _ _ c.in_ok-a.ensures c.if-next-a.false c.if-id-ne32.true
 
-pub id_at-k-requires : goal.id_at-k-requires
-id_at-k-requires c = omega (arith, view_long c.args.id.now, c.if-id-ne32.false)
+pub id-k-requires : goal.id-k-requires
+id-k-requires c = rw c.new.ensures (omega (arith, view_raw {hex = false} c.args.id.now 0 refl, c.if-id-ne32.false))
 
-pub find_id-f-requires : goal.find_id-f-requires
-find_id-f-requires c = find_asks _ c.args.next.now c.args.out.now c.args.id.now c.area_at-a.ensures (not-false _ c.if-not-a.false) c.if-next-a.false
+pub find_id-requires : goal.find_id-requires
+find_id-requires c = recs_stand c.in_ok-a.ensures.read.store
 
-pub returns-then-not-f : goal.returns-then-not-f
-returns-then-not-f c = cancel_13 _ _ _ _ c.area_at-a.ensures (not-false _ c.if-not-a.false) c.if-next-a.false c.if-id-ne32.false c.id_at-k.ensures c.find_id-f.ensures.0 (not-true _ c.if-not-f.true)
+pub returns-in_default : goal.returns-in_default
+returns-in_default c = cancel_13 _ _ _ _ c.in_ok-a.ensures c.if-next-a.false c.if-id-ne32.false (rw c.new.ensures at c.id-k.ensures.is) c.in_default.ensures
 
 pub cancel_found-requires : goal.cancel_found-requires
-cancel_found-requires c = (found_in _ c.args.next.now c.args.out.now _ c.area_at-a.ensures (not-false _ c.if-not-a.false) c.if-next-a.false c.if-id-ne32.false c.id_at-k.ensures c.find_id-f.ensures.0 (not-false _ c.if-not-f.false), c.if-next-a.false)
+cancel_found-requires c = (found_in c.in_ok-a.ensures c.in-Some.ensures, c.if-next-a.false)
 
 pub returns : goal.returns
-returns c = cancel_rest _ _ _ _ c.area_at-a.ensures (not-false _ c.if-not-a.false) c.if-next-a.false c.if-id-ne32.false c.id_at-k.ensures c.find_id-f.ensures.0 c.cancel_found.ensures
+returns c = cancel_rest _ _ _ _ c.in_ok-a.ensures c.if-next-a.false c.if-id-ne32.false (rw c.new.ensures at c.id-k.ensures.is) c.cancel_found.ensures

@@ -1,31 +1,32 @@
-use Rattle.queue.proofs.change.CallsLaws.{be_four, four_in, settle_100, settle_17, settle_17', settle_2, settle_3, settle_3', settle_5}
+use Rattle.queue.proofs.RefusalLaws.{unsound}
+use Rattle.queue.proofs.change.CallsLaws.{be_four, four_in, is_failed, not_failed, settle_100, settle_17, settle_17', settle_2, settle_3, settle_3', settle_5}
+use Rattle.std.specs.Prelude.{refl}
 use Rattle.std.proofs.Common.{arith}
-use Rattle.std.proofs.lemmas.Bool.{not-false, not-true}
 use Rattle.queue.proofs.change.calls.settle.Goals as goal
 
-pub returns-then-not-a : goal.returns-then-not-a
-returns-then-not-a c = settle_3 _ _ _ _ (c.area_at-a.ensures.bad (not-true _ c.if-not-a.true))
+pub returns-in_err-a : goal.returns-in_err-a
+returns-in_err-a c = rw (unsound _ c.from_residual.ensures.1 c.in_err-a.ensures) (settle_3 _ _ _ _ c.in_err-a.ensures.is)
 
-pub returns-then-next-n : goal.returns-then-next-n
-returns-then-next-n c = let g = c.area_at-a.ensures.good (not-false _ c.if-not-a.false) in settle_2 _ g.1 _ _ _ c.both.ensures c.if-both.true (omega (arith, g.2.need, c.if-next-n.true))
+pub returns-then-next-a : goal.returns-then-next-a
+returns-then-next-a c = let w = c.in_ok-a.ensures in settle_2 _ w.is _ _ _ refl (is_failed c.if-kind-eq2.true c.if-outcome-eq1.true) (omega (arith, w.read.need, c.if-next-a.true))
 
 pub copy_part-requires : goal.copy_part-requires
-copy_part-requires c = let g = c.area_at-a.ensures.good (not-false _ c.if-not-a.false) in (omega (arith, g.2.long), omega (arith, c.if-next-n.false))
+copy_part-requires c = record { read = omega (arith, c.in_ok-a.ensures.read.long); written = omega (arith, c.if-next-a.false) }
 
-pub returns-then-both : goal.returns-then-both
-returns-then-both c = let g = c.area_at-a.ensures.good (not-false _ c.if-not-a.false) in settle_17 _ g.1 _ _ _ c.both.ensures c.if-both.true g.2.need c.if-next-n.false c.copy_part.ensures
+pub returns-then-outcome-eq1 : goal.returns-then-outcome-eq1
+returns-then-outcome-eq1 c = let w = c.in_ok-a.ensures in settle_17 _ w.is _ _ _ refl (is_failed c.if-kind-eq2.true c.if-outcome-eq1.true) w.read.need c.if-next-a.false c.copy_part.ensures
 
-pub returns-then-not-b : goal.returns-then-not-b
-returns-then-not-b c = let g = c.area_at-a.ensures.good (not-false _ c.if-not-a.false) in settle_3' _ g.1 _ _ _ c.both.ensures c.if-both.false (c.area_at-b.ensures.bad (not-true _ c.if-not-b.true))
+pub returns-in_err-read : goal.returns-in_err-read
+returns-in_err-read c = let w = c.in_ok-a.ensures in rw (unsound _ c.from_residual-in_err-read.ensures.1 c.in_err-read.ensures) (settle_3' _ w.is _ _ _ refl (not_failed c.else-kind-eq2.either) c.in_err-read.ensures.is)
 
 pub returns-then-not-settle_shape : goal.returns-then-not-settle_shape
-returns-then-not-settle_shape c = let g = c.area_at-a.ensures.good (not-false _ c.if-not-a.false) in let h = c.area_at-b.ensures.good (not-false _ c.if-not-b.false) in settle_5 _ g.1 _ _ _ c.both.ensures c.if-both.false h.1 c.settle_shape.ensures c.if-not-settle_shape.true
+returns-then-not-settle_shape c = let w = c.in_ok-a.ensures in let x = c.in_ok-read.ensures in settle_5 _ w.is _ _ _ refl (not_failed c.else-kind-eq2.either) x.is c.settle_shape.ensures c.if-not-settle_shape.true
 
 pub returns-then-outcome-eq0 : goal.returns-then-outcome-eq0
-returns-then-outcome-eq0 c = let g = c.area_at-a.ensures.good (not-false _ c.if-not-a.false) in let h = c.area_at-b.ensures.good (not-false _ c.if-not-b.false) in settle_100 _ g.1 _ _ _ c.both.ensures c.if-both.false h.1 c.settle_shape.ensures c.if-not-settle_shape.false c.if-outcome-eq0.true
+returns-then-outcome-eq0 c = let w = c.in_ok-a.ensures in let x = c.in_ok-read.ensures in settle_100 _ w.is _ _ _ refl (not_failed c.else-kind-eq2.either) x.is c.settle_shape.ensures c.if-not-settle_shape.false c.if-outcome-eq0.true
 
 pub put_be-requires : goal.put_be-requires
-put_be-requires c = let h = c.area_at-b.ensures.good (not-false _ c.if-not-b.false) in four_in h.2
+put_be-requires c = four_in c.in_ok-read.ensures.read
 
 pub returns : goal.returns
-returns c = let g = c.area_at-a.ensures.good (not-false _ c.if-not-a.false) in let h = c.area_at-b.ensures.good (not-false _ c.if-not-b.false) in settle_17' _ g.1 _ _ _ c.both.ensures c.if-both.false h.1 c.settle_shape.ensures c.if-not-settle_shape.false c.if-outcome-eq0.false (be_four g.2 c.put_be.ensures)
+returns c = let w = c.in_ok-a.ensures in let x = c.in_ok-read.ensures in settle_17' _ w.is _ _ _ refl (not_failed c.else-kind-eq2.either) x.is c.settle_shape.ensures c.if-not-settle_shape.false c.if-outcome-eq0.false (be_four w.read c.put_be.ensures)

@@ -1,5 +1,5 @@
-use Rattle.std.proofs.Common.{◌∙◌}
+use Rattle.std.specs.Prelude.{refl}
 use Rattle.queue.proofs.change.calls.settle_shape.Goals as goal
 
 pub returns : goal.returns
-returns c = c.both.ensures ∙ simp c.either.ensures
+returns c = refl

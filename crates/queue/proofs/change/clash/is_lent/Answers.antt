@@ -8,7 +8,7 @@ pub returns-then-ordered : goal.returns-then-ordered
 returns-then-ordered c = c.has_row.ensures ∙ c.requires.1.has c.args.id
 
 pub has_id-requires : goal.has_id-requires
-has_id-requires c = (omega arith, c.requires.0)
+has_id-requires c = rw c.new.ensures (omega arith, c.requires.0)
 
 pub returns : goal.returns
-returns c = c.has_id.ensures
+returns c = rw c.new.ensures at c.has_id.ensures

@@ -7,7 +7,4 @@ use Rattle.queue.specs.paper.Records.{Id}
 use Rattle.queue.proofs.change.clash.place_rows.Given as goal
 
 abbrev pub invariant-loop-left : goal.invariant-loop-left
-invariant-loop-left l = ((z : Id) → Scan id_c (rows_f l.ids z) (view false l.ids 0) l.m 0 [] l.i l.left (take l.k l.v)) × (l.k + l.left ≡ l.m) × (length l.v ≡ length l.initial.v)
-
-abbrev pub decreases-loop-left : goal.decreases-loop-left
-decreases-loop-left l = l.left
+invariant-loop-left l = ((z : Id) → Scan id_c (rows_f l.ids z) (view false l.ids 0) l.m 0 [] l.i l._left (take l.k l.v)) × (l.k + l._left ≡ l.m) × (length l.v ≡ length l.initial.v)

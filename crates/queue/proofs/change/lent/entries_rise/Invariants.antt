@@ -2,7 +2,4 @@ use Rattle.queue.proofs.change.LentLaws.{Rising}
 use Rattle.queue.proofs.change.lent.entries_rise.Given as goal
 
 abbrev pub invariant-loop-left : goal.invariant-loop-left
-invariant-loop-left l = Rising l.t l.k l.i l.left
-
-abbrev pub decreases-loop-left : goal.decreases-loop-left
-decreases-loop-left l = l.left
+invariant-loop-left l = Rising l.t l.k l.i l._left

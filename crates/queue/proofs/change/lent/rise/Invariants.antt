@@ -6,7 +6,4 @@ use Rattle.std.specs.Prelude.{false}
 use Rattle.queue.proofs.change.lent.rise.Given as goal
 
 abbrev pub invariant-loop-left : goal.invariant-loop-left
-invariant-loop-left l = Scan id_c chain_i? (view false l.ids 0) l.initial.left l.initial.i l.initial.prev l.i l.left l.prev
-
-abbrev pub decreases-loop-left : goal.decreases-loop-left
-decreases-loop-left l = l.left
+invariant-loop-left l = Scan id_c chain_i? (view false l.ids 0) l.initial._left l.initial.i l.initial.prev l.i l._left l.prev

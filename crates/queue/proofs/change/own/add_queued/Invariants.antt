@@ -7,7 +7,4 @@ use Rattle.queue.specs.layout.RecordsAs.{recs_at}
 use Rattle.queue.proofs.change.own.add_queued.Given as goal
 
 abbrev pub invariant-loop-left : goal.invariant-loop-left
-invariant-loop-left l = Queuing l.s (wanted_of (recs_at (form_c false rec_c) l.s l.recs)) l.t l.initial.left l.initial.i (bits_in l.initial.flags) (bits_in l.flags) (take l.k l.v) l.i l.left × (l.k ≤ length l.v) × (length l.v ≡ length l.initial.v) × (length l.flags ≡ length l.initial.flags)
-
-abbrev pub decreases-loop-left : goal.decreases-loop-left
-decreases-loop-left l = l.left
+invariant-loop-left l = Queuing l.s (wanted_of (recs_at (form_c false rec_c) l.s l.recs)) l.t l.initial._left l.initial.i (bits_in l.initial.flags) (bits_in l.flags) (take l.k l.v) l.i l._left × (l.k ≤ length l.v) × (length l.v ≡ length l.initial.v) × (length l.flags ≡ length l.initial.flags)

@@ -8,7 +8,4 @@ use Rattle.queue.specs.layout.RecordsAs.{recs_at}
 use Rattle.queue.proofs.change.own.add_rows.Given as goal
 
 abbrev pub invariant-loop-left : goal.invariant-loop-left
-invariant-loop-left l = Adding l.s (wanted_of (recs_at (form_c false rec_c) l.s l.recs)) l.t (view false l.s l.base) l.c l.outs (bits_in l.initial.flags) (take l.k l.initial.v) (bits_in l.flags) (take l.h l.v) l.i l.left × (l.h ≤ length l.v) × (length l.v ≡ length l.initial.v) × (length l.flags ≡ length l.initial.flags)
-
-abbrev pub decreases-loop-left : goal.decreases-loop-left
-decreases-loop-left l = l.left
+invariant-loop-left l = Adding l.s (wanted_of (recs_at (form_c false rec_c) l.s l.recs)) l.t (view false l.s l.base) l.c l.outs (bits_in l.initial.flags) (take l.k l.initial.v) (bits_in l.flags) (take l.h l.v) l.i l._left × (l.h ≤ length l.v) × (length l.v ≡ length l.initial.v) × (length l.flags ≡ length l.initial.flags)

@@ -6,7 +6,4 @@ use Rattle.queue.specs.layout.FrameCodec.{rec_c}
 use Rattle.queue.proofs.change.own.count_wanted.Given as goal
 
 abbrev pub invariant-loop-left : goal.invariant-loop-left
-invariant-loop-left l = Scan (form_c false rec_c) wanted_from l.s l.initial.left l.initial.i 0 l.i l.left l.total × (l.total + l.left * 131070 ≤ l.initial.left * 131070)
-
-abbrev pub decreases-loop-left : goal.decreases-loop-left
-decreases-loop-left l = l.left
+invariant-loop-left l = Scan (form_c false rec_c) wanted_from l.s l.initial._left l.initial.i 0 l.i l._left l.total × (l.total + l._left * 131070 ≤ l.initial._left * 131070)

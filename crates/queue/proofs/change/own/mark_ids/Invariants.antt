@@ -9,7 +9,4 @@ use Rattle.queue.specs.paper.Lists.{any?}
 use Rattle.queue.proofs.change.own.mark_ids.Given as goal
 
 abbrev pub invariant-loop-left : goal.invariant-loop-left
-invariant-loop-left l = Scan id_c (mark_f (λ z. any? (later false l.s z 0) l.v)) (view false l.s l.base) l.c l.at (bits_in l.initial.flags, l.from) l.i l.left (bits_in l.flags, l.g) × (length l.flags ≡ length l.initial.flags) × (l.g + l.left ≡ l.from + l.c)
-
-abbrev pub decreases-loop-left : goal.decreases-loop-left
-decreases-loop-left l = l.left
+invariant-loop-left l = Scan id_c (mark_f (λ z. any? (later false l.s z 0) l.v)) (view false l.s l.base) l.c l.at (bits_in l.initial.flags, l.from) l.i l._left (bits_in l.flags, l.g) × (length l.flags ≡ length l.initial.flags) × (l.g + l._left ≡ l.from + l.c)

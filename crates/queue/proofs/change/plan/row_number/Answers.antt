@@ -1,5 +1,5 @@
 use Rattle.queue.proofs.change.PlanLaws.{row_packs}
-use Rattle.std.specs.Prelude.{refl}
+use Rattle.queue.specs.change.PlanAs.{row_numbers}
 use Rattle.std.proofs.Common.{arith}
 use Rattle.queue.proofs.change.plan.row_number.Goals as goal
 
@@ -19,7 +19,7 @@ pub overflow_mul-result-3 : goal.overflow_mul-result-3
 overflow_mul-result-3 c = omega (arith, c.requires.place, c.requires.index, c.requires.rank, c.requires.what)
 
 pub overflow_add-result-3 : goal.overflow_add-result-3
-overflow_add-result-3 c = omega (arith, c.requires.place, c.requires.index, c.requires.rank, c.requires.what)
+overflow_add-result-3 c = omega (arith, c.requires.place, c.requires.index, c.requires.rank, c.requires.what, c.from.ensures)
 
 pub returns : goal.returns
-returns c = row_packs c.args.x c.requires refl
+returns c = row_packs (row_numbers c.args.x) c.requires (omega (arith, c.from.ensures))

@@ -12,4 +12,4 @@ pub rank_rows-requires : goal.rank_rows-requires
 rank_rows-requires c = (c.requires.0, c.requires.1, omega (arith, c.if-s-ge4294967296.false), c.if-rows-gone.false)
 
 pub returns : goal.returns
-returns c = λ e. record { first = _; are = c.rank_rows.ensures; kept = c.order_rows.ensures; order = c.in_order.ensures e; small = omega (arith, c.if-s-ge4294967296.false) }
+returns c = λ e. record { first = _; are = c.rank_rows.ensures; kept = c.order_rows.ensures.same; order = c.in_order.ensures e; small = omega (arith, c.if-s-ge4294967296.false) }

@@ -20,9 +20,9 @@ bisect-b-requires c = (c.requires.1 c.if-not-ordered.false).order
 pub returns-then-rows-b : goal.returns-then-rows-b
 returns-then-rows-b c = (rank_none c.args.s.now c.args.gone.now c.args.rows.now (c.requires.1 c.if-not-ordered.false) c.row_at-y.result c.args.id c.bisect-b.ensures (c.row_at-y.ensures.0 ∙ id_in_law _ _ ∙ c.requires.3) c.row_at-y.ensures.1 c.if-rows-b.true, omega arith)
 
-pub returns-then-cmp_rows-ne1 : goal.returns-then-cmp_rows-ne1
-returns-then-cmp_rows-ne1 c = (rank_other c.args.s.now c.args.gone.now c.args.rows.now (c.requires.1 c.if-not-ordered.false) c.row_at-y.result c.args.id c.bisect-b.ensures (c.row_at-y.ensures.0 ∙ id_in_law _ _ ∙ c.requires.3) c.row_at-y.ensures.1 (omega (arith, c.if-rows-b.false)) c.cmp_rows.ensures c.if-cmp_rows-ne1.true, omega arith)
+pub returns-then-not-is_eq : goal.returns-then-not-is_eq
+returns-then-not-is_eq c = (rank_other c.args.s.now c.args.gone.now c.args.rows.now (c.requires.1 c.if-not-ordered.false) c.row_at-y.result c.args.id c.bisect-b.ensures (c.row_at-y.ensures.0 ∙ id_in_law _ _ ∙ c.requires.3) c.row_at-y.ensures.1 (omega (arith, c.if-rows-b.false)) c.cmp_rows.result c.is_eq.ensures c.cmp_rows.ensures c.if-not-is_eq.true, omega arith)
 
 pub returns : goal.returns
 unfolding no_r
-returns c = let e = rank_here c.args.s.now c.args.gone.now c.args.rows.now (c.requires.1 c.if-not-ordered.false) c.row_at-y.result c.args.id c.bisect-b.ensures (c.row_at-y.ensures.0 ∙ id_in_law _ _ ∙ c.requires.3) c.row_at-y.ensures.1 (omega (arith, c.if-rows-b.false)) c.cmp_rows.ensures c.if-cmp_rows-ne1.false in (e, rank_few c.args.s.now c.args.gone.now c.args.id e)
+returns c = let e = rank_here c.args.s.now c.args.gone.now c.args.rows.now (c.requires.1 c.if-not-ordered.false) c.row_at-y.result c.args.id c.bisect-b.ensures (c.row_at-y.ensures.0 ∙ id_in_law _ _ ∙ c.requires.3) c.row_at-y.ensures.1 (omega (arith, c.if-rows-b.false)) c.cmp_rows.result c.is_eq.ensures c.cmp_rows.ensures c.if-not-is_eq.false in (e, rank_few c.args.s.now c.args.gone.now c.args.id e)

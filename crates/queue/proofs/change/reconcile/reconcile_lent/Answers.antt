@@ -13,7 +13,7 @@ pub slice_bounds-release_all-end : goal.slice_bounds-release_all-end
 slice_bounds-release_all-end c = sym (length-take-le c.args.a.open.head.count _ (omega (arith, few_records c.requires.0)))
 
 pub release_all-w-requires : goal.release_all-w-requires
-release_all-w-requires c = (c.requires.0, c.requires.1, record { all = c.judge.ensures }, search rules, search rules)
+release_all-w-requires c = (c.requires.0, c.requires.1, record { all = c.judge.ensures }, search rules)
 
 pub slice_bounds-vs-end-2 : goal.slice_bounds-vs-end-2
 slice_bounds-vs-end-2 c = omega (arith, few_records c.requires.0)

@@ -3,7 +3,4 @@ use Rattle.std.specs.Prelude.{length}
 use Rattle.queue.proofs.change.release.gather_mined.Given as goal
 
 abbrev pub invariant-loop-left : goal.invariant-loop-left
-invariant-loop-left l = Mining l.s l.initial.i l.initial.left l.t l.vs (length l.initial.ranks) l.i l.left l.j l.c l.ranks l.times l.places
-
-abbrev pub decreases-loop-left : goal.decreases-loop-left
-decreases-loop-left l = l.left
+invariant-loop-left l = Mining l.s l.initial.i l.initial.left l.t l.vs (length l.initial.rows) l.i l.left l.j l.c l.rows

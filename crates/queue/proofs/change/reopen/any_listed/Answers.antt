@@ -1,5 +1,5 @@
 use Rattle.queue.proofs.change.ReopenLaws.{any_end, any_go, any_next, any_stop}
-use Rattle.queue.proofs.layout.TurnLaws.{start}
+use Rattle.queue.proofs.layout.TurnLaws.{start, stands}
 use Rattle.queue.specs.layout.FormsCodec.{form_c}
 use Rattle.queue.specs.layout.FrameCodec.{rec_c}
 use Rattle.std.specs.Prelude.{false}
@@ -13,19 +13,16 @@ pub listed-requires : goal.listed-requires
 listed-requires c = c.requires.1
 
 pub returns-then-listed : goal.returns-then-listed
-returns-then-listed c = any_stop _ c.loop-left.invariant c.loop-left-test.true c.rec_at-x.ensures c.listed.ensures c.if-listed.true
+returns-then-listed c = any_stop _ c.loop-left.invariant c.loop-left-test.true c.record_at-x.ensures c.listed.ensures c.if-listed.true
 
 pub overflow_add-i : goal.overflow_add-i
-overflow_add-i c = omega (arith, any_next _ c.loop-left.invariant c.loop-left-test.true c.rec_at-x.ensures)
-
-pub overflow_sub-left : goal.overflow_sub-left
-overflow_sub-left c = omega (arith, c.loop-left-test.true)
-
-pub loop-left-smaller : goal.loop-left-smaller
-loop-left-smaller c = omega (arith, c.loop-left-test.true)
+overflow_add-i c = omega (arith, any_next _ c.loop-left.invariant c.loop-left-test.true c.record_at-x.ensures)
 
 pub loop-left-preserved : goal.loop-left-preserved
-loop-left-preserved c = any_go _ c.loop-left.invariant c.loop-left-test.true c.rec_at-x.ensures c.listed.ensures c.if-listed.false
+loop-left-preserved c = any_go _ c.loop-left.invariant c.loop-left-test.true c.record_at-x.ensures c.listed.ensures c.if-listed.false
 
 pub returns : goal.returns
 returns c = any_end _ c.loop-left.invariant (omega arith)
+
+pub record_at-x-requires : goal.record_at-x-requires
+record_at-x-requires c = stands false c.loop-left.invariant c.loop-left-test.true

@@ -7,7 +7,4 @@ use Rattle.std.specs.Prelude.{false}
 use Rattle.queue.proofs.change.reopen.any_listed.Given as goal
 
 abbrev pub invariant-loop-left : goal.invariant-loop-left
-invariant-loop-left l = Scan (form_c false rec_c) (any_f (ids_at l.ids l.k)) l.s l.initial.left l.initial.i tt l.i l.left tt
-
-abbrev pub decreases-loop-left : goal.decreases-loop-left
-decreases-loop-left l = l.left
+invariant-loop-left l = Scan (form_c false rec_c) (any_f (ids_at l.ids l.k)) l.s l.initial._left l.initial.i tt l.i l._left tt

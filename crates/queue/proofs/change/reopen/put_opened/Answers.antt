@@ -17,7 +17,7 @@ pub slice_bounds-put_plain-end : goal.slice_bounds-put_plain-end
 slice_bounds-put_plain-end c = sym (length-take-le c.plan_listed-p.result.rows _ (omega (arith, c.plan_listed-p.ensures.1)))
 
 pub put_plain-requires : goal.put_plain-requires
-put_plain-requires c = (rw c.marks_next-marks.ensures (opened_plan c.requires.0 c.tip_at-tip.result c.tip_at-tip.ensures c.plan_listed-p.ensures.0 (omega arith)), c.requires.2)
+put_plain-requires c = (rw c.marks_next-marks.ensures (opened_plan c.requires.0 c.tip_at-tip.result c.tip_at-tip.ensures c.plan_listed-p.ensures.0), c.requires.2)
 
 pub returns : goal.returns
 returns c = λ q e. opened_done c.requires.0 c.tip_at-tip.result c.tip_at-tip.ensures c.plan_listed-p.ensures.0 c.args.dst.now e (rw c.marks_next-marks.ensures at c.put_plain.ensures)

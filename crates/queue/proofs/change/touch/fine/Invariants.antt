@@ -1,6 +1,5 @@
 use Rattle.queue.proofs.change.TouchLaws.{fine_f}
 use Rattle.queue.proofs.layout.TurnLaws.{Scan}
-use Rattle.queue.specs.bytes.ViewAs.{view}
 use Rattle.queue.specs.change.ReopenAs.{ids_at}
 use Rattle.queue.specs.change.TouchAs.{own_ids}
 use Rattle.queue.specs.layout.FormsCodec.{form_c}
@@ -10,7 +9,4 @@ use Rattle.std.specs.Prelude.{false}
 use Rattle.queue.proofs.change.touch.fine.Given as goal
 
 abbrev pub invariant-loop-left : goal.invariant-loop-left
-invariant-loop-left l = Scan id_c (fine_f (own_ids (ids_at l.ids l.m) (recs_at (form_c false rec_c) l.s l.recs))) (view false l.s l.base) l.initial.left l.initial.i tt l.i l.left tt
-
-abbrev pub decreases-loop-left : goal.decreases-loop-left
-decreases-loop-left l = l.left
+invariant-loop-left l = Scan id_c (fine_f (own_ids (ids_at l.ids l.m) (recs_at (form_c false rec_c) l.s l.recs))) l.frame l.initial._left l.initial.i tt l.i l._left tt

@@ -10,7 +10,4 @@ use Rattle.queue.specs.layout.RecordsAs.{recs_at}
 use Rattle.queue.proofs.change.touch.judge_all.Given as goal
 
 abbrev pub invariant-loop-left : goal.invariant-loop-left
-invariant-loop-left l = Judging l.t l.b.caught (own_ids (ids_at l.ids l.b.available) (recs_at (form_c false rec_c) l.s l.recs)) (applied_in l.t l.b.entries) l.s l.initial.left l.initial.i (length l.initial.vs) l.i l.left l.j l.vs × (l.g + l.left * 131070 ≤ l.initial.left * 131070) × (l.quick ≡ true → FlagsFrom (own_ids (ids_at l.ids l.b.available) (recs_at (form_c false rec_c) l.s l.recs)) (wanted_of (list_at (form_c false rec_c) l.left l.s l.i)) (bits_in l.flags) l.g)
-
-abbrev pub decreases-loop-left : goal.decreases-loop-left
-decreases-loop-left l = l.left
+invariant-loop-left l = Judging l.t l.b.caught (own_ids (ids_at l.ids l.b.available) (recs_at (form_c false rec_c) l.s l.recs)) (applied_in l.t l.b.entries) l.s l.initial._left l.initial.i (length l.initial.vs) l.i l._left l.j l.vs × (l.g + l._left * 131070 ≤ l.initial._left * 131070) × (l.quick ≡ true → FlagsFrom (own_ids (ids_at l.ids l.b.available) (recs_at (form_c false rec_c) l.s l.recs)) (wanted_of (list_at (form_c false rec_c) l._left l.s l.i)) (bits_in l.flags) l.g)

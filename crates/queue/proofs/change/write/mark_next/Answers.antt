@@ -1,23 +1,20 @@
-use Rattle.queue.proofs.change.WriteNextLaws.{mark_again}
+use Rattle.queue.proofs.change.VerdictLaws.{code_not}
 use Rattle.queue.specs.change.PlanAs.{mark_n}
-use Rattle.std.proofs.Common.{arith, eq-eqb, ne_eqb}
+use Rattle.queue.specs.declared.change.verdict.Verdict.TheVariants.{Confirmed, Reopened}
+use Rattle.std.proofs.Common.{◌∙◌, arith, ne_eqb}
 use Rattle.queue.proofs.change.write.mark_next.Goals as goal
 
-pub returns-then-what-eq-REOPENED : goal.returns-then-what-eq-REOPENED
-returns-then-what-eq-REOPENED c = (mark_again c.args.what c.args.f c.if-what-eq-REOPENED.true, omega arith)
-
-pub returns-then-what-ne-CONFIRMED : goal.returns-then-what-ne-CONFIRMED
+pub returns-in-Reopened : goal.returns-in-Reopened
 unfolding mark_n
-returns-then-what-ne-CONFIRMED c = (rw (ne_eqb _ _ c.if-what-ne-CONFIRMED.true, ne_eqb _ _ c.if-what-eq-REOPENED.false), c.requires.1)
+returns-in-Reopened c = (rw c.in-Reopened.is, omega arith)
 
-pub returns-then-both : goal.returns-then-both
-unfolding mark_n
-returns-then-both c = (rw (eq-eqb _ _ c.if-what-ne-CONFIRMED.false, ← c.both.ensures, c.if-both.true), omega arith)
+pub mark_confirmed-requires : goal.mark_confirmed-requires
+mark_confirmed-requires c = c.requires
 
-pub returns-then-either : goal.returns-then-either
+pub returns-in-Confirmed : goal.returns-in-Confirmed
 unfolding mark_n
-returns-then-either c = (rw (eq-eqb _ _ c.if-what-ne-CONFIRMED.false, ← c.both.ensures, c.if-both.false, ← c.either.ensures, c.if-either.true), c.requires.0)
+returns-in-Confirmed c = (c.mark_confirmed.ensures.0 ∙ rw c.in-Confirmed.is, c.mark_confirmed.ensures.1)
 
-pub returns : goal.returns
+pub returns-in_default : goal.returns-in_default
 unfolding mark_n
-returns c = (rw (eq-eqb _ _ c.if-what-ne-CONFIRMED.false, ← c.both.ensures, c.if-both.false, ← c.either.ensures, c.if-either.false), c.requires.1)
+returns-in_default c = (rw (ne_eqb _ _ (code_not Confirmed c.in_default.not-Confirmed), ne_eqb _ _ (code_not Reopened c.in_default.not-Reopened)), c.requires.1)

@@ -20,7 +20,7 @@ pub slice_bounds-put_plain-end : goal.slice_bounds-put_plain-end
 slice_bounds-put_plain-end c = sym (length-take-le c.plan_ended-p.result.rows _ (omega (arith, c.plan_ended-p.ensures.1)))
 
 pub put_plain-requires : goal.put_plain-requires
-put_plain-requires c = (rw c.marks_next-marks.ensures (ended_plan c.requires.0 c.tip_at-tip.result c.floor_of-f.ensures c.tip_at-tip.ensures c.plan_ended-p.ensures.0 (omega arith)), c.requires.1)
+put_plain-requires c = (rw c.marks_next-marks.ensures (ended_plan c.requires.0 c.tip_at-tip.result c.floor_of-f.ensures c.tip_at-tip.ensures c.plan_ended-p.ensures.0), c.requires.1)
 
 pub returns : goal.returns
 returns c = λ q e. ended_done c.requires.0 c.tip_at-tip.result c.floor_of-f.ensures c.tip_at-tip.ensures c.plan_ended-p.ensures.0 c.args.dst.now e (rw c.marks_next-marks.ensures at c.put_plain.ensures)

@@ -1,9 +1,8 @@
 use Rattle.queue.proofs.change.WritePlanLaws.{moved_done, moved_plan}
-use Rattle.std.proofs.Common.{arith}
 use Rattle.queue.proofs.change.write.put_moved.Goals as goal
 
 pub put_plain-requires : goal.put_plain-requires
-put_plain-requires c = (moved_plan c.requires.0 (let h = c.well_formed.1.1.1.1.1.0 in omega arith), c.requires.1)
+put_plain-requires c = (moved_plan c.requires.0, c.requires.1)
 
 pub returns : goal.returns
 returns c = λ q e. moved_done c.requires.0 c.args.dst.now e c.put_plain.ensures

@@ -20,7 +20,7 @@ pub overflow_sub-p : goal.overflow_sub-p
 overflow_sub-p c = c.requires.0.up
 
 pub copy_part-b-requires : goal.copy_part-b-requires
-copy_part-b-requires c = (omega (arith, c.requires.0.within, c.requires.0.up_place, c.requires.0.up_body, c.requires.0.up), omega (arith, c.requires.3, c.requires.0.up, c.put_lead-a.ensures.next, kept c.put_lead-a.ensures))
+copy_part-b-requires c = record { read = omega (arith, c.requires.0.within, c.requires.0.up_place, c.requires.0.up_body, c.requires.0.up); written = omega (arith, c.requires.3, c.requires.0.up, c.put_lead-a.ensures.next, kept c.put_lead-a.ensures) }
 
 pub put_place-c-requires : goal.put_place-c-requires
 put_place-c-requires c = (c.requires.0, c.requires.1, omega (arith, c.requires.3, c.requires.0.up, c.put_lead-a.ensures.next, kept c.put_lead-a.ensures, c.copy_part-b.ensures.next, kept c.copy_part-b.ensures))

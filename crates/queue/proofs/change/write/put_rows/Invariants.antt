@@ -1,9 +1,5 @@
-use Rattle.std.specs.Prelude.{◌-◌, length}
 use Rattle.queue.proofs.change.WritePlanLaws.{Editing}
 use Rattle.queue.proofs.change.write.put_rows.Given as goal
 
 abbrev pub invariant-loop-k : goal.invariant-loop-k
 invariant-loop-k l = Editing l.src l.p l.t l.vs l.rows l.to l.initial.dst l.dst l.k l.from l.o
-
-abbrev pub decreases-loop-k : goal.decreases-loop-k
-decreases-loop-k l = length l.rows - l.k

@@ -23,7 +23,7 @@ pub overflow_sub-x : goal.overflow_sub-x
 overflow_sub-x c = omega (arith, c.requires.0.up_body)
 
 pub copy_part-requires : goal.copy_part-requires
-copy_part-requires c = (omega (arith, c.requires.0.within, c.requires.0.up_body), in_room c.args.src.now c.args.base c.args.x c.args.n.0 c.args.at (length c.args.dst.now) c.if-n-ne0.false c.requires.1)
+copy_part-requires c = record { read = omega (arith, c.requires.0.within, c.requires.0.up_body); written = in_room c.args.src.now c.args.base c.args.x c.args.n.0 c.args.at (length c.args.dst.now) c.if-n-ne0.false c.requires.1 }
 
 pub returns : goal.returns
 returns c = tail_old c.args.src.now c.args.base c.args.x c.args.n.0 c.if-n-ne0.false c.copy_part.ensures

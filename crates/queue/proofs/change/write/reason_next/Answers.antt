@@ -1,35 +1,22 @@
+use Rattle.queue.proofs.change.WriteNextLaws.{reason_small}
+use Rattle.queue.proofs.change.VerdictLaws.{code_not}
 use Rattle.queue.specs.change.PlanAs.{reason_n}
-use Rattle.std.proofs.Common.{◌∙◌, arith, eq-eqb, ne_eqb}
+use Rattle.queue.specs.declared.change.verdict.Verdict.TheVariants.{Reopened, Cancelled, Expired}
+use Rattle.std.proofs.Common.{◌∙◌, arith, ne_eqb}
 use Rattle.queue.proofs.change.write.reason_next.Goals as goal
 
-pub returns-then-what-eq-REOPENED : goal.returns-then-what-eq-REOPENED
+pub returns-in-Reopened : goal.returns-in-Reopened
 unfolding reason_n
-returns-then-what-eq-REOPENED c = (c.reason_again.ensures.0 ∙ rw (eq-eqb _ _ c.if-what-eq-REOPENED.true), c.reason_again.ensures.1)
+returns-in-Reopened c = (c.from.ensures ∙ c.reason_again.ensures ∙ rw c.in-Reopened.is, rw (c.from.ensures, c.reason_again.ensures) (reason_small _))
 
-pub returns-then-what-eq-CANCELLED : goal.returns-then-what-eq-CANCELLED
+pub returns-in-Cancelled : goal.returns-in-Cancelled
 unfolding reason_n
-returns-then-what-eq-CANCELLED c = (rw (ne_eqb _ _ c.if-what-eq-REOPENED.false, eq-eqb _ _ c.if-what-eq-CANCELLED.true), omega arith)
+returns-in-Cancelled c = (rw c.in-Cancelled.is, omega arith)
 
-pub returns-then-what-eq-EXPIRED : goal.returns-then-what-eq-EXPIRED
+pub returns-in-Expired : goal.returns-in-Expired
 unfolding reason_n
-returns-then-what-eq-EXPIRED c = (rw (ne_eqb _ _ c.if-what-eq-REOPENED.false, ne_eqb _ _ c.if-what-eq-CANCELLED.false, eq-eqb _ _ c.if-what-eq-EXPIRED.true), omega arith)
+returns-in-Expired c = (rw c.in-Expired.is, omega arith)
 
-pub returns-then-n-ne0 : goal.returns-then-n-ne0
+pub returns-in_default : goal.returns-in_default
 unfolding reason_n
-returns-then-n-ne0 c = (rw (ne_eqb _ _ c.if-what-eq-REOPENED.false, ne_eqb _ _ c.if-what-eq-CANCELLED.false, ne_eqb _ _ c.if-what-eq-EXPIRED.false, ne_eqb _ _ c.if-n-ne0.true), omega arith)
-
-pub returns-then-what-eq-STAYS : goal.returns-then-what-eq-STAYS
-unfolding reason_n
-returns-then-what-eq-STAYS c = (rw (ne_eqb _ _ c.if-what-eq-REOPENED.false, ne_eqb _ _ c.if-what-eq-CANCELLED.false, ne_eqb _ _ c.if-what-eq-EXPIRED.false, eq-eqb _ _ c.if-n-ne0.false, eq-eqb _ _ c.if-what-eq-STAYS.true), c.requires)
-
-pub returns-then-what-eq-CONFIRMED : goal.returns-then-what-eq-CONFIRMED
-unfolding reason_n
-returns-then-what-eq-CONFIRMED c = (rw (ne_eqb _ _ c.if-what-eq-REOPENED.false, ne_eqb _ _ c.if-what-eq-CANCELLED.false, ne_eqb _ _ c.if-what-eq-EXPIRED.false, eq-eqb _ _ c.if-n-ne0.false, ne_eqb _ _ c.if-what-eq-STAYS.false, eq-eqb _ _ c.if-what-eq-CONFIRMED.true), omega arith)
-
-pub returns-then-what-eq-QUEUED : goal.returns-then-what-eq-QUEUED
-unfolding reason_n
-returns-then-what-eq-QUEUED c = (rw (ne_eqb _ _ c.if-what-eq-REOPENED.false, ne_eqb _ _ c.if-what-eq-CANCELLED.false, ne_eqb _ _ c.if-what-eq-EXPIRED.false, eq-eqb _ _ c.if-n-ne0.false, ne_eqb _ _ c.if-what-eq-STAYS.false, ne_eqb _ _ c.if-what-eq-CONFIRMED.false, eq-eqb _ _ c.if-what-eq-QUEUED.true), omega arith)
-
-pub returns-else-what-eq-QUEUED : goal.returns-else-what-eq-QUEUED
-unfolding reason_n
-returns-else-what-eq-QUEUED c = (rw (ne_eqb _ _ c.if-what-eq-REOPENED.false, ne_eqb _ _ c.if-what-eq-CANCELLED.false, ne_eqb _ _ c.if-what-eq-EXPIRED.false, eq-eqb _ _ c.if-n-ne0.false, ne_eqb _ _ c.if-what-eq-STAYS.false, ne_eqb _ _ c.if-what-eq-CONFIRMED.false, ne_eqb _ _ c.if-what-eq-QUEUED.false), omega arith)
+returns-in_default c = (c.reason_judged.ensures.0 ∙ rw (ne_eqb _ _ (code_not Reopened c.in_default.not-Reopened), ne_eqb _ _ (code_not Cancelled c.in_default.not-Cancelled), ne_eqb _ _ (code_not Expired c.in_default.not-Expired)), c.reason_judged.ensures.1)

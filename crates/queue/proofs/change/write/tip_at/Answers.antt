@@ -4,11 +4,11 @@ use Rattle.std.specs.Prelude.{false}
 use Rattle.std.proofs.Common.{arith}
 use Rattle.queue.proofs.change.write.tip_at.Goals as goal
 
-pub id_at-requires : goal.id_at-requires
-id_at-requires c = let h = tip_room (view false c.args.s.now 4) c.requires.0 c.args.h c.requires.1 c.requires.2 c.if-h.true in omega arith
+pub id-requires : goal.id-requires
+id-requires c = rw c.new.ensures (let h = tip_room (view false c.args.s.now 4) c.requires.0 c.args.h c.requires.1 c.requires.2 c.if-h.true in omega arith)
 
 pub returns-then-h : goal.returns-then-h
-returns-then-h c = λ x w o. tip_here (view false c.args.s.now 4) x c.args.h w o c.if-h.true c.id_at.ensures
+returns-then-h c = λ x w o. tip_here (view false c.args.s.now 4) x c.args.h w o c.if-h.true (rw c.new.ensures at c.id.ensures.is)
 
 pub returns : goal.returns
-returns c = λ x w o. tip_none (view false c.args.s.now 4) x c.args.h w _ c.if-h.false
+returns c = λ x w o. tip_none (view false c.args.s.now 4) x c.args.h w c.if-h.false

@@ -1,4 +1,4 @@
-use Rattle.queue.proofs.check.AreaLaws.{filled_all, filled_over, filled_short, filled_unsound, sound_range}
+use Rattle.queue.proofs.check.AreaLaws.{filled_all, filled_dirty, filled_over, filled_short, filled_unsound, sound_range}
 use Rattle.std.proofs.Common.{sym, ◌∙◌}
 use Rattle.queue.proofs.check.area.filled.Goals as goal
 
@@ -14,5 +14,8 @@ returns-then-s-m c = filled_short c.sound_at.ensures c.if-not-sound_at.false c.n
 pub returns-then-m-e : goal.returns-then-m-e
 returns-then-m-e c = filled_over c.sound_at.ensures c.if-not-sound_at.false c.need-m.ensures.0 c.if-s-m.false c.if-m-e.true
 
+pub returns-then-not-zeros : goal.returns-then-not-zeros
+returns-then-not-zeros c = filled_dirty c.sound_at.ensures c.if-not-sound_at.false c.need-m.ensures.0 c.if-s-m.false c.if-m-e.false c.zeros.ensures c.if-not-zeros.true
+
 pub returns : goal.returns
-returns c = filled_all c.sound_at.ensures c.if-not-sound_at.false c.need-m.ensures.0 c.if-s-m.false c.if-m-e.false c.zeros-z.ensures c.need-m.ensures.1
+returns c = filled_all c.sound_at.ensures c.if-not-sound_at.false c.need-m.ensures.0 c.if-s-m.false c.if-m-e.false c.zeros.ensures c.if-not-zeros.false c.need-m.ensures.1

@@ -20,11 +20,11 @@ counts_ok-requires c = let g = ranged _ (and_true (in_range (limits_in c.args.x.
 pub returns-then-not-counts_ok : goal.returns-then-not-counts_ok
 returns-then-not-counts_ok c = sound_many _ _ _ _ _ c.requires.2 (list_length (rec_in_value c.args.form) _ _ _ c.requires.0.1) (sym c.right.ensures ∙ c.if-not-right.false) c.counts_ok.ensures c.if-not-counts_ok.true
 
-pub returns-then-not-both : goal.returns-then-not-both
-returns-then-not-both c = sound_wrong _ _ _ _ _ c.requires.2 (list_length (rec_in_value c.args.form) _ _ _ c.requires.0.1) (sym c.right.ensures ∙ c.if-not-right.false) c.counts_ok.ensures c.if-not-counts_ok.false c.both.ensures c.if-not-both.true
+pub returns-then-not-a : goal.returns-then-not-a
+returns-then-not-a c = sound_wrong _ _ _ _ _ c.requires.2 (list_length (rec_in_value c.args.form) _ _ _ c.requires.0.1) (sym c.right.ensures ∙ c.if-not-right.false) c.counts_ok.ensures c.if-not-counts_ok.false refl c.if-not-a.true
 
-pub returns-then-both : goal.returns-then-both
-returns-then-both c = let u = and_true _ _ (sym c.both-2.ensures ∙ c.if-both.true) in let v = c.requires.2.clear u.0 in sound_in _ _ _ _ _ c.requires.2 (list_length (rec_in_value c.args.form) _ _ _ c.requires.0.1) (sym c.right.ensures ∙ c.if-not-right.false) c.counts_ok.ensures c.if-not-counts_ok.false c.both.ensures c.if-not-both.false (sym v.1) (sym (and_both _ _ v.0 (read_none _ (sym c.requires.2.unread ∙ u.1)))) refl
+pub returns-then-a : goal.returns-then-a
+returns-then-a c = let u = and_true _ _ (c.if-a.true) in let v = c.requires.2.clear u.0 in sound_in _ _ _ _ _ c.requires.2 (list_length (rec_in_value c.args.form) _ _ _ c.requires.0.1) (sym c.right.ensures ∙ c.if-not-right.false) c.counts_ok.ensures c.if-not-counts_ok.false refl c.if-not-a.false (sym v.1) (sym (and_both _ _ v.0 (read_none _ (sym c.requires.2.unread ∙ u.1)))) refl
 
 pub overflow_sub-h : goal.overflow_sub-h
 overflow_sub-h c = held_few (limits_in c.args.x.head.limits) _ _ _ _ c.requires.2 (list_length (rec_in_value c.args.form) _ _ _ c.requires.0.1)
@@ -36,4 +36,4 @@ pub apart-o-requires : goal.apart-o-requires
 apart-o-requires c = (c.requires.0, λ e. sym c.requires.2.unread ∙ e)
 
 pub returns : goal.returns
-returns c = sound_in _ _ _ _ _ c.requires.2 (list_length (rec_in_value c.args.form) _ _ _ c.requires.0.1) (sym c.right.ensures ∙ c.if-not-right.false) c.counts_ok.ensures c.if-not-counts_ok.false c.both.ensures c.if-not-both.false c.distinct-d.ensures c.apart-o.ensures c.both-3.ensures
+returns c = sound_in _ _ _ _ _ c.requires.2 (list_length (rec_in_value c.args.form) _ _ _ c.requires.0.1) (sym c.right.ensures ∙ c.if-not-right.false) c.counts_ok.ensures c.if-not-counts_ok.false refl c.if-not-a.false c.distinct-d.ensures c.apart-o.ensures refl

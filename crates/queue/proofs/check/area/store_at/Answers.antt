@@ -1,21 +1,23 @@
-use Rattle.queue.proofs.check.AreaLaws.{head_count, head_start, head_within, store_good, store_line, store_short}
-use Rattle.std.proofs.lemmas.Bool.{not-false, not-true}
+use Rattle.queue.proofs.check.AreaLaws.{head_start, store_few, store_good, store_line, store_short}
 use Rattle.queue.proofs.check.area.store_at.Goals as goal
 
-pub returns-then-not-h : goal.returns-then-not-h
-returns-then-not-h c = store_short c.args.form c.args.s.now c.requires c.head_at-h.ensures (not-true _ c.if-not-h.true) _
+pub returns-in_err-head : goal.returns-in_err-head
+returns-in_err-head c = rw c.from_residual.ensures (store_short c.args.form c.args.s.now (rw c.new.ensures at c.in_err-head.ensures))
 
 pub ends_line-requires : goal.ends_line-requires
-ends_line-requires c = head_within c.args.form c.args.s.now c.requires c.head_at-h.ensures (not-false _ c.if-not-h.false)
+ends_line-requires c = rw c.new.ensures at c.in_ok-head.ensures.within
 
 pub returns-then-not-ends_line : goal.returns-then-not-ends_line
-returns-then-not-ends_line c = store_line c.args.form c.args.s.now c.requires c.head_at-h.ensures (not-false _ c.if-not-h.false) c.ends_line.ensures c.if-not-ends_line.true _
+returns-then-not-ends_line c = store_line c.args.form c.args.s.now (rw c.new.ensures at c.in_ok-head.ensures) c.ends_line.ensures c.if-not-ends_line.true
 
 pub after_in-start-requires : goal.after_in-start-requires
-after_in-start-requires c = head_within c.args.form c.args.s.now c.requires c.head_at-h.ensures (not-false _ c.if-not-h.false)
+after_in-start-requires c = rw c.new.ensures at c.in_ok-head.ensures.within
 
-pub frames-p-requires : goal.frames-p-requires
-frames-p-requires c = (head_start c.args.form c.args.s.now c.requires c.head_at-h.ensures (not-false _ c.if-not-h.false) c.ends_line.ensures c.if-not-ends_line.false c.after_in-start.ensures, head_count c.args.form c.args.s.now c.requires c.head_at-h.ensures (not-false _ c.if-not-h.false))
+pub frames-requires : goal.frames-requires
+frames-requires c = (head_start c.args.form c.args.s.now (rw c.new.ensures at c.in_ok-head.ensures) c.ends_line.ensures c.requires c.if-not-ends_line.false c.after_in-start.ensures, c.in_ok-head.ensures.fact.count_small)
+
+pub returns-in_err-read : goal.returns-in_err-read
+returns-in_err-read c = rw c.from_residual-in_err-read.ensures (store_few c.args.form c.args.s.now (rw c.new.ensures at c.in_ok-head.ensures) c.ends_line.ensures c.requires c.if-not-ends_line.false c.after_in-start.ensures c.in_err-read.ensures)
 
 pub returns : goal.returns
-returns c = store_good c.args.form c.args.s.now c.requires c.head_at-h.ensures (not-false _ c.if-not-h.false) c.ends_line.ensures c.if-not-ends_line.false c.after_in-start.ensures c.frames-p.ensures.many c.frames-p.ensures.sums
+returns c = store_good c.args.form c.args.s.now (rw c.new.ensures at c.in_ok-head.ensures) c.ends_line.ensures c.requires c.if-not-ends_line.false c.after_in-start.ensures c.in_ok-read.ensures

@@ -1,13 +1,14 @@
-use Rattle.std.specs.Prelude.{ℕ, ltb, refl}
+use Rattle.std.specs.Prelude.{get_or, ℕ, ltb, refl}
 use Rattle.std.proofs.Common.{arith}
 use Rattle.queue.proofs.check.NumbersLaws.{count_end, count_go}
+use Rattle.queue.specs.Basics.{one_most}
 use Rattle.queue.proofs.check.numbers.count_above.Goals as goal
 
-pub loop-i-init : goal.loop-i-init
-loop-i-init c = (omega arith, omega arith, omega arith)
+pub loop-y-init : goal.loop-y-init
+loop-y-init c = (omega arith, omega arith)
 
-pub loop-i-preserved : goal.loop-i-preserved
-loop-i-preserved c = (count_go (λ (y : ℕ). ltb c.args.x y) c.args.v.now c.loop-i.i c.loop-i.total c.loop-i-test.true c.loop-i.invariant.0 refl c.one_if-total.ensures.0, omega (arith, c.one_if-total.ensures.1, c.loop-i.invariant.1), omega (arith, c.loop-i-test.true))
+pub loop-y-preserved : goal.loop-y-preserved
+loop-y-preserved c = (count_go (λ (y : ℕ). ltb c.args.x y) c.args.v.now c.loop-y.y-index c.loop-y.total c.loop-y-test.true c.loop-y.invariant.0 refl c.from-total.ensures, omega (arith, c.from-total.ensures, one_most (ltb c.args.x (get_or c.args.v.now c.loop-y.y-index 0)), c.loop-y.invariant.1))
 
 pub returns : goal.returns
-returns c = (count_end (λ (y : ℕ). ltb c.args.x y) c.args.v.now c.loop-i.i c.loop-i.total (omega (arith, c.loop-i-test.false)) c.loop-i.invariant.0, omega (arith, c.loop-i.invariant.1, c.loop-i.invariant.2))
+returns c = (count_end (λ (y : ℕ). ltb c.args.x y) c.args.v.now c.loop-y.y-index c.loop-y.total (omega (arith, c.loop-y-test.false)) c.loop-y.invariant.0, omega (arith, c.loop-y.invariant.1))

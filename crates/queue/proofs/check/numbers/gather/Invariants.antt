@@ -5,7 +5,4 @@ use Rattle.queue.specs.layout.FormsCodec.{rec_in_value}
 use Rattle.queue.proofs.check.numbers.gather.Given as goal
 
 abbrev pub invariant-loop-left : goal.invariant-loop-left
-invariant-loop-left l = Scan (rec_in_value l.form) numbers_from l.s l.initial.left l.initial.i [] l.i l.left (take l.k l.v) × (l.k ≤ length l.v) × (length l.v ≡ length l.initial.v)
-
-abbrev pub decreases-loop-left : goal.decreases-loop-left
-decreases-loop-left l = l.left
+invariant-loop-left l = Scan (rec_in_value l.form) numbers_from l.s l.initial._left l.initial.i [] l.i l._left (take l.k l.v) × (l.k ≤ length l.v) × (length l.v ≡ length l.initial.v)

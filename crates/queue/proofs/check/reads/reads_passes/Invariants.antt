@@ -8,7 +8,4 @@ use Rattle.std.specs.Prelude.{[]}
 use Rattle.queue.proofs.check.reads.reads_passes.Given as goal
 
 abbrev pub invariant-loop-left : goal.invariant-loop-left
-invariant-loop-left l = Scan (rec_in_value l.form) nothing_f l.s l.initial.left l.initial.i tt l.i l.left tt × Over l.form.hex l.s (recs_at (rec_in_value l.form) l.s l.recs) (list_at (rec_in_value l.form) l.left l.s l.i) []
-
-abbrev pub decreases-loop-left : goal.decreases-loop-left
-decreases-loop-left l = l.left
+invariant-loop-left l = Scan (rec_in_value l.form) nothing_f l.s l.initial._left l.initial.i tt l.i l._left tt × Over l.form.hex l.s (recs_at (rec_in_value l.form) l.s l.recs) (list_at (rec_in_value l.form) l._left l.s l.i) []

@@ -1,5 +1,5 @@
 use Rattle.std.specs.Prelude.{ℕ, ◌+◌, Bool, ◌&&◌, refl}
-use Rattle.std.proofs.Common.{ap, ◌∙◌, arith}
+use Rattle.std.proofs.Common.{ap, arith}
 use Rattle.queue.proofs.check.ScanCheckLaws.{added}
 use Rattle.queue.proofs.check.scan.add_sums.Goals as goal
 
@@ -28,4 +28,4 @@ pub overflow_add-e : goal.overflow_add-e
 overflow_add-e c = omega (arith, c.requires.0.minedbytes, c.weigh-4.ensures.1)
 
 pub returns : goal.returns
-returns c = (added (ap (λ (x : ℕ). c.args.a.holders + x) c.weigh.ensures.0) (ap (λ (x : ℕ). c.args.a.bytes + x) c.weigh-2.ensures.0) (ap (λ (x : ℕ). c.args.a.mined + x) c.weigh-3.ensures.0) (ap (λ (x : ℕ). c.args.a.minedbytes + x) c.weigh-4.ensures.0) (c.both-r.ensures ∙ ap (λ (x : Bool). c.args.a.right && x) c.right.ensures) c.both-u.ensures c.both-d.ensures (omega (arith, c.weigh.ensures.0, c.weigh.ensures.1)) (omega (arith, c.weigh-2.ensures.0, c.weigh-2.ensures.1)) (omega (arith, c.weigh-3.ensures.0, c.weigh-3.ensures.1)) (omega (arith, c.weigh-4.ensures.0, c.weigh-4.ensures.1)), refl)
+returns c = (added (ap (λ (x : ℕ). c.args.a.holders + x) c.weigh.ensures.0) (ap (λ (x : ℕ). c.args.a.bytes + x) c.weigh-2.ensures.0) (ap (λ (x : ℕ). c.args.a.mined + x) c.weigh-3.ensures.0) (ap (λ (x : ℕ). c.args.a.minedbytes + x) c.weigh-4.ensures.0) (ap (λ (x : Bool). c.args.a.right && x) c.right.ensures) refl refl (omega (arith, c.weigh.ensures.0, c.weigh.ensures.1)) (omega (arith, c.weigh-2.ensures.0, c.weigh-2.ensures.1)) (omega (arith, c.weigh-3.ensures.0, c.weigh-3.ensures.1)) (omega (arith, c.weigh-4.ensures.0, c.weigh-4.ensures.1)), refl)

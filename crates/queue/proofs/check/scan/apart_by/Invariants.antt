@@ -9,7 +9,4 @@ use Rattle.std.specs.Prelude.{◌≡◌, length}
 use Rattle.queue.proofs.check.scan.apart_by.Given as goal
 
 abbrev pub invariant-loop-left : goal.invariant-loop-left
-invariant-loop-left l = Scan (rec_in_value l.form) nothing_f l.s l.initial.left l.initial.i tt l.i l.left tt × Walk has_in hash_l (recs_at (rec_in_value l.form) l.s l.recs) (list_at (rec_in_value l.form) l.left l.s l.i) l.t × (length l.t ≡ length l.initial.t)
-
-abbrev pub decreases-loop-left : goal.decreases-loop-left
-decreases-loop-left l = l.left
+invariant-loop-left l = Scan (rec_in_value l.form) nothing_f l.s l.initial._left l.initial.i tt l.i l._left tt × Walk has_in hash_l (recs_at (rec_in_value l.form) l.s l.recs) (list_at (rec_in_value l.form) l._left l.s l.i) l.t × (length l.t ≡ length l.initial.t)

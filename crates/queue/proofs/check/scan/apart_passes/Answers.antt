@@ -1,9 +1,9 @@
 use Rattle.queue.proofs.check.ReadsLaws.{both_no, both_yes, read_none}
-use Rattle.std.proofs.Common.{sym, ◌∙◌, zero-lt-suc}
+use Rattle.std.proofs.Common.{sym, ◌∙◌}
 use Rattle.queue.proofs.check.scan.apart_passes.Goals as goal
 
 pub apart_by-requires : goal.apart_by-requires
-apart_by-requires c = (c.requires.0, zero-lt-suc _)
+apart_by-requires c = c.requires.0
 
 pub returns-then-not-apart_by : goal.returns-then-not-apart_by
 returns-then-not-apart_by c = both_no _ c.apart_by.ensures c.if-not-apart_by.true

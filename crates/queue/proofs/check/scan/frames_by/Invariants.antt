@@ -3,7 +3,4 @@ use Rattle.std.specs.Prelude.{◌≡◌, length}
 use Rattle.queue.proofs.check.scan.frames_by.Given as goal
 
 abbrev pub invariant-loop-left : goal.invariant-loop-left
-invariant-loop-left l = Checking l.form l.s l.initial.left l.initial.i l.k l.c l.i l.left l.a l.prev l.first l.t × (length l.t ≡ length l.initial.t)
-
-abbrev pub decreases-loop-left : goal.decreases-loop-left
-decreases-loop-left l = l.left
+invariant-loop-left l = Checking l.form l.s l.initial._left l.initial.i l.k l.c l.i l._left l.a l.last l.t × (length l.t ≡ length l.initial.t)

@@ -5,7 +5,4 @@ use Rattle.queue.specs.layout.FormsCodec.{rec_in_value}
 use Rattle.queue.proofs.check.scan.held_by.Given as goal
 
 abbrev pub invariant-loop-left : goal.invariant-loop-left
-invariant-loop-left l = Scan (rec_in_value l.form) (held_f l.id) l.s l.initial.left l.initial.i 0 l.i l.left l.total × (l.total + l.left ≤ l.initial.left)
-
-abbrev pub decreases-loop-left : goal.decreases-loop-left
-decreases-loop-left l = l.left
+invariant-loop-left l = Scan (rec_in_value l.form) (held_f l.id) l.s l.initial._left l.initial.i 0 l.i l._left l.total × (l.total + l._left ≤ l.initial._left)

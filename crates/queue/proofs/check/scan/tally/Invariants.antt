@@ -6,7 +6,4 @@ use Rattle.queue.specs.layout.FrameCodec.{rec_c}
 use Rattle.queue.proofs.check.scan.tally.Given as goal
 
 abbrev pub invariant-loop-left : goal.invariant-loop-left
-invariant-loop-left l = Scan (form_c false rec_c) (sum_from l.q) l.s l.initial.left l.initial.i 0 l.i l.left l.total × (l.total + l.left * 4294967295 ≤ l.initial.left * 4294967295)
-
-abbrev pub decreases-loop-left : goal.decreases-loop-left
-decreases-loop-left l = l.left
+invariant-loop-left l = Scan (form_c false rec_c) (sum_from l.q) l.s l.initial._left l.initial.i 0 l.i l._left l.total × (l.total + l._left * 4294967295 ≤ l.initial._left * 4294967295)

@@ -1,9 +1,6 @@
-use Rattle.std.specs.Prelude.{◌≡◌, ◌-◌, ◌≤◌, ◌&&◌, eqb, take, drop}
+use Rattle.std.specs.Prelude.{◌≡◌, ◌-◌, ◌&&◌, eqb, take, drop}
 use Rattle.queue.specs.Areas.{zero?}
 use Rattle.queue.proofs.check.scan.zeros_part.Given as goal
 
 abbrev pub invariant-loop-i : goal.invariant-loop-i
-invariant-loop-i l = (l.from ≤ l.i) × (l.i ≤ l.to) × ((eqb l.bits 0 && zero? (take (l.to - l.i) (drop l.i l.s))) ≡ zero? (take (l.to - l.from) (drop l.from l.s)))
-
-abbrev pub decreases-loop-i : goal.decreases-loop-i
-decreases-loop-i l = l.to - l.i
+invariant-loop-i l = (eqb l.bits 0 && zero? (take (l.to - l.i) (drop l.i l.s))) ≡ zero? (take (l.to - l.from) (drop l.from l.s))

@@ -8,7 +8,4 @@ use Rattle.queue.specs.layout.RecordsAs.{recs_at}
 use Rattle.queue.proofs.check.suspects.apart_in.Given as goal
 
 abbrev pub invariant-loop-left : goal.invariant-loop-left
-invariant-loop-left l = Scan (rec_in_value l.form) nothing_f l.s l.initial.left l.initial.i tt l.i l.left tt × (drop l.k (recs_at (rec_in_value l.form) l.s l.recs) ≡ list_at (rec_in_value l.form) l.left l.s l.i) × Gone l.form.hex l.s (recs_at (rec_in_value l.form) l.s l.recs) (list_at (rec_in_value l.form) l.left l.s l.i) l.t (take l.m l.v) × (l.k + l.left ≡ l.initial.left) × (l.m ≤ length l.initial.v) × (length l.v ≡ length l.initial.v) × (length l.t ≡ length l.initial.t)
-
-abbrev pub decreases-loop-left : goal.decreases-loop-left
-decreases-loop-left l = l.left
+invariant-loop-left l = Scan (rec_in_value l.form) nothing_f l.s l.initial._left l.initial.i tt l.i l._left tt × (drop l.k (recs_at (rec_in_value l.form) l.s l.recs) ≡ list_at (rec_in_value l.form) l._left l.s l.i) × Gone l.form.hex l.s (recs_at (rec_in_value l.form) l.s l.recs) (list_at (rec_in_value l.form) l._left l.s l.i) l.t (take l.m l.v) × (l.k + l._left ≡ l.initial._left) × (l.m ≤ length l.initial.v) × (length l.v ≡ length l.initial.v) × (length l.t ≡ length l.initial.t)

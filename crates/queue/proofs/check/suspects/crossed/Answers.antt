@@ -9,4 +9,4 @@ pub pass-requires : goal.pass-requires
 pass-requires c = (c.requires.0, c.requires.1, c.requires.2, c.in_order-o.ensures)
 
 pub returns : goal.returns
-returns c = (c.order_rows.ensures, looked c.args.form.hex c.args.s.now _ c.order_rows.ensures c.pass.ensures)
+returns c = (c.order_rows.ensures.same, looked c.args.form.hex c.args.s.now _ c.order_rows.ensures.same c.pass.ensures)

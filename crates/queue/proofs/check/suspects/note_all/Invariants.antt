@@ -8,7 +8,4 @@ use Rattle.queue.specs.layout.RecordsAs.{recs_at}
 use Rattle.queue.proofs.check.suspects.note_all.Given as goal
 
 abbrev pub invariant-loop-left : goal.invariant-loop-left
-invariant-loop-left l = Noting l.form.hex l.s (recs_at (rec_in_value l.form) l.s l.recs) l.k (view l.form.hex l.s l.base) (list_at id_c l.c (view l.form.hex l.s l.base) l.ids) l.initial.t (take l.m l.initial.v) l.i l.left l.t (take l.len l.v) × (l.len ≤ length l.initial.v) × (length l.v ≡ length l.initial.v)
-
-abbrev pub decreases-loop-left : goal.decreases-loop-left
-decreases-loop-left l = l.left
+invariant-loop-left l = Noting l.form.hex l.s (recs_at (rec_in_value l.form) l.s l.recs) l.k (view l.form.hex l.s l.base) (list_at id_c l.c (view l.form.hex l.s l.base) l.ids) l.initial.t (take l.m l.initial.v) l.i l._left l.t (take l.len l.v) × (l.len ≤ length l.initial.v) × (length l.v ≡ length l.initial.v)

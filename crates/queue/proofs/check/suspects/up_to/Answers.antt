@@ -1,7 +1,15 @@
 use Rattle.queue.specs.check.SuspectsAs.{no_r, up_to}
-use Rattle.std.proofs.Common.{◌∙◌}
+use Rattle.std.specs.Prelude.{refl}
 use Rattle.queue.proofs.check.suspects.up_to.Goals as goal
 
-pub returns : goal.returns
+pub returns-in-Less : goal.returns-in-Less
 unfolding up_to no_r
-returns c = c.either.ensures ∙ simp (c.both.ensures, c.cmp_rows-c.ensures)
+returns-in-Less c = rw (← c.cmp_rows.ensures, c.in-Less.is) refl
+
+pub returns-in-Equal : goal.returns-in-Equal
+unfolding up_to no_r
+returns-in-Equal c = rw (← c.cmp_rows.ensures, c.in-Equal.is) refl
+
+pub returns-in-Greater : goal.returns-in-Greater
+unfolding up_to no_r
+returns-in-Greater c = rw (← c.cmp_rows.ensures, c.in-Greater.is) refl

@@ -3,22 +3,16 @@ use Rattle.std.proofs.Common.{sym, arith, length-take-le}
 use Rattle.queue.proofs.read.fees.best_at.Goals as goal
 
 pub fill-requires : goal.fill-requires
-fill-requires c = (c.requires.0, refl, refl, c.requires.1)
+fill-requires c = (c.requires.0, refl, c.requires.1)
 
-pub slice_bounds-sizes-end : goal.slice_bounds-sizes-end
-slice_bounds-sizes-end c = omega (arith, c.requires.0)
+pub slice_bounds-candidates-end : goal.slice_bounds-candidates-end
+slice_bounds-candidates-end c = omega (arith, c.requires.0)
 
 pub slice_bounds-best_known-end : goal.slice_bounds-best_known-end
-slice_bounds-best_known-end c = sym (length-take-le (length c.args.at.now) _ (omega (arith, c.requires.0, c.fill.ensures.2)))
-
-pub slice_bounds-fees-end : goal.slice_bounds-fees-end
-slice_bounds-fees-end c = omega (arith, c.requires.0)
-
-pub slice_bounds-best_known-end-2 : goal.slice_bounds-best_known-end-2
-slice_bounds-best_known-end-2 c = sym (length-take-le (length c.args.at.now) _ (omega (arith, c.requires.0, c.fill.ensures.3)))
+slice_bounds-best_known-end c = sym (length-take-le (length c.args.at.now) _ (omega (arith, c.requires.0, c.fill.ensures.1)))
 
 pub best_known-requires : goal.best_known-requires
-best_known-requires c = (c.requires.0, c.requires.1, c.fill.ensures.0, c.fill.ensures.1, c.requires.2, c.requires.3)
+best_known-requires c = (c.requires.0, c.requires.1, c.fill.ensures.0, c.requires.2, c.requires.3)
 
 pub returns : goal.returns
 returns c = c.best_known.ensures

@@ -6,7 +6,4 @@ use Rattle.std.specs.Prelude.{false}
 use Rattle.queue.proofs.read.find.find_id.Given as goal
 
 abbrev pub invariant-loop-left : goal.invariant-loop-left
-invariant-loop-left l = Scan (form_c false rec_c) (find_f l.id) l.s l.initial.left l.initial.i l.initial.i l.i l.left l.i
-
-abbrev pub decreases-loop-left : goal.decreases-loop-left
-decreases-loop-left l = l.left
+invariant-loop-left l = Scan (form_c false rec_c) (find_f l.id) l.s l.initial._left l.initial.i l.initial.i l.i l._left l.i

@@ -1,3 +1,5 @@
+use Rattle.queue.proofs.check.SuspectsRowLaws.{same_row}
+use Rattle.std.specs.Prelude.{refl}
 use Rattle.queue.proofs.read.LinksLaws.{again_is}
 use Rattle.queue.specs.bytes.ReaderLaws.{false_true}
 use Rattle.std.proofs.Common.{arith}
@@ -13,4 +15,4 @@ pub bounds-v-k : goal.bounds-v-k
 bounds-v-k c = omega (arith, c.requires, c.if-k-eq0.false)
 
 pub returns : goal.returns
-returns c = again_is c.if-k-eq0.false c.cmp_rows.ensures c.both.ensures
+returns c = again_is c.if-k-eq0.false (same_row c.cmp_rows.result c.is_eq.ensures c.cmp_rows.ensures) refl

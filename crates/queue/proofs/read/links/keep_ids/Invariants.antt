@@ -4,7 +4,4 @@ use Rattle.queue.specs.bytes.ViewAs.{view}
 use Rattle.queue.proofs.read.links.keep_ids.Given as goal
 
 abbrev pub invariant-loop-left : goal.invariant-loop-left
-invariant-loop-left l = Rowing l.s l.m (view false l.s l.base) l.c l.at l.initial.slots l.initial.t (take l.k l.initial.v) l.i l.left l.slots l.t (take l.n l.v) × (l.n + l.left ≤ l.k + l.c) × (length l.v ≡ length l.initial.v)
-
-abbrev pub decreases-loop-left : goal.decreases-loop-left
-decreases-loop-left l = l.left
+invariant-loop-left l = Rowing l.s l.m (view false l.s l.base) l.c l.at l.initial.slots l.initial.t (take l.k l.initial.v) l.i l._left l.slots l.t (take l.n l.v) × (l.n + l._left ≤ l.k + l.c) × (length l.v ≡ length l.initial.v)

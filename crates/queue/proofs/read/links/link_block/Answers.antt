@@ -6,7 +6,7 @@ pub slice_bounds-link_ordered-end-2 : goal.slice_bounds-link_ordered-end-2
 slice_bounds-link_ordered-end-2 c = sym (length-take-le c.thin-n.result _ (omega (arith, c.thin-n.ensures.1)))
 
 pub link_ordered-requires : goal.link_ordered-requires
-link_ordered-requires c = (c.requires.0, c.requires.1, c.requires.2, c.requires.3, c.requires.4, c.requires.5, c.requires.6)
+link_ordered-requires c = (c.requires.0, c.requires.1, c.requires.2, c.requires.3, c.requires.4)
 
 pub returns : goal.returns
-returns c = linked_thin c.args.at.now c.order_rows.ensures c.thin-n.ensures.0 c.link_ordered.ensures
+returns c = linked_thin c.args.at.now c.order_rows.ensures.same c.thin-n.ensures.0 c.link_ordered.ensures

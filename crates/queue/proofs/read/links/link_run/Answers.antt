@@ -4,7 +4,7 @@ use Rattle.queue.proofs.read.LinksLaws.{run_end, run_go, run_start, run_stop}
 use Rattle.queue.proofs.read.links.link_run.Goals as goal
 
 pub loop-k-init : goal.loop-k-init
-loop-k-init c = (run_start c.args.s.now c.args.v.now c.args.y c.requires.1 c.args.l.width c.args.l.row c.args.bits.now c.requires.0, omega arith, refl)
+loop-k-init c = (run_start c.args.s.now c.args.v.now c.args.y c.requires.1 c.args.l.width c.args.l.row c.args.bits.now c.requires.0, refl)
 
 pub offset_bounds-v-k : goal.offset_bounds-v-k
 offset_bounds-v-k c = omega (arith, c.loop-k-test.true)
@@ -12,26 +12,20 @@ offset_bounds-v-k c = omega (arith, c.loop-k-test.true)
 pub bounds-v-k : goal.bounds-v-k
 bounds-v-k c = omega (arith, c.loop-k-test.true)
 
-pub shape_of-bits-then-both : goal.shape_of-bits-then-both
-shape_of-bits-then-both c = c.loop-k.invariant.2
+pub shape_of-bits-then-ordered-found : goal.shape_of-bits-then-ordered-found
+shape_of-bits-then-ordered-found c = c.loop-k.invariant.1
 
-pub returns-then-both : goal.returns-then-both
-returns-then-both c = run_stop c.args.s.now c.args.v.now c.args.y c.requires.1 c.requires.0 c.loop-k.invariant.0 c.loop-k.invariant.1 c.loop-k-test.true c.is_row_of-found.ensures c.both.ensures c.if-both.true
+pub returns-then-ordered-found : goal.returns-then-ordered-found
+returns-then-ordered-found c = run_stop c.args.s.now c.args.v.now c.args.y c.requires.1 c.requires.0 c.loop-k.invariant.0 (omega arith) c.loop-k-test.true c.is_row_of-found.ensures refl c.if-ordered-found.true
 
 pub link_row-requires : goal.link_row-requires
-link_row-requires c = (c.requires.2, omega (arith, c.requires.3, c.loop-k.invariant.2))
-
-pub overflow_add-k : goal.overflow_add-k
-overflow_add-k c = omega (arith, c.loop-k-test.true)
-
-pub loop-k-smaller : goal.loop-k-smaller
-loop-k-smaller c = omega (arith, c.loop-k-test.true)
+link_row-requires c = (c.requires.2, omega (arith, c.requires.3, c.loop-k.invariant.1))
 
 pub loop-k-preserved : goal.loop-k-preserved
-loop-k-preserved c = (run_go c.args.s.now c.args.v.now c.args.y c.requires.1 c.requires.0 c.loop-k.invariant.0 c.loop-k.invariant.1 c.loop-k-test.true c.is_row_of-found.ensures c.link_row.ensures, omega (arith, c.loop-k.invariant.1), c.link_row.ensures.size ∙ c.loop-k.invariant.2)
+loop-k-preserved c = (run_go c.args.s.now c.args.v.now c.args.y c.requires.1 c.requires.0 c.loop-k.invariant.0 (omega arith) c.loop-k-test.true c.is_row_of-found.ensures c.link_row.ensures, c.link_row.ensures.size ∙ c.loop-k.invariant.1)
 
 pub shape_of-bits : goal.shape_of-bits
-shape_of-bits c = c.loop-k.invariant.2
+shape_of-bits c = c.loop-k.invariant.1
 
 pub returns : goal.returns
-returns c = run_end c.args.s.now c.args.v.now c.args.y c.requires.1 c.requires.0 c.loop-k.invariant.0 c.loop-k.invariant.1 c.loop-k-test.false
+returns c = run_end c.args.s.now c.args.v.now c.args.y c.requires.1 c.requires.0 c.loop-k.invariant.0 (omega arith) c.loop-k-test.false

@@ -1,9 +1,5 @@
-use Rattle.std.specs.Prelude.{◌-◌, length}
 use Rattle.queue.proofs.read.LinksLaws.{Thinning}
 use Rattle.queue.proofs.read.links.thin.Given as goal
 
 abbrev pub invariant-loop-i : goal.invariant-loop-i
 invariant-loop-i l = Thinning l.s l.initial.v l.i l.k l.v
-
-abbrev pub decreases-loop-i : goal.decreases-loop-i
-decreases-loop-i l = length l.initial.v - l.i

@@ -8,9 +8,6 @@ loop-i-init c = counting c.args.bits.now c.args.w _ c.requires.3
 pub raise_line-requires : goal.raise_line-requires
 raise_line-requires c = (counting_room c.loop-i.invariant c.loop-i-test.true c.requires.0, c.requires.1, c.loop-i.invariant.few, (counting_top c.loop-i.invariant c.loop-i-test.true c.requires.2 c.requires.1).0)
 
-pub overflow_add-i : goal.overflow_add-i
-overflow_add-i c = omega (arith, c.loop-i-test.true)
-
 pub overflow_add-o : goal.overflow_add-o
 overflow_add-o c = omega (arith, (counting_top c.loop-i.invariant c.loop-i-test.true c.requires.2 c.requires.1).1)
 
@@ -19,9 +16,6 @@ overflow_mul-top c = omega (arith, c.requires.1)
 
 pub overflow_add-top : goal.overflow_add-top
 overflow_add-top c = omega (arith, (counting_top c.loop-i.invariant c.loop-i-test.true c.requires.2 c.requires.1).0)
-
-pub loop-i-smaller : goal.loop-i-smaller
-loop-i-smaller c = omega (arith, c.loop-i-test.true)
 
 pub loop-i-preserved : goal.loop-i-preserved
 loop-i-preserved c = counting_go c.loop-i.invariant c.loop-i-test.true c.raise_line.ensures.0 c.raise_line.ensures.1

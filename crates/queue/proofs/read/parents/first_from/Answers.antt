@@ -14,12 +14,6 @@ bounds-cs-i c = omega (arith, c.loop-i-test.true)
 pub returns-then-cs-i-eq1 : goal.returns-then-cs-i-eq1
 returns-then-cs-i-eq1 c = first_here c.loop-i.invariant c.loop-i-test.true c.if-cs-i-eq1.true
 
-pub overflow_add-i : goal.overflow_add-i
-overflow_add-i c = omega (arith, c.loop-i-test.true)
-
-pub loop-i-smaller : goal.loop-i-smaller
-loop-i-smaller c = omega (arith, c.loop-i-test.true)
-
 pub loop-i-preserved : goal.loop-i-preserved
 loop-i-preserved c = first_on c.loop-i.i c.loop-i.invariant c.if-cs-i-eq1.false
 

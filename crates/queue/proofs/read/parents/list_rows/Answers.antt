@@ -1,5 +1,5 @@
-use Rattle.std.specs.Prelude.{length, refl}
-use Rattle.std.proofs.Common.{arith}
+use Rattle.std.specs.Prelude.{◌≡◌, ℕ, take, length, refl}
+use Rattle.std.proofs.Common.{ap, ◌∙◌, le_refl, arith}
 use Rattle.queue.proofs.read.LinksBitLaws.{line_in}
 use Rattle.queue.proofs.read.ParentsLaws.{listing, listing_end, listing_go, listing_stop}
 use Rattle.queue.proofs.read.parents.list_rows.Goals as goal
@@ -46,12 +46,6 @@ overflow_add-i c = omega (arith, c.if-n-i.false)
 pub lower_line-from-requires : goal.lower_line-from-requires
 lower_line-from-requires c = let z = line_in (length c.args.cs.now) c.args.w c.first_from-i.result (omega (arith, c.if-n-i.false)) in (omega (arith, z, c.requires.1), c.requires.2)
 
-pub overflow_add-m : goal.overflow_add-m
-overflow_add-m c = omega (arith, c.loop-m-test.true)
-
-pub loop-m-smaller : goal.loop-m-smaller
-loop-m-smaller c = omega (arith, c.loop-m-test.true)
-
 pub loop-m-preserved : goal.loop-m-preserved
 loop-m-preserved c = listing_go c.loop-m.invariant c.requires.4 c.loop-m-test.true c.first_from-i.ensures (omega (arith, c.if-n-i.false)) c.lower_line-from.ensures refl
 
@@ -62,4 +56,5 @@ pub shape_of-picked : goal.shape_of-picked
 shape_of-picked c = c.loop-m.invariant.room
 
 pub returns : goal.returns
-returns c = (listing_end c.loop-m.invariant c.requires.4 c.loop-m-test.false, c.loop-m.invariant.upto)
+returns c = let e : length c.args.cs.now ≡ c.loop-m.m = omega (arith, c.loop-m.invariant.upto, c.loop-m-test.false) in
+    (ap (λ (n : ℕ). take n c.loop-m.picked) e ∙ listing_end c.loop-m.invariant c.requires.4 c.loop-m-test.false, le_refl _)

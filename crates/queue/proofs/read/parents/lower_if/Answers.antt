@@ -1,3 +1,4 @@
+use Rattle.std.specs.Prelude.{refl}
 use Rattle.std.proofs.Common.{ap, arith}
 use Rattle.std.specs.Prelude.{not}
 use Rattle.queue.proofs.read.ParentsLaws.{lower_first, lower_idle, lower_later, lower_off, lower_out}
@@ -12,8 +13,8 @@ returns-then-cs-k c = lower_out c.args.odd c.args.k _ _ (ap not c.if-not-odd.fal
 pub returns-then-c-eq0 : goal.returns-then-c-eq0
 returns-then-c-eq0 c = lower_idle c.args.odd c.args.k _ (ap not c.if-not-odd.false) c.if-c-eq0.true
 
-pub returns-then-both : goal.returns-then-both
-returns-then-both c = lower_first c.args.odd c.args.k c.args.cs.now c.args.from (ap not c.if-not-odd.false) (omega (arith, c.if-cs-k.false)) c.both.ensures c.if-both.true
+pub returns-then-c-k : goal.returns-then-c-k
+returns-then-c-k c = lower_first c.args.odd c.args.k c.args.cs.now c.args.from (ap not c.if-not-odd.false) (omega (arith, c.if-cs-k.false)) refl c.if-c-k.true
 
 pub returns : goal.returns
-returns c = lower_later c.args.odd c.args.k c.args.cs.now c.args.from (ap not c.if-not-odd.false) (omega (arith, c.if-cs-k.false)) c.both.ensures c.if-c-eq0.false c.if-both.false
+returns c = lower_later c.args.odd c.args.k c.args.cs.now c.args.from (ap not c.if-not-odd.false) (omega (arith, c.if-cs-k.false)) refl c.if-c-eq0.false c.if-c-k.false

@@ -19,14 +19,8 @@ bounds-bits-start c = omega (arith, c.requires.0, c.loop-a-test.true)
 pub lower_word-f-requires : goal.lower_word-f-requires
 lower_word-f-requires c = omega (arith, c.requires.1, c.loop-a.invariant.0.at, c.loop-a-test.true)
 
-pub overflow_add-a : goal.overflow_add-a
-overflow_add-a c = omega (arith, c.loop-a-test.true)
-
 pub overflow_add-j : goal.overflow_add-j
 overflow_add-j c = omega (arith, c.requires.1, c.loop-a.invariant.0.at, c.loop-a-test.true)
-
-pub loop-a-smaller : goal.loop-a-smaller
-loop-a-smaller c = omega (arith, c.loop-a-test.true)
 
 pub loop-a-preserved : goal.loop-a-preserved
 loop-a-preserved c = (words_go lower down lower_nil lower_cons c.loop-a.invariant.0 c.loop-a-test.true c.lower_word-f.ensures.is, λ q. c.lower_word-f.ensures.clear (c.loop-a.invariant.1 q), omega (arith, c.loop-a.invariant.2))

@@ -19,17 +19,11 @@ bounds-bits-start c = omega (arith, c.requires.0, c.loop-a-test.true)
 pub raise_word-requires : goal.raise_word-requires
 raise_word-requires c = (c.loop-a.invariant.1, omega (arith, c.requires.3, c.loop-a.invariant.0.at, c.loop-a.invariant.2, c.loop-a-test.true), omega (arith, c.requires.1, c.loop-a.invariant.0.at, c.loop-a-test.true))
 
-pub overflow_add-a : goal.overflow_add-a
-overflow_add-a c = omega (arith, c.loop-a-test.true)
-
 pub overflow_add-j : goal.overflow_add-j
 overflow_add-j c = omega (arith, c.requires.1, c.loop-a.invariant.0.at, c.loop-a-test.true)
 
 pub overflow_add-top : goal.overflow_add-top
 overflow_add-top c = omega (arith, c.requires.3, c.loop-a.invariant.0.at, c.loop-a.invariant.2, c.loop-a-test.true)
-
-pub loop-a-smaller : goal.loop-a-smaller
-loop-a-smaller c = omega (arith, c.loop-a-test.true)
 
 pub loop-a-preserved : goal.loop-a-preserved
 loop-a-preserved c = (words_go raise up raise_nil raise_cons c.loop-a.invariant.0 c.loop-a-test.true c.raise_word.ensures.0, c.raise_word.ensures.1, omega (arith, c.loop-a.invariant.2), omega (arith, c.loop-a.invariant.3))

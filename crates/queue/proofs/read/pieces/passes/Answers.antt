@@ -15,7 +15,7 @@ returns-in-DueBy c = rw c.in-DueBy.is c.is_due.ensures
 
 pub returns-in-Confirmed : goal.returns-in-Confirmed
 unfolding passes_f
-returns-in-Confirmed c = rw c.in-Confirmed.is c.both.ensures
+returns-in-Confirmed c = rw (c.in-Confirmed.is, c.is_some.ensures)
 
 pub returns-in-Entries : goal.returns-in-Entries
 unfolding passes_f

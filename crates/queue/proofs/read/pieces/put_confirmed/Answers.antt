@@ -5,11 +5,11 @@ use Rattle.queue.proofs.read.pieces.put_confirmed.Goals as goal
 
 pub copy_part-a-requires : goal.copy_part-a-requires
 unfolding piece_len_value
-copy_part-a-requires c = (omega (arith, c.requires.0.id), omega (arith, c.requires.1))
+copy_part-a-requires c = record { read = omega (arith, c.requires.0.id); written = omega (arith, c.requires.1) }
 
 pub copy_part-requires : goal.copy_part-requires
 unfolding piece_len_value
-copy_part-requires c = (omega (arith, c.requires.0.up, c.requires.0.entry.within), omega (arith, c.requires.1, kept c.copy_part-a.ensures, c.copy_part-a.ensures.next, c.requires.0.up))
+copy_part-requires c = record { read = omega (arith, c.requires.0.up, c.requires.0.entry.within); written = omega (arith, c.requires.1, kept c.copy_part-a.ensures, c.copy_part-a.ensures.next, c.requires.0.up) }
 
 pub returns : goal.returns
 unfolding piece_at piece_len_value

@@ -4,11 +4,11 @@ use Rattle.queue.proofs.read.pieces.put_piece.Goals as goal
 
 pub copy_part-requires : goal.copy_part-requires
 unfolding piece_len_value
-copy_part-requires c = let h = rw c.in-Ids.is at c.requires.1 in (omega (arith, c.requires.0.id), omega arith)
+copy_part-requires c = let h = rw c.in-Ids.is at c.requires.1 in record { read = omega (arith, c.requires.0.id); written = omega arith }
 
 pub copy_part-requires-in-Guarded : goal.copy_part-requires-in-Guarded
 unfolding piece_len_value
-copy_part-requires-in-Guarded c = let h = rw c.in-Guarded.is at c.requires.1 in (omega (arith, c.requires.0.id), omega arith)
+copy_part-requires-in-Guarded c = let h = rw c.in-Guarded.is at c.requires.1 in record { read = omega (arith, c.requires.0.id); written = omega arith }
 
 pub put_due-requires : goal.put_due-requires
 unfolding piece_len_value

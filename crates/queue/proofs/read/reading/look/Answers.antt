@@ -1,25 +1,22 @@
+use Rattle.queue.proofs.RefusalLaws.{unsound}
 use Rattle.queue.proofs.check.AreaLaws.{recs_stand}
-use Rattle.queue.proofs.read.ReadingLaws.{look_0, look_13, look_3, look_5}
+use Rattle.queue.proofs.read.ReadingLaws.{look_3, look_5, look_found}
 use Rattle.queue.specs.bytes.ViewAs.{view_raw}
-use Rattle.std.specs.Prelude.{false, refl}
+use Rattle.std.specs.Prelude.{refl}
 use Rattle.std.proofs.Common.{arith}
-use Rattle.std.proofs.lemmas.Bool.{not-false, not-true}
 use Rattle.queue.proofs.read.reading.look.Goals as goal
 
-pub returns-then-not-a : goal.returns-then-not-a
-returns-then-not-a c = look_3 c.args.area.now c.args.id.now c.area_at-a.ensures (not-true _ c.if-not-a.true)
+pub returns-in_err-a : goal.returns-in_err-a
+returns-in_err-a c = rw (unsound _ c.from_residual.ensures.1 c.in_err-a.ensures) (look_3 _ _ c.in_err-a.ensures.is)
 
 pub returns-then-id-ne32 : goal.returns-then-id-ne32
-returns-then-id-ne32 c = look_5 c.args.area.now c.args.id.now c.area_at-a.ensures (not-false _ c.if-not-a.false) c.if-id-ne32.true
+returns-then-id-ne32 c = look_5 _ _ c.in_ok-a.ensures c.if-id-ne32.true
 
-pub id_at-k-requires : goal.id_at-k-requires
-id_at-k-requires c = let l = view_raw false c.args.id.now 0 refl in omega (arith, c.if-id-ne32.false)
+pub id-k-requires : goal.id-k-requires
+id-k-requires c = rw c.new.ensures (let l = view_raw c.args.id.now 0 refl in omega (arith, c.if-id-ne32.false))
 
-pub find_id-f-requires : goal.find_id-f-requires
-find_id-f-requires c = recs_stand (c.area_at-a.ensures.good (not-false _ c.if-not-a.false)).2.store
-
-pub returns-then-not-f : goal.returns-then-not-f
-returns-then-not-f c = look_13 c.args.area.now c.args.id.now c.area_at-a.ensures (not-false _ c.if-not-a.false) c.if-id-ne32.false c.id_at-k.result c.id_at-k.ensures c.find_id-f.ensures (not-true _ c.if-not-f.true)
+pub find_id-requires : goal.find_id-requires
+find_id-requires c = recs_stand c.in_ok-a.ensures.read.store
 
 pub returns : goal.returns
-returns c = look_0 c.args.area.now c.args.id.now c.area_at-a.ensures (not-false _ c.if-not-a.false) c.if-id-ne32.false c.id_at-k.result c.id_at-k.ensures c.find_id-f.ensures (not-false _ c.if-not-f.false)
+returns c = look_found _ _ c.in_ok-a.ensures c.if-id-ne32.false _ (rw c.new.ensures at c.id-k.ensures.is) c.find_id.result c.ok_or.ensures.value c.find_id.ensures
