@@ -2,6 +2,7 @@
 pub mod ReadingLaws
 pub mod SelectLaws
 pub mod RankedLaws
+pub mod RankedPlaceLaws
 pub mod PiecesLaws
 pub mod FindLaws
 pub mod ReservedLaws

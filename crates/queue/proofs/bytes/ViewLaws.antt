@@ -132,6 +132,17 @@ module _ (v w : List ℕ) (a b k : ℕ) {x y : ℕ} (sv : SmallAt v) (sw : Small
   pub words_same : x ≤ y → y ≤ x → cmp_l (part (32 - 8 * k) v (a + 8 * k)) (part (32 - 8 * k) w (b + 8 * k)) ≡ cmp_l (part (32 - 8 * (k + 1)) v (a + 8 * (k + 1))) (part (32 - 8 * (k + 1)) w (b + 8 * (k + 1)))
   words_same d u = let e : 8 * (k + 1) ≡ 8 * k + 8 = omega arith in rw e (words.same (omega arith))
 
+-- the first word decides where it differs
+module _ (v w : List ℕ) (a b : ℕ) {x y : ℕ} (sv : SmallAt v) (sw : SmallAt w) (lv : a + 32 ≤ length v) (lw : b + 32 ≤ length w) (p : x ≡ be_at 8 v a) (q : y ≡ be_at 8 w b) where
+  first_of : (u : List ℕ) (c : ℕ) → be_at 8 u c ≡ be_at 8 u (c + 8 * 0)
+  first_of u c = let e : c ≡ c + 8 * 0 = omega arith in ap (be_at 8 u) e
+
+  pub first_less : x < y → 0 ≡ cmp_l (part 32 v a) (part 32 w b)
+  first_less h = sym (words_less v w a b 0 sv sw (omega arith) lv lw (p ∙ first_of v a) (q ∙ first_of w b) h) ∙ cmp_start v w a b 32
+
+  pub first_more : y < x → 2 ≡ cmp_l (part 32 v a) (part 32 w b)
+  first_more h = sym (words_more v w a b 0 sv sw (omega arith) lv lw (p ∙ first_of v a) (q ∙ first_of w b) h) ∙ cmp_start v w a b 32
+
 -- an id by value
 pub id_whole : (x : List ℕ) → length x ≡ 32 → part 32 x 0 ≡ x
 unfolding part

@@ -1,6 +1,6 @@
 -- Flags as the bits of words. Assumes nothing.
-use Rattle.std.specs.Prelude.{◌≡◌, refl, Bool, true, false, cond, ◌&&◌, List, [], ◌∷◌, ◌++◌, ℕ, zero, suc, ◌+◌, ◌*◌, ◌/◌, ◌%◌, ◌^◌, ◌≤◌, ◌<◌, leb, eqb, length, get_or, set}
-use Rattle.std.proofs.Common.{ap, sym, ◌∙◌, arith, mod-lt, div-add-mod', div-lt_iff_lt-mul, mul_comm, pow_pos, length-append, get_or-append-add, leb-true}
+use Rattle.std.specs.Prelude.{◌≡◌, refl, Bool, true, false, cond, ◌&&◌, List, [], ◌∷◌, ◌++◌, ℕ, zero, suc, ◌+◌, ◌*◌, ◌/◌, ◌%◌, ◌^◌, ◌≤◌, ◌<◌, leb, ltb, eqb, length, get_or, set}
+use Rattle.std.proofs.Common.{ap, sym, ◌∙◌, arith, mod-lt, div-add-mod', div-lt_iff_lt-mul, mul_comm, pow_pos, length-append, get_or-append-add, leb-true, ltb-true}
 use Rattle.std.proofs.Math.Nat.{max-zero}
 use Rattle.std.proofs.Math.ListN.{get_or-append as List·getD-append}
 use Rattle.std.specs.Int.Bits.{bit_or, or_zero_r}
@@ -100,10 +100,11 @@ cleared_flags l f h z = none_set l (bits_in f) (rw (bits_long f) h) (bits_zero f
 pub words_room : {n m w : ℕ} → w ≡ (n + 63) / 64 → w ≤ m → n ≤ 64 * m
 words_room {n} {m} {w} e h = let d = div-add-mod' (n + 63) 64 in let r = mod-lt (n + 63) (let z : 0 < 64 = omega arith in z) in let k : (n + 63) / 64 ≤ m = rw e at h in omega arith
 
-pub noted_room : (go : Bool) (w m : ℕ) {r : Bool} → r ≡ (go && leb w m) → r ≡ true → (go ≡ true) × (w ≤ m)
-noted_room go w m {r} e t =
-    let u = and_true go (leb w m) (sym e ∙ t) in
-    (u.0, leb-true w m u.1)
+pub noted_room : (go : Bool) (w m k : ℕ) {r : Bool} → r ≡ ((go && leb w m) && ltb 0 k) → r ≡ true → (go ≡ true) × (w ≤ m) × (0 < k)
+noted_room go w m k {r} e t =
+    let u = and_true (go && leb w m) (ltb 0 k) (sym e ∙ t) in
+    let v = and_true go (leb w m) u.0 in
+    (v.0, leb-true w m v.1, ltb-true 0 k u.1)
 
 -- what lists the flags' places need
 pub in_bits : (f : List ℕ) {i : ℕ} → i < 64 * length f → i < length (bits_in f)

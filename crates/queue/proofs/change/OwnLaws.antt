@@ -347,6 +347,11 @@ module _ (p : Id → Bool) {s : Bytes} {n at i left : ℕ} {t t₀ : List ℕ} (
   unfolding miss_r miss_all wanted_of
   misses_end e = end x e
 
+pub miss_size : (p : Id → Bool) (l : List Id) (t : List ℕ) → length (miss_all p l t) ≡ length t
+unfolding miss_all
+miss_size p [] t = refl
+miss_size p (z ∷ l) t = miss_size p l (cond (p z) t (mark_l t (hash_l z))) ∙ cases (p z) (λ k. rw k) (λ k. rw k (mark_size t (hash_l z)))
+
 miss_old : (p : Id → Bool) (l : List Id) (t : List ℕ) → 0 < length t → (h : ℕ) → marked t h ≡ true → marked (miss_all p l t) h ≡ true
 unfolding miss_all
 miss_old p [] t n h e = e
@@ -415,6 +420,7 @@ module _ (c : Id → Bool) (b : List Id) where
 pub noted : (ids : List Id) (l : List Id) (f₀ f t₀ t : List ℕ) → Fits (length l) f → 0 < length t₀ → FlagsAre (λ z. false) l f₀ → bits_in f ≡ mark_all_value (λ z. among? z ids) l f₀ 0 → t ≡ miss_all (λ z. among? z ids) l t₀ → Noted (λ z. among? z ids) l f t
 noted ids l f₀ f t₀ t r n z e d = record {
   room = r;
+  some = rw (d, miss_size (λ z. among? z ids) l t₀) n;
   are = later_flags (λ z. among? z ids) f₀ l (λ z. false) z e;
   new = λ y i h. rw d (miss_new (λ z. among? z ids) l t₀ n y i h);
 }

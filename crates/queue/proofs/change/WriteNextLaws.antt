@@ -10,7 +10,7 @@ use Rattle.queue.specs.layout.FrameCodec.{rec_c, terms_c, place_c, body_c}
 use Rattle.queue.specs.bytes.ViewAs.{view}
 use Rattle.queue.specs.bytes.ReaderLaws as readlaws
 use Rattle.queue.specs.bytes.ReaderLaws.{be_at, be_here}
-use Rattle.queue.specs.layout.FrameAs.{terms_at, facts_of, SeenAs}
+use Rattle.queue.specs.layout.FrameAs.{terms_at, facts_of, SeenAs, SeenFrom}
 use Rattle.queue.specs.theorems.Plain.{terms_plain, place_plain, body_plain, rec_plain}
 use Rattle.queue.specs.theorems.Arguments.{Small}
 use Rattle.queue.specs.change.TouchAs.{entry_in, SeenOf}
@@ -101,7 +101,7 @@ next_long s base x t v n p w =
     simp length-append (omega (arith, p.id, p.up))
 
 -- ---- the parts of a record that was read
-pub caller_byte : {v : Bytes} {x : Seen} {r : Rec} → SeenAs v x r → be_last 1 x.facts.caller ≡ codec.be 1 r.caller
+pub caller_byte : {v : Bytes} {x : Seen} {r : Rec} {from k : ℕ} → SeenFrom from k v x r → be_last 1 x.facts.caller ≡ codec.be 1 r.caller
 unfolding facts_of
 caller_byte {x = x} w = be_same 1 x.facts.caller w.small.caller ∙ ap (λ (f : Facts). codec.be 1 f.caller) w.facts
 

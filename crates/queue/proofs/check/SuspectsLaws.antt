@@ -232,8 +232,8 @@ pub grown_out : {last hex : Bool} {s : Bytes} {all : List Rec} {z : List ℕ} �
 grown_out e = record { bad = λ t. false_true (sym e ∙ t) }
 
 -- ---- one id
-pub full_twice : {last hex : Bool} {s : Bytes} {all : List Rec} {z : List ℕ} → all? (held? hex s all) z ≡ true → Full last hex s all z → Twice last all
-full_twice {hex = hex} {s} {all} {z} a g = record { bad = λ l. crosses_yes hex s z all a 0 all refl (g.bad l) }
+pub full_twice : {last hex : Bool} {s : Bytes} {all : List Rec} {z : List ℕ} (t : List ℕ) → all? (held? hex s all) z ≡ true → Full last hex s all z → Twice last all t t
+full_twice {hex = hex} {s} {all} {z} t a g = record { size = refl; old = λ _ m. m; bad = λ l. crosses_yes hex s z all a 0 all refl (g.bad l) }
 
 pub held_row : (hex : Bool) (s : Bytes) (all : List Rec) (k w : ℕ) (y : Id) → id_r hex s w ≡ y → no_r w ≡ k → Owned all k (same? y) → held? hex s all w ≡ true
 unfolding held?
@@ -309,6 +309,9 @@ module _ {hex : Bool} {s : Bytes} {all : List Rec} {k : ℕ} {v : Bytes} {own : 
             one = λ a d o n m. split d n (λ q. g.one a d q (x.old (hash_l d) m)) (λ q. x.one (g.back a) d o q m);
             new = λ d o n. split d n (λ q. g.new d q) (λ q. g.old (hash_l d) (x.new d o q));
           }
+
+  pub noting_stop : {last : Bool} {t' : List ℕ} → Twice last all t t' → Twice last all t₀ t'
+  noting_stop g = record { size = g.size ∙ x.size; old = λ h m. g.old h (x.old h m); bad = g.bad }
 
   pub noting_end : left ≡ 0 → Noted hex s all k (λ d. among? d own) t₀ z₀ t z
   noting_end e =

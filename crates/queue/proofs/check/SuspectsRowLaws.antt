@@ -1,6 +1,6 @@
 -- The laws of the suspects' rows: their ids, their order, the sort's swaps, the bisection. Assumes nothing.
 use Rattle.std.specs.Prelude.{◌≡◌, refl, Bool, true, false, not, ◌&&◌, ◌||◌, List, [], ◌∷◌, ℕ, zero, suc, ◌+◌, ◌-◌, ◌*◌, ◌/◌, ◌%◌, ◌≤◌, ◌<◌, ltb, leb, eqb, length, take, drop, get_or}
-use Rattle.std.proofs.Common.{ap, sym, ◌∙◌, arith, add-one, length-drop, drop_of_length-le, drop-drop, drop-cons, eqb-true, eq-eqb, ne_eqb, ltb-true, ltb-false, le-ltb, leb-true, le-leb}
+use Rattle.std.proofs.Common.{ap, subst, sym, ◌∙◌, arith, add-one, length-drop, drop_of_length-le, drop-drop, drop-cons, eqb-true, eq-eqb, ne_eqb, ltb-true, ltb-false, le-ltb, leb-true, le-leb}
 use Rattle.std.proofs.Common.{sum_by, IsPermutation, leb-false, Bor, Ordering}
 use Rattle.std.specs.Ordering.{is_lt, nat_cmp}
 use Rattle.std.specs.Cmp.{IsStrictWeakOrder}
@@ -16,8 +16,9 @@ use Rattle.std.proofs.lemmas.List.{get_or_default}
 use Rattle.queue.specs.Codec.{cases}
 use Rattle.queue.specs.bytes.Parts.{part}
 use Rattle.queue.specs.Lists.{and_true}
+use Rattle.queue.proofs.bytes.ViewLaws.{first_less, first_more, id_whole}
 use Rattle.queue.specs.bytes.OrderLaws.{cmp_self, cmp_flip, same_is, below_trans, or_true}
-use Rattle.queue.specs.bytes.ReaderLaws.{false_true}
+use Rattle.queue.specs.bytes.ReaderLaws.{be_at, false_true, SmallAt}
 use Rattle.queue.specs.bytes.ViewAs.{view, pairs}
 use Rattle.std.specs.Ordering.{is_eq}
 use Rattle.std.specs.declared.cmp.Ordering.{Ordering}
@@ -63,6 +64,19 @@ module _ (hex : Bool) (s : Bytes) (x : ℕ) where
   unfolding id_r
   id_long h = rw (le-leb 32 _ h)
 
+  -- read from where it stands
+  module _ {a : List ℕ} (p : a ≡ view hex s (x / 4294967296)) (h : 32 ≤ length a) where
+    id_there : id_r hex s x ≡ part 32 a 0
+    id_there = id_long (let j = ap length p in omega arith) ∙ ap (λ (z : List ℕ). part 32 z 0) (sym p)
+
+    pub id_read : {id : Id} → id ≡ part 32 a 0 → id_r hex s x ≡ id
+    id_read q = id_there ∙ sym q
+
+    pub cmp_by : {w id : Id} {c : ℕ} → w ≡ id → length id ≡ 32 → c ≡ cmp_l (part 32 a 0) (part 32 w 0) → c ≡ cmp_l (id_r hex s x) id
+    cmp_by {w} {id} q n k =
+        let e : part 32 w 0 ≡ id = ap (λ (z : List ℕ). part 32 z 0) q ∙ id_whole id n in
+        k ∙ rw (id_there, e) refl
+
 -- equal in the order, and as the paper counts it
 pub same_row : (o : Ordering) {t : Bool} {c : ℕ} → t ≡ is_eq o → order_number o ≡ c → t ≡ eqb c 1
 same_row o f e = f ∙ order_eq o ∙ ap (λ (n : ℕ). eqb n 1) e
@@ -88,6 +102,23 @@ module _ (hex : Bool) (s : Bytes) (x y : ℕ) {a b : ℕ} (p : a ≡ length (vie
   pub cmp_both : {r : ℕ} → 32 ≤ a → 32 ≤ b → r ≡ cmp_l (part 32 (view hex s (x / 4294967296)) 0) (part 32 (view hex s (y / 4294967296)) 0) → r ≡ cmp_l (id_r hex s x) (id_r hex s y)
   cmp_both h k e = rw (id_long hex s x (omega arith), id_long hex s y (omega arith)) e
 
+-- by their first words
+module _ (hex : Bool) (s : Bytes) (x y : ℕ) {a b : List ℕ} (p : a ≡ view hex s (x / 4294967296)) (q : b ≡ view hex s (y / 4294967296)) (h : 32 ≤ length a) (k : 32 ≤ length b) where
+  cmp_there : {c : ℕ} → c ≡ cmp_l (part 32 a 0) (part 32 b 0) → c ≡ cmp_l (id_r hex s x) (id_r hex s y)
+  cmp_there {c} e = cmp_both hex s x y (ap length p) (ap length q) h k (subst (λ (z : List ℕ). c ≡ cmp_l (part 32 z 0) (part 32 (view hex s (y / 4294967296)) 0)) p (subst (λ (z : List ℕ). c ≡ cmp_l (part 32 a 0) (part 32 z 0)) q e))
+
+  module _ (sa : SmallAt a) (sb : SmallAt b) {w n : ℕ} (f : w ≡ be_at 8 a 0) (g : n ≡ be_at 8 b 0) where
+    pub cmp_less : w < n → 0 ≡ cmp_l (id_r hex s x) (id_r hex s y)
+    cmp_less t = cmp_there (first_less a b 0 0 sa sb (omega arith) (omega arith) f g t)
+
+    pub cmp_more : n < w → 2 ≡ cmp_l (id_r hex s x) (id_r hex s y)
+    cmp_more t = cmp_there (first_more a b 0 0 sa sb (omega arith) (omega arith) f g t)
+
+nothing_first : (l : Id) → length l ≡ 32 → cmp_l [] l ≡ 0
+unfolding cmp_l
+nothing_first [] h = absurd (let z : ⊥ = omega arith in z)
+nothing_first (b ∷ l) h = refl
+
 -- ---- the order of rows
 module _ (hex : Bool) (s : Bytes) where
   pub up_by : {X : Type 0} (x y : ℕ) → up_to hex s x y ≡ true → (cmp_l (id_r hex s x) (id_r hex s y) ≡ 0 → X) → (id_r hex s x ≡ id_r hex s y → no_r x ≤ no_r y → X) → X
@@ -105,6 +136,28 @@ module _ (hex : Bool) (s : Bytes) where
   up_same : (x y : ℕ) → id_r hex s x ≡ id_r hex s y → no_r x ≤ no_r y → up_to hex s x y ≡ true
   unfolding up_to
   up_same x y e h = rw (e, cmp_self (id_r hex s y), le-leb (no_r x) (no_r y) h)
+
+  -- by the first words of two ids
+  module _ (x y : ℕ) {a : List ℕ} (p : a ≡ view hex s (x / 4294967296)) (k : 32 ≤ length (view hex s (y / 4294967296))) where
+    pub up_none : length a < 32 → true ≡ up_to hex s x y
+    up_none h = let j = ap length p in sym (up_lower x y (sym (cmp_first hex s x y refl refl (omega arith) k)))
+
+    module _ {w n : ℕ} (h : 32 ≤ length a) (sa : SmallAt a) (sb : SmallAt (view hex s (y / 4294967296))) (f : w ≡ be_at 8 a 0) (g : n ≡ be_at 8 (view hex s (y / 4294967296)) 0) where
+      pub up_first : w < n → true ≡ up_to hex s x y
+      up_first t = sym (up_lower x y (sym (cmp_less hex s x y p refl h k sa sb f g t)))
+
+      pub up_last : n < w → false ≡ up_to hex s x y
+      unfolding up_to
+      up_last t = let e = cmp_more hex s x y p refl h k sa sb f g t in rw (← e) refl
+
+  -- by what is known of y's id
+  module _ (x y : ℕ) {id : Id} (e : id_r hex s y ≡ id) where
+    pub up_short : length (view hex s (x / 4294967296)) < 32 → length id ≡ 32 → true ≡ up_to hex s x y
+    up_short h n = let z = nothing_first id n in sym (up_lower x y (rw (id_short hex s x h, e) z))
+
+    pub up_at : {c : ℕ} → c ≡ cmp_l (id_r hex s x) id → eqb c 0 || (eqb c 1 && leb (x % 4294967296) (y % 4294967296)) ≡ up_to hex s x y
+    unfolding up_to no_r
+    up_at k = rw (k, e) refl
 
   up_self : (x : ℕ) → up_to hex s x x ≡ true
   up_self x = up_same x x refl (omega arith)

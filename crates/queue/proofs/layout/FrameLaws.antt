@@ -87,8 +87,16 @@ whole_of : {A : Type 0} (𝓐 : Codec A) (s : Bytes) (n at : ℕ) (l : List A) (
 unfolding whole list_at
 whole_of 𝓐 s n at l t e = rw e (refl, refl)
 
-pub listed : {s : Bytes} {at next : ℕ} {x : Items} → IsCounted s at 2 32 x.len x.start next → Found ids_c s at next (ListAs s x)
-listed {s} {at} {next} {x} y =
+-- items that were counted: how many they are, where they are read from, and that their number fits its w bytes
+abbrev pub Listed : {A : Type 0} → Codec A → Bytes → ℕ → ℕ → ℕ → ℕ → List A → Type 0
+Listed 𝓐 s w len start next l = (length l ≡ len) × (decs 𝓐 len (drop start s) ≡ got l (drop next s)) × (start ≤ length s) × (len < 256 ^ w)
+
+pub listed : {A : Type 0} {𝓐 : Codec A} (s : Bytes) (at w : ℕ) {size : ℕ} → Spans 𝓐 size → (r : Option (Read Items)) → Counted s at w size r → Reads (counted_c 𝓐 w) s at r (λ x. Listed 𝓐 s w x.value.len x.value.start x.next)
+listed s at w x None h = not_counted x h
+listed {𝓐 = 𝓐} s at w x (Some y) h = weaken (Listed 𝓐 s w y.value.len y.value.start y.next) (counted x h) (λ e. (e.0, e.1, e.2, number_ok w h.count))
+
+pub ids_listed : {s : Bytes} {at next : ℕ} {x : Items} → IsCounted s at 2 32 x.len x.start next → Found ids_c s at next (ListAs s x)
+ids_listed {s} {at} {next} {x} y =
     let c = counted spans_id y in
     record {
       value = c.value;
@@ -190,7 +198,7 @@ reads_none k {s} {at} f h = rw f (record { value = []; is = refl; up = omega ari
 
 pub reads_counted : (k : ℕ) (s : Bytes) (at : ℕ) (r : Option (Read Items)) → has_reads k ≡ true → Counted s at 2 32 r → Reads (reads_c k) s at r (λ x l. ListAs s x.value l)
 reads_counted k s at None t h = rw t (not_counted spans_id h)
-reads_counted k s at (Some x) t h = rw t (listed h)
+reads_counted k s at (Some x) t h = rw t (ids_listed h)
 
 pub not_absent : (P : Read Items → Type 0) (k : ℕ) (r : Option (Read Items)) → has_reads k ≡ true → IfSome r (λ x. has_reads k ≡ false → P x)
 not_absent P k None t = tt
@@ -210,8 +218,8 @@ pub body_is : (k : ℕ) {s : Bytes} {at m ni no nd nb : ℕ} {flag : Bool} (r : 
 unfolding body_k held_k pair mapped counted
 body_is k {s} {at} {m} {ni} {no} {nd} {nb} r x z e i o d g b =
     let c = counted spans_byte b in
-    let li = listed i in
-    let lo = listed o in
+    let li = ids_listed i in
+    let lo = ids_listed o in
     let y = bytes_of s r.signed.len r.signed.start c.value (drop nb s) c.fact.2 c.fact.1 in
     opt_present (held_k k) x z (mapped held_of held_tuple (λ t. refl) (λ t. refl) (λ _. Unit {0}) (pair li (pair lo (pair d c))) (λ _. tt)) (BodyAs k s r nb)
     (λ _. record {
@@ -262,8 +270,8 @@ no_mark k x = go (has_mark3 k) x
 
 -- a byte, tested where the kind has no mark 3
 module _ (k : ℕ) {s : Bytes} {at next v : ℕ} (x : Found (be_c 1) s at next (λ a. a ≡ v)) where
-  pub mark_read : mark_said? k v ≡ true → Found (mark_c k) s at next (λ a. a ≡ v)
-  mark_read e =
+  pub mark_said : mark_said? k v ≡ true → Found (mark_c k) s at next (λ a. a ≡ v)
+  mark_said e =
       cases (has_mark3 k)
       (λ t. any_mark k x t)
       (λ f. mark_not_3 k x f (λ z. let n : false ≡ true = rw (f, eq-eqb v 3 z) at e in false_true n))
@@ -273,6 +281,10 @@ module _ (k : ℕ) {s : Bytes} {at next v : ℕ} (x : Found (be_c 1) s at next (
       cases (has_mark3 k)
       (λ t. let n : true ≡ false = rw t at e in false_true (sym n))
       (λ f. let n : not (eqb v 3) ≡ false = rw f at e in mark_3 k x f (eqb-true v 3 (not-false _ n)))
+
+pub mark_read : (k : ℕ) {s : Bytes} {at : ℕ}
+    → ((next v : ℕ) → Found (be_c 1) s at next (λ a. a ≡ v) → (mark_said? k v ≡ true → Found (mark_c k) s at next (λ a. a ≡ v)) × (mark_said? k v ≡ false → Fails (mark_c k) s at) × (v < 256)) × (Fails (be_c 1) s at → Fails (mark_c k) s at)
+mark_read k = (λ next v x. (mark_said k x, mark_unsaid k x, number_1 x), λ x. no_mark k x)
 
 mark_size : (k m : ℕ) → (mark_c k).ok m → length ((mark_c k).enc m) ≡ 1
 mark_size k m h = rw (mark_enc k m) ((spans_be 1).size m (mark_up k m h))

@@ -23,7 +23,7 @@ use Rattle.queue.specs.paper.Sound.{inputs, outputs, reads, wanted, among?}
 use Rattle.queue.specs.read.LinksAs.{group_mask_value, names, OutsIs, OutsTo, Again, Thinner, Thinned, wants_at, outs_at, Short, Joined, hit, in_line, Zero, Cleared, Slotted, RowsHold, Rowed, Linked, outputs_linked, Begins}
 use Rattle.queue.specs.declared.layout.frame.Seen.{Seen}
 use Rattle.queue.proofs.layout.TurnLaws.{Scan, start, here, on, FoundRec}
-use Rattle.queue.proofs.check.FilterLaws.{mark_here, mark_old, slot_in}
+use Rattle.queue.proofs.check.FilterLaws.{mark_size, mark_here, mark_old, slot_in}
 use Rattle.queue.proofs.check.SuspectsRowLaws.{id_long, any_none, any_some, later_no, later_yes, later_behind, rising}
 use Rattle.queue.proofs.check.SuspectsLaws.{id_bytes, all_at, all_append, shuffled_all, shuffled_any}
 use Rattle.queue.proofs.read.FeesLaws.{the_turn, rec_is, known_at, stands_at}
@@ -219,10 +219,10 @@ module _ (s : Bytes) (slots t v : List ℕ) (h w k : ℕ) (e : h ≡ hash_all_va
   pub held_more : {own : ℕ → Id → Bool} → RowsHold s slots t (take k v) own → RowsHold s slots' t' (take r v') (λ j z. own j z || hit s j z w)
   held_more x = cases (eqb (get_or slots place 0) 0) (λ t. in_slot (eqb-true _ 0 t) x) (λ t. behind (eqb-false _ 0 t) x)
 
-pub kept_sizes : (slots t v : List ℕ) (h w k : ℕ) {r : ℕ} {slots' t' v' : List ℕ} → Slotted h w k slots t v r slots' t' v' → (r ≤ k + 1) × (length v' ≡ length v)
+pub kept_sizes : (slots t v : List ℕ) (h w k : ℕ) {r : ℕ} {slots' t' v' : List ℕ} → Slotted h w k slots t v r slots' t' v' → (length slots' ≡ length slots) × (length t' ≡ length t) × (r ≤ k + 1) × (length v' ≡ length v)
 kept_sizes slots t v h w k g = let place = slot_l (length slots) h in cases (eqb (get_or slots place 0) 0)
-    (λ n. let u = g.free (eqb-true _ 0 n) in ((let q = u.0 in omega arith), ap length u.3))
-    (λ n. let u = g.taken (eqb-false _ 0 n) in ((let q = u.0 in omega arith), ap length u.3 ∙ length-set v k w))
+    (λ n. let u = g.free (eqb-true _ 0 n) in (ap length u.1 ∙ length-set slots place w, ap length u.2, (let q = u.0 in omega arith), ap length u.3))
+    (λ n. let u = g.taken (eqb-false _ 0 n) in (ap length u.1, ap length u.2 ∙ mark_size t h, (let q = u.0 in omega arith), ap length u.3 ∙ length-set v k w))
 
 pub kept_free : {h w k x : ℕ} (slots : List ℕ) {slots' t v : List ℕ} → x ≡ get_or slots (slot_l (length slots) h) 0 → 0 < length slots → x ≡ 0 → slots' ≡ set slots (slot_l (length slots) h) w → Slotted h w k slots t v k slots' t v
 kept_free slots q a e f = record { some = a; free = λ _. (refl, f, refl, refl); taken = λ n. absurd (n (sym q ∙ e)) }
@@ -235,6 +235,7 @@ pub record Rowing (s : Bytes) (j : ℕ) (b : Bytes) (c at : ℕ) (slots₀ t₀ 
   pub scan : Scan id_c (λ (u : Unit {0}) (x : List Id). u) b c at tt i left tt
   pub done : Id → Bool
   pub split : (z : Id) → among? z (list_at id_c c b at) ≡ (done z || among? z (list_at id_c left b i))
+  pub sizes : (length slots ≡ length slots₀) × (length t ≡ length t₀)
   pub by : (own : ℕ → Id → Bool) → RowsHold s slots₀ t₀ rows₀ own → RowsHold s slots t rows (λ i z. own i z || (eqb i j && done z))
 
 and_no : (a : Bool) → (a && false) ≡ false
@@ -246,6 +247,7 @@ rowing s j b c at slots t rows h w = record {
   scan = start id_c _ b c at tt h w;
   done = λ z. false;
   split = λ z. refl;
+  sizes = (refl, refl);
   by = λ own x. held_to (λ i z. sym (or_no (own i z)) ∙ ap (λ (q : Bool). own i z || q) (sym (and_no (eqb i j)))) x;
 }
 
@@ -256,21 +258,25 @@ module _ {s : Bytes} {j : ℕ} {b : Bytes} {c at : ℕ} {slots₀ t₀ rows₀ :
       let u = here x.scan p rd in
       let q : id_r false s w ≡ y = f ∙ (id_bytes u).0 in
       let m : h ≡ hash_all_value (id_r false s w) = e ∙ ap hash_all_value (sym q) in
+      let z = kept_sizes slots t v h w k g in
       record {
         scan = on x.scan tt p u refl;
         done = λ o. x.done o || same? o y;
         split = λ o. x.split o ∙ ap (λ (k : List Id). x.done o || among? o k) u.list ∙ ap (λ (k : Id). x.done o || (same? o k || among? o (list_at id_c (left - 1) b next))) u.is ∙ sym (or_assoc (x.done o) (same? o y) (among? o (list_at id_c (left - 1) b next)));
+        sizes = (z.0 ∙ x.sizes.0, z.1 ∙ x.sizes.1);
         by = λ own o. held_to (λ i z. ap (λ (q : Bool). (own i z || (eqb i j && x.done z)) || q) (row_says s w j y q n i z) ∙ or_and (own i z) (eqb i j) (x.done z) (same? z y)) (held_more s slots t v h w k m l g (x.by own o));
       }
 
   pub rowing_end : left ≡ 0 → Rowed s j (list_at id_c c b at) slots₀ t₀ rows₀ slots t (take k v)
   rowing_end e = record {
+    sizes = x.sizes;
     by = λ own o. held_to (λ n z. ap (λ (q : Bool). own n z || (eqb n j && q)) (sym (or_no (x.done z)) ∙ sym (x.split z ∙ ap (λ (k : List Id). x.done z || among? z k) (none_left id_c b left i e).0))) (x.by own o);
   }
 
 -- rows for two lists of ids
 pub rowed_both : {s : Bytes} {j : ℕ} (a b : List Id) {slots t rows slots₁ t₁ rows₁ slots₂ t₂ rows₂ : List ℕ} → Rowed s j a slots t rows slots₁ t₁ rows₁ → Rowed s j b slots₁ t₁ rows₁ slots₂ t₂ rows₂ → Rowed s j (a ++ b) slots t rows slots₂ t₂ rows₂
 rowed_both {s} {j} a b x y = record {
+  sizes = (y.sizes.0 ∙ x.sizes.0, y.sizes.1 ∙ x.sizes.1);
   by = λ own o. held_to (λ i z. or_and (own i z) (eqb i j) (among? z a) (among? z b) ∙ ap (λ (q : Bool). own i z || (eqb i j && q)) (sym (among_append z a b))) (y.by (λ i z. own i z || (eqb i j && among? z a)) (x.by own o));
 }
 

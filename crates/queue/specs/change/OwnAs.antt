@@ -58,6 +58,7 @@ pub record FlagsFrom (own l : List Id) (flags : List ℕ) (g : ℕ) : Type 0 whe
 -- flags say which ids are owned, and a filter has the others
 pub record Noted (own : Id → Bool) (l : List Id) (f t : List ℕ) : Type 0 where
   pub room : Fits (length l) f
+  pub some : 0 < length t
   pub are : FlagsAre own l (bits_in f)
   pub new : (z : Id) → among? z l ≡ true → own z ≡ false → marked t (hash_l z) ≡ true
 

@@ -70,8 +70,10 @@ pub record Noted (hex : Bool) (s : Bytes) (all : List Rec) (k : ℕ) (own : Id �
   pub one : all? (first? hex s all) z' ≡ true → (x : Id) → own x ≡ true → marked t (hash_l x) ≡ true → count (has_in x) all ≤ count (has_in x) (drop k all)
   pub new : (x : Id) → own x ≡ true → marked t' (hash_l x) ≡ true
 
--- two records have an id, if the table is the last
-pub record Twice (last : Bool) (all : List Rec) : Type 0 where
+-- two records have an id, if the table is the last; what was marked still is
+pub record Twice (last : Bool) (all : List Rec) (t t' : List ℕ) : Type 0 where
+  pub size : length t' ≡ length t
+  pub old : (h : ℕ) → marked t h ≡ true → marked t' h ≡ true
   pub bad : last ≡ true → apart? all ≡ false
 
 -- the answer to the test b: none is known, if the table is not the last

@@ -94,6 +94,7 @@ pub record RowsHold (s : Bytes) (slots t rows : List ℕ) (own : ℕ → Id → 
 
 -- rows of record j for these ids came
 pub record Rowed (s : Bytes) (j : ℕ) (ids : List Id) (slots t rows slots' t' rows' : List ℕ) : Type 0 where
+  pub sizes : (length slots' ≡ length slots) × (length t' ≡ length t)
   pub by : (own : ℕ → Id → Bool) → RowsHold s slots t rows own → RowsHold s slots' t' rows' (λ i z. own i z || (eqb i j && among? z ids))
 
 -- the row before place k of v has the id and the group of x

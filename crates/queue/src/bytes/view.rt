@@ -140,6 +140,7 @@ impl<'a> View<'a> {
     }
 
     // The order of two ids where they stand, byte by byte.
+    #[inline(always)]
     fn compare_bytes(&self, at: usize, other: &View, at2: usize) -> Ordering
         requires first { at + 32 ≤ length self.now }
         requires second { at2 + 32 ≤ length other.now }
@@ -161,6 +162,7 @@ impl<'a> View<'a> {
     }
 
     /// The order of two ids where they stand.
+    #[inline(always)]
     pub fn compare_at(&self, at: usize, other: &View, at2: usize) -> Ordering
         requires first { at + 32 ≤ length self.now }
         requires second { at2 + 32 ≤ length other.now }

@@ -20,7 +20,7 @@ ghost use Rattle.queue.specs.paper.Changing.{queued_outputs};
 
 use crate::bytes::view::View;
 use crate::change::lent::find_lent;
-use crate::check::filter::{Filter, bit, hash};
+use crate::check::filter::{bit, hash, mark, seen};
 use crate::check::suspects::{any_later, in_order, order_rows, row_at};
 use crate::layout::forms::after_in;
 use crate::layout::frame::{Seen, record_at};
@@ -80,15 +80,15 @@ pub fn all_set(flags: &[u64], g: usize, c: u64) -> bool
 }
 
 // The flag of an available id, or the id into the filter.
-fn note_id(flags: &mut [u64], g: usize, t: &mut Filter, id: [u8; 32], found: bool)
-    requires { (g < 64 * length flags.old) }
+fn note_id(flags: &mut [u64], g: usize, t: &mut [u64], id: [u8; 32], found: bool)
+    requires { (g < 64 * length flags.old) × (0 < length t.old) }
     ensures { ((bits_in flags.new) ≡ (if found then slice_set (bits_in flags.old) g 1 else bits_in flags.old)) × (t.new ≡ (if found then t.old else mark_l t.old (hash_l id))) }
 {
     if found {
         set_flag(flags, g);
         return;
     }
-    t.mark(hash(id));
+    mark(t, hash(id));
 }
 
 // The flags from `from` on of those of the c ids at offset `at` of a frame that are available; the others into the filter.
@@ -100,9 +100,9 @@ fn note_ids(
     m: u64,
     flags: &mut [u64],
     from: usize,
-    t: &mut Filter,
+    t: &mut [u64],
 )
-    requires { (at ≤ length frame.now) × (whole id_c c frame.now at ≡ true) × IdsRise ids.now m × Fits (from + c) flags.old }
+    requires { (at ≤ length frame.now) × (whole id_c c frame.now at ≡ true) × IdsRise ids.now m × Fits (from + c) flags.old × (0 < length t.old) }
     ensures { ((bits_in flags.new) ≡ mark_all_value (λ z. among? z (ids_at ids.now m)) (list_at id_c c frame.now at) (bits_in flags.old) from) × (t.new ≡ miss_all (λ z. among? z (ids_at ids.now m)) (list_at id_c c frame.now at) t.old) }
 {
     let mut i = at;
@@ -117,8 +117,8 @@ fn note_ids(
 }
 
 // The flags of all wanted ids of the records that are available; the others into the filter.
-fn note_all(s: &[u8], recs: Records, ids: &[u8], m: u64, flags: &mut [u64], t: &mut Filter)
-    requires { RecordsIn (form_c false rec_c) s.now recs × IdsRise ids.now m × Fits (length (wanted_of (recs_at (form_c false rec_c) s.now recs))) flags.old }
+fn note_all(s: &[u8], recs: Records, ids: &[u8], m: u64, flags: &mut [u64], t: &mut [u64])
+    requires { RecordsIn (form_c false rec_c) s.now recs × IdsRise ids.now m × Fits (length (wanted_of (recs_at (form_c false rec_c) s.now recs))) flags.old × (0 < length t.old) }
     ensures { ((bits_in flags.new) ≡ mark_all_value (λ z. among? z (ids_at ids.now m)) (wanted_of (recs_at (form_c false rec_c) s.now recs)) (bits_in flags.old) 0) × (t.new ≡ miss_all (λ z. among? z (ids_at ids.now m)) (wanted_of (recs_at (form_c false rec_c) s.now recs)) t.old) }
 {
     let mut i = recs.start;
@@ -207,15 +207,15 @@ fn add_output(
     recs: Records,
     v: &mut [u64],
     flags: &mut [u64],
-    t: &Filter,
+    t: &[u64],
     k: usize,
     w: u64,
     h: u64,
 ) -> usize
-    requires { RecordsIn (form_c false rec_c) s.now recs × (length s.now < 4294967296) × Fits (length (wanted_of (recs_at (form_c false rec_c) s.now recs))) flags.old × (k ≤ length v.old) × (0 < length v.old) × (h ≡ hash_l (id_r false s.now w)) }
+    requires { RecordsIn (form_c false rec_c) s.now recs × (length s.now < 4294967296) × Fits (length (wanted_of (recs_at (form_c false rec_c) s.now recs))) flags.old × (k ≤ length v.old) × (0 < length v.old) × (0 < length t.now) × (h ≡ hash_l (id_r false s.now w)) }
     ensures { Taken s.now (wanted_of (recs_at (form_c false rec_c) s.now recs)) t.now (bits_in flags.old) (take k v.old) (λ z. later false s.now z 0 w) (bits_in flags.new) (take result v.new) × (result ≤ length v.old) }
 {
-    if !t.seen(h) {
+    if !seen(t, h) {
         return k;
     }
     if k < v.len() {
@@ -233,13 +233,13 @@ fn add_rows(
     recs: Records,
     v: &mut [u64],
     flags: &mut [u64],
-    t: &Filter,
+    t: &[u64],
     k: usize,
     base: usize,
     outs: usize,
     c: u64,
 ) -> usize
-    requires { RecordsIn (form_c false rec_c) s.now recs × (length s.now < 4294967296) × Fits (length (wanted_of (recs_at (form_c false rec_c) s.now recs))) flags.old × (k ≤ length v.old) × (0 < length v.old) × (outs ≤ length (view false s.now base)) × (whole id_c c (view false s.now base) outs ≡ true) }
+    requires { RecordsIn (form_c false rec_c) s.now recs × (length s.now < 4294967296) × Fits (length (wanted_of (recs_at (form_c false rec_c) s.now recs))) flags.old × (k ≤ length v.old) × (0 < length v.old) × (0 < length t.now) × (outs ≤ length (view false s.now base)) × (whole id_c c (view false s.now base) outs ≡ true) }
     ensures { Taken s.now (wanted_of (recs_at (form_c false rec_c) s.now recs)) t.now (bits_in flags.old) (take k v.old) (λ z. among? z (list_at id_c c (view false s.now base) outs)) (bits_in flags.new) (take result v.new) × (result ≤ length v.old) }
 {
     let frame = View::new(s, false, base);
@@ -260,12 +260,12 @@ fn add_outputs(
     recs: Records,
     v: &mut [u64],
     flags: &mut [u64],
-    t: &Filter,
+    t: &[u64],
     k: usize,
     base: usize,
     x: Seen,
 ) -> usize
-    requires { RecordsIn (form_c false rec_c) s.now recs × (length s.now < 4294967296) × Fits (length (wanted_of (recs_at (form_c false rec_c) s.now recs))) flags.old × (k ≤ length v.old) × (0 < length v.old) × (x.outs ≤ length (view false s.now base)) × (whole id_c x.facts.outs (view false s.now base) x.outs ≡ true) }
+    requires { RecordsIn (form_c false rec_c) s.now recs × (length s.now < 4294967296) × Fits (length (wanted_of (recs_at (form_c false rec_c) s.now recs))) flags.old × (k ≤ length v.old) × (0 < length v.old) × (0 < length t.now) × (x.outs ≤ length (view false s.now base)) × (whole id_c x.facts.outs (view false s.now base) x.outs ≡ true) }
     ensures { Taken s.now (wanted_of (recs_at (form_c false rec_c) s.now recs)) t.now (bits_in flags.old) (take k v.old) (λ z. (x.facts.state == 0) && among? z (list_at id_c x.facts.outs (view false s.now base) x.outs)) (bits_in flags.new) (take result v.new) × (result ≤ length v.old) }
 {
     let f = x.facts;
@@ -276,8 +276,8 @@ fn add_outputs(
 }
 
 // The outputs of the Queued ones of the records, those that the filter has; returns how many rows are left.
-fn add_queued(s: &[u8], recs: Records, v: &mut [u64], flags: &mut [u64], t: &Filter) -> usize
-    requires { RecordsIn (form_c false rec_c) s.now recs × (length s.now < 4294967296) × Fits (length (wanted_of (recs_at (form_c false rec_c) s.now recs))) flags.old × (0 < length v.old) }
+fn add_queued(s: &[u8], recs: Records, v: &mut [u64], flags: &mut [u64], t: &[u64]) -> usize
+    requires { RecordsIn (form_c false rec_c) s.now recs × (length s.now < 4294967296) × Fits (length (wanted_of (recs_at (form_c false rec_c) s.now recs))) flags.old × (0 < length v.old) × (0 < length t.now) }
     ensures { Taken s.now (wanted_of (recs_at (form_c false rec_c) s.now recs)) t.now (bits_in flags.old) [] (λ z. among? z (queued_outputs (recs_at (form_c false rec_c) s.now recs))) (bits_in flags.new) (take result v.new) × (result ≤ length v.old) }
 {
     let mut i = recs.start;
@@ -291,6 +291,7 @@ fn add_queued(s: &[u8], recs: Records, v: &mut [u64], flags: &mut [u64], t: &Fil
 }
 
 // The flags of the wanted ids of the records that are available, and the filter of the others, if they are to be and there is room.
+// t is a slice and no `Filter`: the caller knows afterwards what its words are, and without a word the answer is false.
 pub fn note_flags(
     s: &[u8],
     recs: Records,
@@ -299,17 +300,16 @@ pub fn note_flags(
     go: bool,
     total: u64,
     flags: &mut [u64],
-    t: &mut Filter,
+    t: &mut [u64],
 ) -> bool
     requires { RecordsIn (form_c false rec_c) s.now recs × IdsRise ids.now m × (go ≡ true → total ≡ length (wanted_of (recs_at (form_c false rec_c) s.now recs))) × (total ≤ 524288) }
     ensures { (result ≡ true → go ≡ true) × (result ≡ true → Noted (λ z. among? z (ids_at ids.now m)) (wanted_of (recs_at (form_c false rec_c) s.now recs)) flags.new t.new) }
 {
     let words = (total + 63) / 64;
-    if !(go & (words <= flags.len() as u64)) {
+    if !(go & (words <= flags.len() as u64) & (0 < t.len())) {
         return false;
     }
     clear(flags, true);
-    let _size = t.len();
     note_all(s, recs, ids, m, flags, t);
     true
 }
@@ -322,9 +322,9 @@ pub fn own_flags(
     total: u64,
     v: &mut [u64],
     flags: &mut [u64],
-    t: &Filter,
+    t: &[u64],
 ) -> bool
-    requires { RecordsIn (form_c false rec_c) s.now recs × (length s.now < 4294967296) × Fits (length (wanted_of (recs_at (form_c false rec_c) s.now recs))) flags.old × (total ≡ length (wanted_of (recs_at (form_c false rec_c) s.now recs))) }
+    requires { RecordsIn (form_c false rec_c) s.now recs × (length s.now < 4294967296) × Fits (length (wanted_of (recs_at (form_c false rec_c) s.now recs))) flags.old × (total ≡ length (wanted_of (recs_at (form_c false rec_c) s.now recs))) × (0 < length t.now) }
     ensures { result ≡ true → (own : List Id) → Noted (λ z. among? z own) (wanted_of (recs_at (form_c false rec_c) s.now recs)) flags.old t.now → FlagsAre (λ z. among? z (own_ids own (recs_at (form_c false rec_c) s.now recs))) (wanted_of (recs_at (form_c false rec_c) s.now recs)) (bits_in flags.new) }
 {
     if v.len() == 0 {

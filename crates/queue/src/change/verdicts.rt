@@ -10,7 +10,6 @@ ghost use Rattle.queue.specs.change.TouchAs.{EntriesRise, JudgedAt};
 use crate::change::block::Block;
 use crate::change::own::{count_wanted, note_flags, own_flags};
 use crate::change::touch::judge_all;
-use crate::check::filter::Filter;
 use crate::layout::records::Records;
 
 // With flags for all wanted ids, if they are to be, and room for so many rows of outputs, words of flags and words of a filter.
@@ -25,14 +24,12 @@ fn judge_within<const ROWS: usize, const FLAGS: usize, const FILTER: usize>(
     vs: &mut [u64],
 )
     requires asked { RecordsIn (form_c false rec_c) s.now recs × EntriesRise t.now b.entries × IdsRise ids.now b.available × (recs.count ≤ length vs.old) × (recs.count < 4294967296) × (go ≡ true → length s.now < 4294967296) × (go ≡ true → total ≡ length (wanted_of (recs_at (form_c false rec_c) s.now recs))) × (total ≤ 524288) }
-    requires some { 0 < FILTER }
     requires small { (ROWS ≤ 65536) × (FLAGS ≤ 65536) × (FILTER ≤ 65536) }
     ensures { JudgedAt s.now recs b t.now ids.now (take recs.count vs.new) }
 {
     let mut rows = [0u64; ROWS];
     let mut flags = [0u64; FLAGS];
-    let mut words = [0u64; FILTER];
-    let mut filter = Filter::new(&mut words);
+    let mut filter = [0u64; FILTER];
     let noted = note_flags(
         s,
         recs,

@@ -1,5 +1,5 @@
 // A filter: numbers marked in a table of bits. It can only say yes too often, so that only speed depends on what is marked where.
-ghost use Rattle.std.specs.Prelude.{◌≡◌, ◌^◌, ◌<◌, List, ℕ, false, length};
+ghost use Rattle.std.specs.Prelude.{◌≡◌, ◌^◌, ◌<◌, List, ℕ, true, false, length, replicate};
 ghost use Rattle.queue.specs.check.FilterAs.{slot_l, mask_l, hash_l, hash_n, marked, mark_l, hash_all_value};
 
 use crate::bytes::view::word;
@@ -32,6 +32,30 @@ pub fn slot(n: usize, h: u64) -> usize
     h as usize % n
 }
 
+/// Is the number marked in these words? So may be one that never was. Words that are only shared serve, of which no `Filter` can be made.
+#[inline(always)]
+pub fn seen(t: &[u64], h: u64) -> bool
+    requires { 0 < length t.now }
+    ensures { result ≡ marked t.now h }
+{
+    let i = slot(t.len(), h);
+    let m = mask(h);
+    let w = t[i];
+    (w | m) == w
+}
+
+/// Marks the number in these words, of which the caller knows afterwards what they are.
+#[inline(always)]
+pub fn mark(t: &mut [u64], h: u64)
+    requires { 0 < length t.old }
+    ensures { t.new ≡ mark_l t.old h }
+{
+    let i = slot(t.len(), h);
+    let m = mask(h);
+    let w = t[i];
+    t[i] = w | m;
+}
+
 /// Words of bits, at least one: whatever they hold, it only costs time.
 #[derive(Drop)]
 pub struct Filter<'a> {
@@ -57,12 +81,13 @@ impl<'a> Filter<'a> {
         Filter { words }
     }
 
-    /// How many words it has.
+    /// Its words, for what takes a slice of them.
     #[inline(always)]
-    pub(crate) fn len(&self) -> usize
-        ensures { (result ≡ length self.now) × (0 < result) }
+    pub fn words(&self) -> &[u64]
+        ensures is { result.now ≡ self.now }
+        ensures some { 0 < length self.now }
     {
-        self.words.len()
+        &self.words[..]
     }
 
     /// Is the number marked? So may be one that never was.
@@ -71,10 +96,7 @@ impl<'a> Filter<'a> {
         ensures is { result ≡ marked self.now h }
         ensures some { 0 < length self.now }
     {
-        let i = slot(self.words.len(), h);
-        let m = mask(h);
-        let w = self.words[i];
-        (w | m) == w
+        seen(self.words, h)
     }
 
     /// Marks the number.
@@ -83,15 +105,14 @@ impl<'a> Filter<'a> {
         ensures is { self.new ≡ mark_l self.old h }
         ensures some { 0 < length self.old }
     {
-        let i = slot(self.words.len(), h);
-        let m = mask(h);
-        let w = self.words[i];
-        self.words[i] = w | m;
+        mark(self.words, h);
     }
 
     /// Sets all bits to 0, if they are to be.
     pub(crate) fn clear(&mut self, go: bool)
-        ensures { go ≡ false → self.new ≡ self.old }
+        ensures zero { go ≡ true → self.new ≡ replicate (length self.old) 0 }
+        ensures same { go ≡ false → self.new ≡ self.old }
+        ensures size { length self.new ≡ length self.old }
     {
         if go {
             self.words.fill(0);

@@ -14,7 +14,7 @@ ghost use Rattle.queue.specs.paper.Lists.{all?};
 ghost use Rattle.queue.specs.paper.Sound.{among?, apart?, read_apart?};
 
 use crate::bytes::view::View;
-use crate::check::filter::{Filter, hash};
+use crate::check::filter::{hash, seen};
 use crate::check::scan::{has_id, held_by};
 use crate::check::suspects::{add, crossed, row_at};
 use crate::layout::forms::after_in;
@@ -25,11 +25,11 @@ use crate::layout::records::Records;
 const LAST: u64 = 4294967295;
 
 // May another record spend the id than the one whose k input ids stand at offset `ins` of the frame v? t has every input.
-fn suspect(v: &View, ins: usize, k: u64, id: [u8; 32], t: &Filter) -> bool
-    requires { (ins ≤ length v.now) × (whole id_c k v.now ins ≡ true) }
+fn suspect(v: &View, ins: usize, k: u64, id: [u8; 32], t: &[u64]) -> bool
+    requires { (0 < length t.now) × (ins ≤ length v.now) × (whole id_c k v.now ins ≡ true) }
     ensures { result ≡ (marked t.now (hash_l id) && not (among? id (list_at id_c k v.now ins))) }
 {
-    if t.seen(hash(id)) {
+    if seen(t, hash(id)) {
         return !has_id(v, ins, k, id);
     }
     false
@@ -44,12 +44,12 @@ fn note_read(
     x: Seen,
     i: usize,
     id: [u8; 32],
-    t: &Filter,
+    t: &[u64],
     v: &mut [u64],
     last: bool,
     m: usize,
 ) -> Option<usize>
-    requires { RecordsIn (rec_in_value form) s.now recs × (length s.now < 4294967296) × (recs.count < 4294967296) × (m ≤ length v.old) × (0 < length v.old) × (x.at ≤ length (view form.hex s.now base)) × (whole id_c x.facts.ins (view form.hex s.now base) x.at ≡ true) × (i + 32 ≤ length (view form.hex s.now base)) × (part 32 (view form.hex s.now base) i ≡ id) × (all? (strange? form.hex s.now (recs_at (rec_in_value form) s.now recs)) (take m v.old) ≡ true) × AllMarked (recs_at (rec_in_value form) s.now recs) t.now × Foreign (recs_at (rec_in_value form) s.now recs) (id ∷ []) (list_at id_c x.facts.ins (view form.hex s.now base) x.at) }
+    requires { RecordsIn (rec_in_value form) s.now recs × (length s.now < 4294967296) × (recs.count < 4294967296) × (m ≤ length v.old) × (0 < length v.old) × (0 < length t.now) × (x.at ≤ length (view form.hex s.now base)) × (whole id_c x.facts.ins (view form.hex s.now base) x.at ≡ true) × (i + 32 ≤ length (view form.hex s.now base)) × (part 32 (view form.hex s.now base) i ≡ id) × (all? (strange? form.hex s.now (recs_at (rec_in_value form) s.now recs)) (take m v.old) ≡ true) × AllMarked (recs_at (rec_in_value form) s.now recs) t.now × Foreign (recs_at (rec_in_value form) s.now recs) (id ∷ []) (list_at id_c x.facts.ins (view form.hex s.now base) x.at) }
     ensures { MatchOption result (Spent last (recs_at (rec_in_value form) s.now recs)) (λ n. Asked form.hex s.now (recs_at (rec_in_value form) s.now recs) (id ∷ []) (list_at id_c x.facts.ins (view form.hex s.now base) x.at) (take m v.old) (take n v.new) × (n ≤ length v.old)) }
 {
     let f = x.facts;
@@ -68,12 +68,12 @@ fn note_reads(
     recs: Records,
     base: usize,
     x: Seen,
-    t: &Filter,
+    t: &[u64],
     v: &mut [u64],
     last: bool,
     m: usize,
 ) -> Option<usize>
-    requires { RecordsIn (rec_in_value form) s.now recs × (length s.now < 4294967296) × (recs.count < 4294967296) × (m ≤ length v.old) × (0 < length v.old) × (x.at ≤ length (view form.hex s.now base)) × (whole id_c x.facts.ins (view form.hex s.now base) x.at ≡ true) × (x.reads ≤ length (view form.hex s.now base)) × (whole id_c x.facts.reads (view form.hex s.now base) x.reads ≡ true) × (all? (strange? form.hex s.now (recs_at (rec_in_value form) s.now recs)) (take m v.old) ≡ true) × AllMarked (recs_at (rec_in_value form) s.now recs) t.now × Foreign (recs_at (rec_in_value form) s.now recs) (list_at id_c x.facts.reads (view form.hex s.now base) x.reads) (list_at id_c x.facts.ins (view form.hex s.now base) x.at) }
+    requires { RecordsIn (rec_in_value form) s.now recs × (length s.now < 4294967296) × (recs.count < 4294967296) × (m ≤ length v.old) × (0 < length v.old) × (0 < length t.now) × (x.at ≤ length (view form.hex s.now base)) × (whole id_c x.facts.ins (view form.hex s.now base) x.at ≡ true) × (x.reads ≤ length (view form.hex s.now base)) × (whole id_c x.facts.reads (view form.hex s.now base) x.reads ≡ true) × (all? (strange? form.hex s.now (recs_at (rec_in_value form) s.now recs)) (take m v.old) ≡ true) × AllMarked (recs_at (rec_in_value form) s.now recs) t.now × Foreign (recs_at (rec_in_value form) s.now recs) (list_at id_c x.facts.reads (view form.hex s.now base) x.reads) (list_at id_c x.facts.ins (view form.hex s.now base) x.at) }
     ensures { MatchOption result (Spent last (recs_at (rec_in_value form) s.now recs)) (λ n. Asked form.hex s.now (recs_at (rec_in_value form) s.now recs) (list_at id_c x.facts.reads (view form.hex s.now base) x.reads) (list_at id_c x.facts.ins (view form.hex s.now base) x.at) (take m v.old) (take n v.new) × (n ≤ length v.old)) }
 {
     let f = x.facts;
@@ -93,11 +93,11 @@ pub fn reads_by(
     s: &[u8],
     form: Form,
     recs: Records,
-    t: &Filter,
+    t: &[u64],
     v: &mut [u64],
     last: bool,
 ) -> Option<bool>
-    requires { RecordsIn (rec_in_value form) s.now recs × (length s.now < 4294967296) × (recs.count < 4294967296) × (0 < length v.old) × (apart? (recs_at (rec_in_value form) s.now recs) ≡ true) × AllMarked (recs_at (rec_in_value form) s.now recs) t.now }
+    requires { RecordsIn (rec_in_value form) s.now recs × (length s.now < 4294967296) × (recs.count < 4294967296) × (0 < length v.old) × (0 < length t.now) × (apart? (recs_at (rec_in_value form) s.now recs) ≡ true) × AllMarked (recs_at (rec_in_value form) s.now recs) t.now }
     ensures { Said last (read_apart? (recs_at (rec_in_value form) s.now recs)) result }
 {
     let mut i = recs.start;

@@ -1,9 +1,10 @@
 // Suspects: places of input ids that the filter already had. A row is a place and the number of its record, in one number.
 // The rows are put in order by id and number, and one pass over all records bisects each input among them.
-ghost use Rattle.std.specs.Prelude.{◌≡◌, ◌+◌, ◌%◌, ◌<◌, ◌≤◌, Bool, true, false, ◌&&◌, not, length, take, drop, MatchOption, IfSome};
+ghost use Rattle.std.specs.Prelude.{◌≡◌, ◌+◌, ◌/◌, ◌%◌, ◌<◌, ◌≤◌, Bool, true, false, ◌&&◌, not, length, take, drop, MatchOption, IfSome};
 ghost use Rattle.std.specs.Ordering.{is_lt};
 ghost use Rattle.queue.specs.bytes.Parts.{part};
 ghost use Rattle.queue.specs.bytes.OrderAs.{order_number};
+ghost use Rattle.queue.specs.bytes.ReaderLaws.{be_at};
 ghost use Rattle.queue.specs.layout.FrameCodec.{id_c};
 ghost use Rattle.queue.specs.layout.FormsCodec.{rec_in_value};
 ghost use Rattle.queue.specs.bytes.ViewAs.{view};
@@ -45,8 +46,9 @@ pub fn row_at(s: &[u8], hex: bool, base: usize, i: usize, k: u64) -> u64
     p as u64 * 4294967296 + k
 }
 
-/// The order of two rows' ids. A row too near the end has no id.
-pub fn cmp_rows(s: &[u8], hex: bool, x: u64, y: u64) -> Ordering
+// The order of two rows' ids, whatever the form and the rows. A row too near the end has no id.
+#[inline(never)]
+fn cmp_whole(s: &[u8], hex: bool, x: u64, y: u64) -> Ordering
     ensures { order_number result ≡ cmp_l (id_r hex s.now x) (id_r hex s.now y) }
 {
     let a = View::new(s, hex, (x / 4294967296) as usize);
@@ -63,11 +65,68 @@ pub fn cmp_rows(s: &[u8], hex: bool, x: u64, y: u64) -> Ordering
     a.compare_at(0, &b, 0)
 }
 
+/// The order of two rows' ids. A row too near the end has no id. Most ids of bytes differ in the first word, which is looked at in place.
+#[inline(always)]
+pub fn cmp_rows(s: &[u8], hex: bool, x: u64, y: u64) -> Ordering
+    ensures { order_number result ≡ cmp_l (id_r hex s.now x) (id_r hex s.now y) }
+{
+    if !hex {
+        let a = View::new(s, false, (x / 4294967296) as usize);
+        let b = View::new(s, false, (y / 4294967296) as usize);
+        if 32 <= a.len() && 32 <= b.len() {
+            let p = a.be(0, 8);
+            let q = b.be(0, 8);
+            if p < q {
+                return Ordering::Less;
+            }
+            if q < p {
+                return Ordering::Greater;
+            }
+        }
+    }
+    cmp_whole(s, hex, x, y)
+}
+
 // Is the row x not behind y?
 fn up_to(s: &[u8], hex: bool, x: u64, y: u64) -> bool
     ensures { result ≡ up_to hex s.now x y }
 {
     match cmp_rows(s, hex, x, y) {
+        Ordering::Less => true,
+        Ordering::Equal => x % 4294967296 <= y % 4294967296,
+        Ordering::Greater => false,
+    }
+}
+
+// The same of rows of bytes, where the first word of y's id is at hand. Most ids differ in it.
+#[inline(always)]
+fn up_to_first(s: &[u8], x: u64, y: u64, first: u64) -> bool
+    ensures { (32 ≤ length (view false s.now (y / 4294967296))) × (first ≡ be_at 8 (view false s.now (y / 4294967296)) 0) → result ≡ up_to false s.now x y }
+{
+    let a = View::new(s, false, (x / 4294967296) as usize);
+    if a.len() < 32 {
+        return true;
+    }
+    let w = a.be(0, 8);
+    if w < first {
+        return true;
+    }
+    if first < w {
+        return false;
+    }
+    up_to(s, false, x, y)
+}
+
+// The same of rows of digits, where y's id is at hand.
+#[inline(always)]
+fn up_to_id(s: &[u8], x: u64, y: u64, id: &[u8; 32]) -> bool
+    ensures { id_r true s.now y ≡ id.now → result ≡ up_to true s.now x y }
+{
+    let a = View::new(s, true, (x / 4294967296) as usize);
+    if a.len() < 32 {
+        return true;
+    }
+    match a.compare_at(0, &View::new(id, false, 0), 0) {
         Ordering::Less => true,
         Ordering::Equal => x % 4294967296 <= y % 4294967296,
         Ordering::Greater => false,
@@ -105,12 +164,44 @@ pub fn in_order(s: &[u8], hex: bool, v: &[u64]) -> bool
     true
 }
 
-/// How many rows are not behind y.
-pub fn bisect(s: &[u8], hex: bool, v: &[u64], y: u64) -> usize
+// How many rows are not behind y, in any form and whether or not it has an id.
+#[inline(never)]
+fn bisect_any(s: &[u8], hex: bool, v: &[u64], y: u64) -> usize
     requires { InOrder hex s.now v.now }
     ensures { Cut hex s.now v.now y result result }
 {
     v.partition_point(|x| up_to(s, hex, *x, y))
+}
+
+// The same of rows of digits: y's id is read once for all steps.
+#[inline(never)]
+fn bisect_digits(s: &[u8], v: &[u64], y: u64) -> usize
+    requires { InOrder true s.now v.now }
+    ensures { Cut true s.now v.now y result result }
+{
+    let frame = View::new(s, true, (y / 4294967296) as usize);
+    if frame.len() < 32 {
+        return bisect_any(s, true, v, y);
+    }
+    let id = frame.id(0);
+    v.partition_point(|x| up_to_id(s, *x, y, &id))
+}
+
+/// How many rows are not behind y. Of bytes, the first word of y's id is read once for all steps.
+#[inline(always)]
+pub fn bisect(s: &[u8], hex: bool, v: &[u64], y: u64) -> usize
+    requires { InOrder hex s.now v.now }
+    ensures { Cut hex s.now v.now y result result }
+{
+    if hex {
+        return bisect_digits(s, v, y);
+    }
+    let frame = View::new(s, hex, (y / 4294967296) as usize);
+    if frame.len() < 32 {
+        return bisect_any(s, hex, v, y);
+    }
+    let first = frame.be(0, 8);
+    v.partition_point(|x| up_to_first(s, *x, y, first))
 }
 
 // Has the row x the id of y, and a higher number?
@@ -247,7 +338,7 @@ fn note(
     m: usize,
 ) -> Option<usize>
     requires { RecordsIn (rec_in_value form) s.now recs × (length s.now < 4294967296) × (recs.count < 4294967296) × (m ≤ length v.old) × (0 < length v.old) × (k < 4294967296) × (i + 32 ≤ length (view form.hex s.now base)) × (part 32 (view form.hex s.now base) i ≡ id) × (all? (held? form.hex s.now (recs_at (rec_in_value form) s.now recs)) (take m v.old) ≡ true) × Owned (recs_at (rec_in_value form) s.now recs) k (same? id) }
-    ensures { MatchOption result (Twice last (recs_at (rec_in_value form) s.now recs)) (λ n. Noted form.hex s.now (recs_at (rec_in_value form) s.now recs) k (same? id) t.old (take m v.old) t.new (take n v.new) × (n ≤ length v.old)) }
+    ensures { MatchOption result (Twice last (recs_at (rec_in_value form) s.now recs) t.old t.new) (λ n. Noted form.hex s.now (recs_at (rec_in_value form) s.now recs) k (same? id) t.old (take m v.old) t.new (take n v.new) × (n ≤ length v.old)) }
 {
     let h = hash(id);
     if t.seen(h) {
@@ -273,7 +364,7 @@ fn note_all(
     m: usize,
 ) -> Option<usize>
     requires { RecordsIn (rec_in_value form) s.now recs × (length s.now < 4294967296) × (recs.count < 4294967296) × (m ≤ length v.old) × (0 < length v.old) × (k < 4294967296) × (ids ≤ length (view form.hex s.now base)) × (whole id_c c (view form.hex s.now base) ids ≡ true) × (all? (held? form.hex s.now (recs_at (rec_in_value form) s.now recs)) (take m v.old) ≡ true) × Owned (recs_at (rec_in_value form) s.now recs) k (λ z. among? z (list_at id_c c (view form.hex s.now base) ids)) }
-    ensures { MatchOption result (Twice last (recs_at (rec_in_value form) s.now recs)) (λ n. Noted form.hex s.now (recs_at (rec_in_value form) s.now recs) k (λ z. among? z (list_at id_c c (view form.hex s.now base) ids)) t.old (take m v.old) t.new (take n v.new) × (n ≤ length v.old)) }
+    ensures { MatchOption result (Twice last (recs_at (rec_in_value form) s.now recs) t.old t.new) (λ n. Noted form.hex s.now (recs_at (rec_in_value form) s.now recs) k (λ z. among? z (list_at id_c c (view form.hex s.now base) ids)) t.old (take m v.old) t.new (take n v.new) × (n ≤ length v.old)) }
 {
     let frame = View::new(s, form.hex, base);
     let mut i = ids;
@@ -336,7 +427,7 @@ fn clear_by(
     if unread {
         return Some(true);
     }
-    reads_by(s, form, recs, t, v, last)
+    reads_by(s, form, recs, t.words(), v, last)
 }
 
 /// With room for few suspects; as often as needed, where it is the last table.

@@ -157,7 +157,8 @@ pub struct Head {
 // The label's length, 0 if there is none.
 #[inline(always)]
 pub fn label_at(v: &View, at: usize) -> Option<Read<u64>>
-    ensures { Reads label_c v.now at result (λ x o. label_len o ≡ x.value) }
+    ensures read { Reads label_c v.now at result (λ x o. label_len o ≡ x.value) }
+    ensures small { IfSome result (λ x. x.value < 256) }
 {
     let flag = v.flag(at)?;
     if !flag.value {
@@ -252,7 +253,8 @@ fn terms_at(v: &View, kind: u8, at: usize) -> Option<Read<Terms>>
 // The mined place: the height; the block's id is passed over.
 #[inline(always)]
 pub fn place_at(v: &View, at: usize) -> Option<Read<Option<Height>>>
-    ensures { Reads place_c v.now at result (λ x o. mined_at o ≡ x.value) }
+    ensures read { Reads place_c v.now at result (λ x o. mined_at o ≡ x.value) }
+    ensures small { IfSome result (λ x. IfSome x.value (λ h. h.0 < 4294967296)) }
 {
     let flag = v.flag(at)?;
     if !flag.value {

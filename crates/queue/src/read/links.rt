@@ -91,7 +91,8 @@ impl<'a> Slots<'a> {
 
     // All set to 0, if they are to be.
     fn clear(&mut self, go: bool)
-        ensures { Cleared go self.old self.new }
+        ensures is { Cleared go self.old self.new }
+        ensures size { length self.new ≡ length self.old }
     {
         clear(self.rows, go);
     }
@@ -167,7 +168,7 @@ fn keep_rows(
     v: &mut [u64],
 ) -> Batch
     requires { All (Known s.now) at.now × All (Short s.now) at.now × (length s.now < 4294967296) × (a < length at.now) × (length at.now ≤ 2048) × (256 ≤ length v.old) × Zero slots.old × (length at.now ≡ length outs.old) × OutsTo s.now at.now outs.old a }
-    ensures { RowsHold s.now slots.new t.new (take result.len v.new) (λ j z. (nat_le a j && nat_lt j result.next) && among? z (wants_at s.now at.now j)) × (a < result.next) × (result.next ≤ length at.now) × (result.len ≤ length v.old) × OutsTo s.now at.now outs.new result.next }
+    ensures { RowsHold s.now slots.new t.new (take result.len v.new) (λ j z. (nat_le a j && nat_lt j result.next) && among? z (wants_at s.now at.now j)) × (a < result.next) × (result.next ≤ length at.now) × (result.len ≤ length v.old) × OutsTo s.now at.now outs.new result.next × (length slots.new ≡ length slots.old) × (length t.new ≡ length t.old) }
 {
     let mut k: usize = 0;
     for b in a..at.len() {
@@ -461,7 +462,8 @@ pub fn links(
     w: usize,
 )
     requires { All (Known s.now) at.now × All (Short s.now) at.now × (length s.now < 4294967296) × (length at.now ≤ 2048) × (256 ≤ length v.old) × (length at.now * w ≤ length bits.old) × Zero slots.old × Zero bits.old × (length at.now ≡ length outs.old) }
-    ensures { LinksIn w s.now at.now bits.new }
+    ensures is { LinksIn w s.now at.now bits.new }
+    ensures sizes { (length slots.new ≡ length slots.old) × (length t.new ≡ length t.old) }
 {
     let mut a: usize = 0;
     while a < at.len() {

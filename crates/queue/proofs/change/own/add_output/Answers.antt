@@ -4,8 +4,11 @@ use Rattle.std.specs.Prelude.{take, refl}
 use Rattle.std.proofs.Common.{arith}
 use Rattle.queue.proofs.change.own.add_output.Goals as goal
 
+pub seen-requires : goal.seen-requires
+seen-requires c = c.requires.5
+
 pub returns-then-not-seen : goal.returns-then-not-seen
-returns-then-not-seen c = (row_unseen c.args.s.now _ c.args.t.now (bits_in c.args.flags.now) (take c.args.k c.args.v.now) c.args.w c.requires.5 c.seen.ensures.is c.if-not-seen.true, c.requires.3)
+returns-then-not-seen c = (row_unseen c.args.s.now _ c.args.t.now (bits_in c.args.flags.now) (take c.args.k c.args.v.now) c.args.w c.requires.6 c.seen.ensures c.if-not-seen.true, c.requires.3)
 
 pub returns-then-k-v : goal.returns-then-k-v
 returns-then-k-v c = (row_room c.args.s.now _ c.args.t.now (bits_in c.args.flags.now) c.args.v.now c.args.k c.args.w c.if-k-v.true refl, omega arith)

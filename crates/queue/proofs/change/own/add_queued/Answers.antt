@@ -8,7 +8,7 @@ pub loop-left-init : goal.loop-left-init
 loop-left-init c = (queuing _ _ _ _ _ _ c.requires.0.0 c.requires.0.1, omega arith, refl, refl)
 
 pub add_outputs-k-requires : goal.add_outputs-k-requires
-add_outputs-k-requires c = let t = seen false c.loop-left.invariant.0.scan c.loop-left-test.true c.record_at-x.ensures in (c.requires.0, c.requires.1, (omega (arith, c.requires.2.0, c.loop-left.invariant.3), c.requires.2.1), c.loop-left.invariant.1, omega (arith, c.requires.3, c.loop-left.invariant.2), t.is.0.outs_in, t.is.0.outs_all)
+add_outputs-k-requires c = let t = seen false c.loop-left.invariant.0.scan c.loop-left-test.true c.record_at-x.ensures in (c.requires.0, c.requires.1, (omega (arith, c.requires.2.0, c.loop-left.invariant.3), c.requires.2.1), c.loop-left.invariant.1, omega (arith, c.requires.3, c.loop-left.invariant.2), c.requires.4, t.is.0.outs_in, t.is.0.outs_all)
 
 pub after_in-i-requires : goal.after_in-i-requires
 after_in-i-requires c = (seen false c.loop-left.invariant.0.scan c.loop-left-test.true c.record_at-x.ensures).is.1.within

@@ -17,7 +17,7 @@ pub returns-then-not-go-words : goal.returns-then-not-go-words
 returns-then-not-go-words c = (λ e. false_true e, λ e. false_true e)
 
 pub note_all-requires : goal.note_all-requires
-note_all-requires c = let u = noted_room c.args.go ((c.args.total + 63) / 64) (length c.args.flags.now) refl c.if-not-go-words.false in let r = words_room refl u.1 in let e = c.requires.2 u.0 in (c.requires.0, c.requires.1, (omega arith, omega (arith, c.requires.3)))
+note_all-requires c = let u = noted_room c.args.go ((c.args.total + 63) / 64) (length c.args.flags.now) (length c.args.t.now) refl c.if-not-go-words.false in let r = words_room refl u.1 in let e = c.requires.2 u.0 in (c.requires.0, c.requires.1, (omega arith, omega (arith, c.requires.3)), u.2)
 
 pub returns : goal.returns
-returns c = let u = noted_room c.args.go ((c.args.total + 63) / 64) (length c.args.flags.now) refl c.if-not-go-words.false in let r = words_room refl u.1 in let e = c.requires.2 u.0 in (λ _. u.0, λ _. noted (ids_at c.args.ids.now c.args.m) (wanted_of (recs_at (form_c false rec_c) c.args.s.now c.args.recs)) _ _ c.args.t.now _ (omega arith, omega (arith, c.requires.3)) (omega (arith, c.len-size.ensures)) (cleared_flags (wanted_of (recs_at (form_c false rec_c) c.args.s.now c.args.recs)) _ (omega arith) (c.clear.ensures.yes refl)) c.note_all.ensures.0 c.note_all.ensures.1)
+returns c = let u = noted_room c.args.go ((c.args.total + 63) / 64) (length c.args.flags.now) (length c.args.t.now) refl c.if-not-go-words.false in let r = words_room refl u.1 in let e = c.requires.2 u.0 in (λ _. u.0, λ _. noted (ids_at c.args.ids.now c.args.m) (wanted_of (recs_at (form_c false rec_c) c.args.s.now c.args.recs)) _ _ c.args.t.now _ (omega arith, omega (arith, c.requires.3)) u.2 (cleared_flags (wanted_of (recs_at (form_c false rec_c) c.args.s.now c.args.recs)) _ (omega arith) (c.clear.ensures.yes refl)) c.note_all.ensures.0 c.note_all.ensures.1)

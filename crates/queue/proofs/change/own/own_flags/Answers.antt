@@ -18,7 +18,7 @@ pub returns-then-all_set : goal.returns-then-all_set
 returns-then-all_set c = λ _ own h. owned_all c.args.s.now _ c.args.t.now (recs_at (form_c false rec_c) c.args.s.now c.args.recs) own h c.requires.3 c.all_set.ensures c.if-all_set.true
 
 pub add_queued-k-requires : goal.add_queued-k-requires
-add_queued-k-requires c = (c.requires.0, c.requires.1, c.requires.2, pos_of _ c.if-v-eq0.false)
+add_queued-k-requires c = (c.requires.0, c.requires.1, c.requires.2, pos_of _ c.if-v-eq0.false, c.requires.4)
 
 pub returns-then-k-eq0 : goal.returns-then-k-eq0
 returns-then-k-eq0 c = λ _ own h. owned_none c.args.s.now _ c.args.t.now (recs_at (form_c false rec_c) c.args.s.now c.args.recs) own h _ c.if-k-eq0.true c.add_queued-k.ensures.0

@@ -6,10 +6,10 @@ use Rattle.queue.proofs.layout.TurnLaws.{id_fits}
 use Rattle.queue.proofs.check.reads.note_reads.Goals as goal
 
 pub loop-left-init : goal.loop-left-init
-loop-left-init c = (asking c.args.form.hex _ _ _ _ _ _ _ c.requires.7 c.requires.8 c.requires.9, c.requires.3, refl)
+loop-left-init c = (asking c.args.form.hex _ _ _ _ _ _ _ c.requires.8 c.requires.9 c.requires.10, c.requires.3, refl)
 
 pub note_read-requires : goal.note_read-requires
-note_read-requires c = let t = id_bytes (asking_turn c.loop-left.invariant.0 c.loop-left-test.true (rw c.new-frame.ensures at c.id-id.ensures.found)) in (c.requires.0, c.requires.1, c.requires.2, omega (arith, c.loop-left.invariant.1, c.loop-left.invariant.2), omega (arith, c.loop-left.invariant.2, c.requires.4), c.requires.5, c.requires.6, t.1, t.0, c.loop-left.invariant.0.odd, c.requires.10, asking_odd c.loop-left.invariant.0 c.loop-left-test.true (rw c.new-frame.ensures at c.id-id.ensures.found) c.requires.11)
+note_read-requires c = let t = id_bytes (asking_turn c.loop-left.invariant.0 c.loop-left-test.true (rw c.new-frame.ensures at c.id-id.ensures.found)) in (c.requires.0, c.requires.1, c.requires.2, omega (arith, c.loop-left.invariant.1, c.loop-left.invariant.2), omega (arith, c.loop-left.invariant.2, c.requires.4), c.requires.5, c.requires.6, c.requires.7, t.1, t.0, c.loop-left.invariant.0.odd, c.requires.11, asking_odd c.loop-left.invariant.0 c.loop-left-test.true (rw c.new-frame.ensures at c.id-id.ensures.found) c.requires.12)
 
 pub returns-in_err-len : goal.returns-in_err-len
 returns-in_err-len c = rw c.from_residual.ensures c.in_err-len.ensures

@@ -17,7 +17,7 @@ pub returns-then-unread : goal.returns-then-unread
 returns-then-unread c = said (sym (and_both _ _ (sym c.in_ok-apart.ensures.0.is ∙ c.if-not-apart.false) (read_none _ (c.requires.4 c.if-unread.true))))
 
 pub reads_by-requires : goal.reads_by-requires
-reads_by-requires c = (c.requires.0, c.requires.1, c.requires.2, omega (arith, c.requires.3), sym c.in_ok-apart.ensures.0.is ∙ c.if-not-apart.false, c.in_ok-apart.ensures.1 c.if-not-apart.false)
+reads_by-requires c = (c.requires.0, c.requires.1, c.requires.2, omega (arith, c.requires.3), rw c.words.ensures.is c.words.ensures.some, sym c.in_ok-apart.ensures.0.is ∙ c.if-not-apart.false, rw c.words.ensures.is (c.in_ok-apart.ensures.1 c.if-not-apart.false))
 
 pub returns : goal.returns
 returns c = rw (← c.in_ok-apart.ensures.0.is, c.if-not-apart.false) c.reads_by.ensures

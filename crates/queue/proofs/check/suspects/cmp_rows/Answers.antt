@@ -1,16 +1,12 @@
-use Rattle.queue.proofs.check.SuspectsRowLaws.{cmp_both, cmp_first, cmp_last, cmp_none}
-use Rattle.std.specs.Prelude.{length}
-use Rattle.std.proofs.Common.{ap, ◌∙◌}
+use Rattle.queue.proofs.check.SuspectsRowLaws.{cmp_less, cmp_more}
+use Rattle.queue.specs.check.SuspectsAs.{id_r}
+use Rattle.queue.specs.paper.Ids.{cmp_l}
+use Rattle.std.specs.Prelude.{◌≡◌, Bool, false}
+use Rattle.std.proofs.Common.{arith, subst, sym}
 use Rattle.queue.proofs.check.suspects.cmp_rows.Goals as goal
 
-pub returns-then-len-lt32-2 : goal.returns-then-len-lt32-2
-returns-then-len-lt32-2 c = cmp_none c.args.hex c.args.s.now c.args.x c.args.y (c.len.ensures.is ∙ ap length c.new-a.ensures) (c.len-then-len-lt32.ensures.is ∙ ap length c.new-b.ensures) c.if-len-lt32.true c.if-len-lt32-2.true
+pub returns-then-p-q : goal.returns-then-p-q
+returns-then-p-q c = subst (λ (h : Bool). 0 ≡ cmp_l (id_r h c.args.s.now c.args.x) (id_r h c.args.s.now c.args.y)) (sym c.if-not-hex.true) (cmp_less false c.args.s.now c.args.x c.args.y c.new-a.ensures c.new-b.ensures (let k = c.len.ensures.is in omega (arith, k, c.if-len-ge32.true)) (let k = c.len-then-len-ge32.ensures.is in omega (arith, k, c.if-len-ge32-2.true)) c.len.ensures.bytes c.len-then-len-ge32.ensures.bytes c.be-p.ensures.is c.be-q.ensures.is c.if-p-q.true)
 
-pub returns-then-len-lt32 : goal.returns-then-len-lt32
-returns-then-len-lt32 c = cmp_first c.args.hex c.args.s.now c.args.x c.args.y (c.len.ensures.is ∙ ap length c.new-a.ensures) (c.len-then-len-lt32.ensures.is ∙ ap length c.new-b.ensures) c.if-len-lt32.true c.if-len-lt32-2.false
-
-pub returns-then-len-lt32-3 : goal.returns-then-len-lt32-3
-returns-then-len-lt32-3 c = cmp_last c.args.hex c.args.s.now c.args.x c.args.y (c.len.ensures.is ∙ ap length c.new-a.ensures) (c.len-2.ensures.is ∙ ap length c.new-b.ensures) c.if-len-lt32.false c.if-len-lt32-3.true
-
-pub returns : goal.returns
-returns c = cmp_both c.args.hex c.args.s.now c.args.x c.args.y (c.len.ensures.is ∙ ap length c.new-a.ensures) (c.len-2.ensures.is ∙ ap length c.new-b.ensures) c.if-len-lt32.false c.if-len-lt32-3.false (rw (c.new-a.ensures, c.new-b.ensures) at c.compare_at.ensures)
+pub returns-then-q-p : goal.returns-then-q-p
+returns-then-q-p c = subst (λ (h : Bool). 2 ≡ cmp_l (id_r h c.args.s.now c.args.x) (id_r h c.args.s.now c.args.y)) (sym c.if-not-hex.true) (cmp_more false c.args.s.now c.args.x c.args.y c.new-a.ensures c.new-b.ensures (let k = c.len.ensures.is in omega (arith, k, c.if-len-ge32.true)) (let k = c.len-then-len-ge32.ensures.is in omega (arith, k, c.if-len-ge32-2.true)) c.len.ensures.bytes c.len-then-len-ge32.ensures.bytes c.be-p.ensures.is c.be-q.ensures.is c.if-q-p.true)

@@ -23,7 +23,7 @@ keep_row-n-requires c = omega (arith, c.requires.4, c.loop-left.invariant.1, c.l
 
 pub loop-left-preserved : goal.loop-left-preserved
 loop-left-preserved c = let z = kept_sizes c.loop-left.slots c.loop-left.t c.loop-left.v c.hash_all-h.result c.row_at-w.result c.loop-left.n c.keep_row-n.ensures in
-    (rowing_go c.loop-left.v c.loop-left.n c.loop-left.invariant.0 c.row_at-w.result c.loop-left-test.true (rw c.new-frame.ensures at c.id.ensures.found) c.hash_all-h.ensures c.row_at-w.ensures.0 (c.row_at-w.ensures.1 ∙ c.group_mask-g.ensures.0) (omega (arith, c.requires.4, c.loop-left.invariant.1, c.loop-left.invariant.2, c.loop-left-test.true)) c.keep_row-n.ensures, omega (arith, z.0, c.loop-left.invariant.1, c.loop-left-test.true), z.1 ∙ c.loop-left.invariant.2)
+    (rowing_go c.loop-left.v c.loop-left.n c.loop-left.invariant.0 c.row_at-w.result c.loop-left-test.true (rw c.new-frame.ensures at c.id.ensures.found) c.hash_all-h.ensures c.row_at-w.ensures.0 (c.row_at-w.ensures.1 ∙ c.group_mask-g.ensures.0) (omega (arith, c.requires.4, c.loop-left.invariant.1, c.loop-left.invariant.2, c.loop-left-test.true)) c.keep_row-n.ensures, omega (arith, z.2, c.loop-left.invariant.1, c.loop-left-test.true), z.3 ∙ c.loop-left.invariant.2)
 
 pub shape_of-v : goal.shape_of-v
 shape_of-v c = c.loop-left.invariant.2
